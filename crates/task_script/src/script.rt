@@ -1,6 +1,7 @@
 use crate::lists::{Sources, Tasks};
 use crate::plan::Plan;
 use handoff_data::{Line, NoMemory, Shape};
+use std::alloc::{AllocError, AllocFailed};
 
 /// A task of a script.
 #[derive(Drop)]
@@ -41,4 +42,37 @@ pub enum ScriptError {
     Bad(ScriptFault),
     /// Memory was refused.
     NoMemory,
+}
+
+impl From<AllocError> for ScriptError {
+    ghost use Rattle.std.specs.Prelude.{◌≡◌};
+    ghost use Rattle.task_script.specs.declared.script.ScriptError.TheVariants as errors;
+
+    ghost from_gives = { λ _ e. e ≡ errors.NoMemory };
+
+    fn from(_refused: AllocError) -> ScriptError {
+        ScriptError::NoMemory
+    }
+}
+
+impl<T: Drop> From<AllocFailed<T>> for ScriptError {
+    ghost use Rattle.std.specs.Prelude.{◌≡◌};
+    ghost use Rattle.task_script.specs.declared.script.ScriptError.TheVariants as errors;
+
+    ghost from_gives = { λ _ e. e ≡ errors.NoMemory };
+
+    fn from(_refused: AllocFailed<T>) -> ScriptError {
+        ScriptError::NoMemory
+    }
+}
+
+impl From<NoMemory> for ScriptError {
+    ghost use Rattle.std.specs.Prelude.{◌≡◌};
+    ghost use Rattle.task_script.specs.declared.script.ScriptError.TheVariants as errors;
+
+    ghost from_gives = { λ _ e. e ≡ errors.NoMemory };
+
+    fn from(_refused: NoMemory) -> ScriptError {
+        ScriptError::NoMemory
+    }
 }
