@@ -1,2 +1,5 @@
+pub mod History
 pub mod Line
+pub mod Mask
 pub mod Shape
+pub mod State
