@@ -1,5 +1,5 @@
 -- What a read from a place in a list takes.
-use Rattle.std.proofs.Common.{◌≡◌, ℕ, ◌+◌, ◌<◌, ◌≤◌, List, [], ◌++◌, length, take, drop, min, sym, ◌∙◌, arith, length-drop}
+use Rattle.std.proofs.Common.{◌≡◌, ℕ, ◌+◌, ◌<◌, List, [], ◌++◌, length, take, drop, min, sym, arith, length-drop}
 use Rattle.std.proofs.lemmas.List.{take-append-drop, drop-drop, drop_all}
 
 -- the front that was copied, and what is left, are what there was

@@ -3,7 +3,7 @@ use Rattle.std.proofs.Common.{◌≡◌, ℕ, ◌+◌, ◌-◌, ◌≤◌, List,
 use Rattle.std.specs.Prelude.{Option, Some, None, Result, Ok, Err, OnErr}
 use Rattle.std.proofs.lemmas.List.{append-nil, take-append-drop}
 use Rattle.std.proofs.Math.Seq.{take-append_seam}
-use Rattle.std.specs.Io.KnownBytes.{Appends, Consumes, Keeps, IsAtEnd}
+use Rattle.std.specs.Io.KnownBytes.{Appends, Consumes, Keeps}
 use Rattle.wk_run.specs.Input.{TakesSome, WritesPart}
 
 pub on_err : {T E P : Type 0} (r : Result T E) → P → OnErr r P
@@ -53,7 +53,7 @@ pub written-more : (a b c : Option (List ℕ)) (bytes rest : List ℕ) (n : ℕ)
 written-more a b c bytes rest n w more = record {
   done = w.done ++ take n rest;
   whole = w.whole ∙ ap (λ z. w.done ++ z) (sym (take-append-drop n rest)) ∙ sym (append_assoc w.done (take n rest) (drop n rest));
-  appended = appends-more a b c w.done (take n rest) w.appended more
+  appended = appends-more a b c w.done (take n rest) w.appended more;
 }
 
 no_rest : (rest : List ℕ) → length rest ≡ 0 → rest ≡ []
@@ -78,5 +78,5 @@ written-part a b c bytes rest w kept =
 pub reads-more : (limit n : ℕ) (a b c : Option (List ℕ)) (xs zs : List ℕ) → Consumes a b xs → TakesSome b c xs zs n → n ≤ limit + 1 - length xs → length xs ≤ limit → Consumes a c zs × (length zs ≤ limit + 1)
 reads-more limit n a b c xs zs so_far more fits within = (
   consumes-more a b c xs more.some zs more.added so_far more.taken,
-  rw (more.added, length-append xs more.some, more.counted) (omega arith)
+  rw (more.added, length-append xs more.some, more.counted) (omega arith),
 )

@@ -1,11 +1,10 @@
 -- What a script that the source tells rules out.
-use Rattle.std.proofs.Common.{◌≡◌, ℕ, ◌+◌, ◌≤◌, ◌<◌, List, [], ◌++◌, length, refl, sym, ap, subst, ◌∙◌, arith, length-append}
+use Rattle.std.proofs.Common.{◌≡◌, ℕ, ◌≤◌, List, [], ◌++◌, length, refl, ap, subst, ◌∙◌, arith, length-append}
 use Rattle.std.specs.Prelude.{Option, Some, None, ◌⊎◌}
 use Rattle.std.proofs.Common.{inl, inr}
 use Rattle.std.proofs.lemmas.List.{append-nil}
-use Rattle.std.specs.Io.KnownBytes.{Consumes, IsAtEnd}
 use Rattle.task_script.specs.declared.script.Script.{Script}
-use Rattle.task_script.specs.Script.{IsScript, NotScript}
+use Rattle.task_script.specs.Script.{IsScript}
 use Rattle.wk_run.specs.Input.{ReadsInput}
 use Rattle.wk_run.specs.Run.{ReadsNoScript}
 use Rattle.wk_run.specs.declared.status.Status.{Status}

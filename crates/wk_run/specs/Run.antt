@@ -1,5 +1,5 @@
 -- What a run reads and writes.
-use Rattle.std.specs.Prelude.{◌≡◌, ℕ, ◌+◌, ◌-◌, ◌≤◌, List, [], length, map, slice_index_or, Option}
+use Rattle.std.specs.Prelude.{ℕ, ◌-◌, List, [], length, map, slice_index_or, Option}
 use Rattle.std.specs.Io.KnownBytes.{Appends, Consumes, IsAtEnd}
 use Rattle.task_script.specs.declared.script.Script.{Script}
 use Rattle.task_script.specs.declared.script.TaskDef.{TaskDef}

@@ -6,11 +6,7 @@ use handoff_data::{Line, Lines, NoMemory};
 use std::alloc::Global;
 
 // The lines of a task, each after the task's name. A line is let go as soon as it is written.
-pub(crate) fn named_report(
-    alloc: Global,
-    name: &Line,
-    lines: Lines,
-) -> Result<Vec<u8>, NoMemory>
+pub(crate) fn named_report(alloc: Global, name: &Line, lines: Lines) -> Result<Vec<u8>, NoMemory>
     ensures { IfOk result (λ text. text.items ≡ named_lines name.now lines) }
 {
     let mut text = Vec::new(alloc);

@@ -1,8 +1,7 @@
 -- The refusal of the reader is passed on as it is.
-use Rattle.std.proofs.Common.{◌≡◌, ℕ, Err, ap}
+use Rattle.std.proofs.Common.{ap}
 use Rattle.std.proofs.lemmas.Result.{err_from_is_err_and}
 use Rattle.task_script.specs.declared.script.ScriptFault.{ScriptFault}
-use Rattle.task_script.specs.declared.script.ScriptError.TheVariants.{Bad}
 use Rattle.wk_run.proofs.command.script_report.Goals as goal
 
 pub returns-in_err-script-clause-bad : goal.returns-in_err-script-clause-bad

@@ -1,5 +1,5 @@
 -- What was read so far, and what the last call added.
-use Rattle.std.proofs.Common.{◌≡◌, ◌+◌, ◌-◌, ◌≤◌, length, refl, ◌∙◌, arith}
+use Rattle.std.proofs.Common.{◌+◌, ◌-◌, ◌≤◌, length, refl, ◌∙◌, arith}
 use Rattle.wk_run.proofs.Known.{consumes-none, reads-more}
 use Rattle.wk_run.proofs.transfer.read_input.Goals as goal
 
@@ -8,7 +8,7 @@ loop-read-init g c = record {
   taken = consumes-none _ _ c.new-read.ensures.items;
   bounded = rw c.new-read.ensures.items (omega arith);
   quiet = refl;
-  piece = c.in_ok-piece.ensures.len
+  piece = c.in_ok-piece.ensures.len;
 }
 
 pub returns-then-count-eq0-clause-read : goal.returns-then-count-eq0-clause-read
@@ -19,7 +19,7 @@ returns-then-count-eq0-clause-read g c =
     record {
       taken = more.0;
       bounded = more.1;
-      to_end = λ _. c.in_ok-count.ensures.end c.if-count-eq0.true
+      to_end = λ _. c.in_ok-count.ensures.end c.if-count-eq0.true;
     }
 
 pub loop-read-preserved : goal.loop-read-preserved
@@ -31,12 +31,12 @@ loop-read-preserved g c =
       taken = more.0;
       bounded = more.1;
       quiet = c.in_ok-count.ensures.quiet ∙ c.loop-read.invariant.quiet;
-      piece = c.loop-read.invariant.piece
+      piece = c.loop-read.invariant.piece;
     }
 
 pub returns-clause-read : goal.returns-clause-read
 returns-clause-read g c = record {
   taken = c.loop-read.invariant.taken;
   bounded = c.loop-read.invariant.bounded;
-  to_end = λ within. absurd (omega (arith, c.loop-read.read.ok.0))
+  to_end = λ within. absurd (omega (arith, c.loop-read.read.ok.0));
 }

@@ -7,7 +7,7 @@ invariant-loop-read g l = record {
   taken : Consumes (g.S.Source.remaining l.fn.input) (g.S.Source.remaining l.input) l.read.items;
   bounded : length l.read.items ≤ l.limit + 1;
   quiet : g.S.Source.faults l.input ≡ g.S.Source.faults l.fn.input;
-  piece : vec_len l.piece ≡ 65536
+  piece : vec_len l.piece ≡ 65536;
 }
 
 abbrev pub decreases-loop-read : goal.decreases-loop-read

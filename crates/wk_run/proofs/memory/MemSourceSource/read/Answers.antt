@@ -1,5 +1,5 @@
 -- The part that was copied, and the part that is left, make up what there was.
-use Rattle.std.proofs.Common.{◌≡◌, ◌+◌, ◌<◌, ◌++◌, length, take, drop, min, ◌∙◌, sym, ap, rules, arith}
+use Rattle.std.proofs.Common.{◌≡◌, length, take, drop, min, ◌∙◌, sym, ap}
 use Rattle.wk_run.specs.Memory.{End}
 use Rattle.wk_run.proofs.Fronts.{front-rest, front-end}
 use Rattle.wk_run.proofs.memory.MemSourceSource.read.Goals as goal
