@@ -1,8 +1,7 @@
 -- The tasks of a script are a chain, and few.
-use Rattle.std.proofs.Common.{◌≡◌, ℕ, zero, suc, ◌+◌, ◌-◌, ◌<◌, ◌≤◌, List, [], ◌∷◌, ◌++◌, length, map, Option, Some, None, refl, sym, ap, subst, ◌∙◌, add-one, lit≤, arith}
+use Rattle.std.proofs.Common.{◌≡◌, ℕ, zero, suc, ◌+◌, ◌≤◌, List, [], ◌∷◌, ◌++◌, length, map, Option, Some, None, refl, sym, ap, subst, ◌∙◌, add-one, lit≤, arith}
 use Rattle.std.specs.List.{filter_map}
 use Rattle.std.proofs.lemmas.List.{append-nil, length_push}
-use Rattle.task_script.specs.declared.script.TaskDef.{TaskDef}
 use Rattle.task_script.specs.declared.script.Script.{Script}
 use Rattle.task_script.specs.Chain.{IsLink, IsChainFrom, IsChain}
 use Rattle.task_script.specs.Lines.{input_lines}

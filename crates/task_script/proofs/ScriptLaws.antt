@@ -1,9 +1,9 @@
 -- What the reader holds is what the lines so far say.
-use Rattle.std.proofs.Common.{◌≡◌, ◌≢◌, ℕ, zero, suc, ◌+◌, ◌-◌, ◌<◌, ◌≤◌, ◌==◌, Bool, true, false, cond, ◌&&◌, List, [], ◌∷◌, ◌++◌, length, map, Option, Some, None, Result, Err, refl, sym, ap, subst, ◌∙◌, append_assoc, arith}
+use Rattle.std.proofs.Common.{◌≡◌, ℕ, zero, suc, ◌+◌, ◌<◌, ◌≤◌, ◌==◌, Bool, true, false, cond, ◌&&◌, List, [], ◌∷◌, ◌++◌, length, map, Option, Some, None, Result, Err, refl, sym, ap, subst, ◌∙◌, append_assoc, arith}
 use Rattle.std.specs.List.{last_or, filter_map}
 use Rattle.std.specs.Option.{is_some, is_none, option_and_then, option_map, option_to_list}
-use Rattle.std.proofs.lemmas.Bool.{and_parts, ltb-true, eqb-true, eqb-false, lt-ltb, le-leb, leb-true, eq-eqb, ne_eqb, and_from, not-true, not_from_false, false≢true, true≢false}
-use Rattle.std.proofs.lemmas.List.{append-nil, map_push, length_push}
+use Rattle.std.proofs.lemmas.Bool.{and_parts, ltb-true, eqb-true, eqb-false, lt-ltb, le-leb, leb-true, ne_eqb, and_from, not-true, not_from_false, false≢true}
+use Rattle.std.proofs.lemmas.List.{append-nil, map_push}
 use Rattle.task_script.specs.declared.reader.Stage.{Stage}
 use Rattle.task_script.specs.declared.reader.Stage.TheVariants.{Start, Inside, Ended}
 use Rattle.task_script.specs.declared.reader.Source.{Source}

@@ -1,5 +1,5 @@
 -- What the reader holds, and what one line does to it. `Script` says what a script is; the two are shown to agree.
-use Rattle.std.specs.Prelude.{◌≡◌, ℕ, ◌+◌, ◌<◌, Bool, true, false, ◌&&◌, not, ◌==◌, ◌-◌, nat_lt, nat_le, if◌then◌else◌, List, [], ◌∷◌, ◌++◌, length, map, slice_index, Option, Some, None, Result, Ok, Err, ⊤}
+use Rattle.std.specs.Prelude.{◌≡◌, ℕ, ◌+◌, Bool, true, false, ◌&&◌, not, ◌==◌, ◌-◌, nat_lt, nat_le, if◌then◌else◌, List, [], ◌∷◌, ◌++◌, length, map, slice_index, Option, Some, None, Result, Ok, Err, ⊤}
 use Rattle.std.specs.Option.{is_none, option_map, option_to_list, option_and_then}
 use Rattle.task_script.specs.declared.reader.Stage.{Stage}
 use Rattle.task_script.specs.declared.reader.Stage.TheVariants.{Start, Inside, Ended}

@@ -1,4 +1,4 @@
-use Rattle.std.proofs.Common.{◌≡◌, ◌∙◌, ◌∷◌, List, ℕ, sym, ap}
+use Rattle.std.proofs.Common.{◌∙◌, ◌∷◌, List, ℕ, sym, ap}
 use Rattle.task_script.specs.Forms.{worded_form}
 use Rattle.task_script.proofs.LineLaws.{six_words, then_word, then_some}
 use Rattle.task_script.proofs.form.worded_form.Goals as goal

@@ -1,10 +1,10 @@
-use Rattle.std.proofs.Common.{◌≡◌, ◌≤◌, ◌<◌, Err, length, sym, ap, ◌∙◌, arith, rules}
+use Rattle.std.proofs.Common.{◌≡◌, length, ap, arith, rules}
 use Rattle.std.proofs.lemmas.Result.{err_from_is_err_and}
 use Rattle.task_script.specs.declared.reader.Stage.TheVariants.{Ended}
 use Rattle.task_script.specs.declared.script.ScriptError.TheVariants as errors
 use Rattle.task_script.specs.Lines.{input_lines}
 use Rattle.task_script.specs.Reading.{state_of, start, run}
-use Rattle.task_script.proofs.ScriptLaws.{is_script, one_script, not_script, not_ended, not_within, run_reads, refused, fault_is}
+use Rattle.task_script.proofs.ScriptLaws.{is_script, one_script, not_script, not_ended, run_reads, refused, fault_is}
 use Rattle.task_script.proofs.ChainLaws.{is_chain, few_tasks}
 use Rattle.task_script.proofs.reader.read_script.Goals as goal
 
