@@ -1,5 +1,5 @@
 -- Which processors a mask has.
-use Rattle.std.specs.Prelude.{◌≡◌, ℕ}
+use Rattle.std.specs.Prelude.{◌≡◌, ◌^◌, ℕ, bit_or}
 use Rattle.std.specs.Int.{bit_at}
 use Rattle.handoff_data.specs.declared.mask.CpuMask.{CpuMask}
 
@@ -10,3 +10,11 @@ pub record HasCpu (mask : CpuMask) (c : ℕ) : Type 0 where
 -- no processor is in the set
 abbrev pub IsEmpty : CpuMask → Type 0
 IsEmpty mask = (c : ℕ) → ¬ HasCpu mask c
+
+-- the set of no processor
+abbrev pub no_cpus : CpuMask
+no_cpus = record { bits = 0 }
+
+-- the set with this processor added
+abbrev pub mask_with : CpuMask → ℕ → CpuMask
+mask_with mask c = record { bits = bit_or mask.bits (2 ^ c) }

@@ -1,7 +1,7 @@
 //! A set of processors.
 
 ghost use Rattle.std.specs.Prelude.{◌≡◌, ◌<◌, ◌≤◌, ◌⊎◌, ◌↔◌, ℕ, IsTrue, IfSome, IsNone};
-ghost use Rattle.handoff_data.specs.Mask.{HasCpu, IsEmpty};
+ghost use Rattle.handoff_data.specs.Mask.{HasCpu, IsEmpty, mask_with, no_cpus};
 
 use crate::numbers::CpuNo;
 
@@ -18,6 +18,14 @@ impl CpuMask {
         ensures { (k : ℕ) → HasCpu result k ↔ (k ≡ c) }
     {
         CpuMask { bits: 1 << c }
+    }
+
+    /// The set of no processor.
+    pub fn none() -> CpuMask
+        ensures members { IsEmpty result }
+        ensures exact { result ≡ no_cpus }
+    {
+        CpuMask { bits: 0 }
     }
 
     /// The set of the processors below `cpus`.
@@ -63,7 +71,8 @@ impl CpuMask {
     /// The set with this processor added.
     pub fn with(&self, c: CpuNo) -> CpuMask
         requires { c < 16 }
-        ensures { (k : ℕ) → HasCpu result k ↔ (HasCpu self.now k ⊎ (k ≡ c)) }
+        ensures members { (k : ℕ) → HasCpu result k ↔ (HasCpu self.now k ⊎ (k ≡ c)) }
+        ensures exact { result ≡ mask_with self.now c }
     {
         CpuMask {
             bits: self.bits | 1 << c,

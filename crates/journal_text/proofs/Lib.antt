@@ -1,0 +1,4 @@
+pub mod FieldLaws
+pub mod Masks
+pub mod Parts
+pub mod Texts

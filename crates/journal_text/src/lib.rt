@@ -1,0 +1,11 @@
+//! The text of journals: written in one way, and read with some freedom.
+#![tactic(auto)]
+
+mod draft;
+mod entries;
+mod fields;
+mod heading;
+mod keyword;
+mod reading;
+
+pub use reading::{JournalError, TEXT_LIMIT, read_journal};
