@@ -1,7 +1,7 @@
 //! A set of processors.
 
 ghost use Rattle.std.specs.Prelude.{◌≡◌, ◌<◌, ◌≤◌, ◌⊎◌, ◌↔◌, ℕ, IsTrue, IfSome, IsNone};
-ghost use Rattle.handoff_data.specs.Mask.{HasCpu, IsEmpty, mask_with, no_cpus};
+ghost use Rattle.handoff_data.specs.Mask.{HasCpu, IsEmpty, has_cpu, mask_with, no_cpus};
 
 use crate::numbers::CpuNo;
 
@@ -40,7 +40,8 @@ impl CpuMask {
 
     /// Whether the processor is in the set.
     pub fn contains(&self, c: CpuNo) -> bool
-        ensures { IsTrue result ↔ HasCpu self.now c }
+        ensures member { IsTrue result ↔ HasCpu self.now c }
+        ensures value { result ≡ has_cpu self.now c }
     {
         let bits = self.bits;
         c < 128 && (bits >> c) & 1 == 1

@@ -1,3 +1,4 @@
+pub mod Digits
 pub mod FieldLaws
 pub mod Masks
 pub mod Parts

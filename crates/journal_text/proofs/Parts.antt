@@ -1,5 +1,5 @@
 -- The parts of a list round each place that passes a test, one at a time.
-use Rattle.std.proofs.Common.{◌≡◌, ℕ, zero, suc, ◌+◌, ◌<◌, ◌≤◌, Bool, List, [], ◌∷◌, length, take, drop, ap, sym, ◌∙◌, refl, arith, inl, inr, length-drop}
+use Rattle.std.proofs.Common.{◌≡◌, ℕ, zero, suc, ◌+◌, ◌≤◌, Bool, List, [], ◌∷◌, length, take, drop, ap, sym, ◌∙◌, refl, arith, inl, inr, length-drop}
 use Rattle.std.specs.List.{slice_split, position_or_len}
 use Rattle.std.proofs.lemmas.Bool.{cases_lt}
 use Rattle.std.proofs.lemmas.List.Sums.{fails_before_first}
@@ -29,16 +29,16 @@ tail_of (x ∷ rest) (suc n) b more e =
 pub parts : (p : ℕ → Bool) (rest : List ℕ) → position_or_len p rest ≤ length rest → Parts p rest
 parts p rest within =
     elim (cases_lt (position_or_len p rest) (length rest)) [
-      inl there ↦ record {
+      | inl there ↦ record {
         others = slice_split p (drop (position_or_len p rest + 1) rest);
         is = slice_split_first p rest 0 there;
         last = λ none. absurd (omega (arith, length-drop (position_or_len p rest) rest, none));
         more = λ b more e. ap (slice_split p) (tail_of rest (position_or_len p rest) b more e);
       }
-    | inr past ↦ record {
+      | inr past ↦ record {
         others = [];
         is = slice_split_none p rest (λ k d less. fails_before_first p rest k d (omega arith))
-          ∙ ap (λ front. front ∷ []) (sym (take-all rest (position_or_len p rest) past));
+            ∙ ap (λ front. front ∷ []) (sym (take-all rest (position_or_len p rest) past));
         last = λ _. refl;
         more = λ b more e. absurd (omega (arith, length-drop (position_or_len p rest) rest, ap length e));
       }

@@ -1,12 +1,12 @@
 -- Texts, a line at a time.
-use Rattle.std.proofs.Common.{◌≡◌, ◌≢◌, ◌<◌, Bool, le-leb, refl, arith, ◌==◌, ℕ, ◌+◌, ◌-◌, ◌≤◌, List, [], ◌∷◌, Option, Some, None, Result, Err, length, take, drop, true, false, nat_le, ap, sym, ◌∙◌, if◌then◌else◌}
+use Rattle.std.proofs.Common.{◌≡◌, ◌≢◌, ◌<◌, Bool, le-leb, refl, arith, ℕ, ◌+◌, ◌-◌, ◌≤◌, List, [], ◌∷◌, Option, Some, None, Result, Err, length, take, drop, true, false, nat_le, ap, sym, ◌∙◌, if◌then◌else◌}
 use Rattle.std.specs.List.{slice_split, position_or_len}
 use Rattle.std.proofs.lemmas.Bool.Decides.{nat_tests}
 use Rattle.std.proofs.lemmas.List.Splits.{length-slice_split}
 use Rattle.handoff_data.specs.History.{History}
 use Rattle.journal_text.specs.Lines.{Progress, line_after, Takes}
 use Rattle.journal_text.specs.Text.{is_feed, last_of, lines_from, parts_from, then_on}
-use Rattle.journal_text.proofs.Parts.{parts, Parts}
+use Rattle.journal_text.proofs.Parts.{parts}
 
 -- the text that is left is its first line and the others
 pub parts_last : (line room : ℕ) (p : Progress) (rest text others : List ℕ) → position_or_len is_feed rest ≤ length rest
@@ -25,8 +25,8 @@ on_with line room p text more =
 
 on_parts : (line room : ℕ) (p : Progress) (text : List ℕ) (xs : List (List ℕ)) → xs ≢ []
     → lines_from line room p text xs
-      ≡ (if nat_le room (length text) then Err line
-        else then_on line (line_after p text) (λ q. parts_from (line + 1) (room - (length text + 1)) q xs))
+    ≡ (if nat_le room (length text) then Err line
+    else then_on line (line_after p text) (λ q. parts_from (line + 1) (room - (length text + 1)) q xs))
 on_parts line room p text [] some = absurd (some refl)
 on_parts line room p text (next ∷ texts) some = refl
 

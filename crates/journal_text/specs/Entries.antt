@@ -1,5 +1,5 @@
 -- What a line says of an entry.
-use Rattle.std.specs.Prelude.{◌==◌, ◌^◌, ℕ, Bool, true, false, List, [], ◌∷◌, Option, Some, None, if◌then◌else◌, nat_lt, bit_or, take, drop, codes}
+use Rattle.std.specs.Prelude.{◌==◌, ◌^◌, ℕ, Bool, true, false, List, [], ◌∷◌, Option, Some, None, if◌then◌else◌, nat_lt, codes}
 use Rattle.std.specs.List.{slice_split}
 use Rattle.std.specs.Str.{bytes_eq}
 use Rattle.handoff_data.specs.declared.entry.Entry.{Entry}
@@ -8,8 +8,7 @@ use Rattle.handoff_data.specs.declared.mask.CpuMask.{CpuMask}
 use Rattle.handoff_data.specs.Mask.{mask_with, no_cpus}
 use Rattle.journal_text.specs.declared.keyword.Keyword.{Keyword}
 use Rattle.journal_text.specs.declared.keyword.Keyword.TheVariants as keyword
-use Rattle.journal_text.specs.Fields.{◌>>=◌, word_len, field_at, number_of, u32_at, u64_at, two_of, three_of, ended}
-use Rattle.journal_text.specs.Keywords.{keyword_of}
+use Rattle.journal_text.specs.Fields.{◌>>=◌, field_at, number_of, u32_at, u64_at, two_of, three_of, ended}
 
 abbrev pub is_comma : ℕ → Bool
 is_comma b = b == 44

@@ -3,4 +3,5 @@ pub mod Fields
 pub mod Headings
 pub mod Keywords
 pub mod Lines
+pub mod Spelling
 pub mod Text

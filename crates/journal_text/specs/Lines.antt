@@ -1,5 +1,5 @@
 -- What one line adds to what a text has said so far.
-use Rattle.std.specs.Prelude.{◌==◌, ◌+◌, ◌-◌, ◌&&◌, ◌++◌, ◌≡◌, ℕ, Bool, true, false, List, [], ◌∷◌, Option, Some, None, length, take, drop, nat_lt, if◌then◌else◌, MatchBool, map}
+use Rattle.std.specs.Prelude.{◌==◌, ◌+◌, ◌-◌, ◌&&◌, ◌++◌, ◌≡◌, ℕ, Bool, false, List, [], ◌∷◌, Option, Some, None, length, take, drop, nat_lt, if◌then◌else◌, MatchBool}
 use Rattle.std.specs.List.{suffix_len}
 use Rattle.handoff_data.specs.declared.entry.Entry.{Entry}
 use Rattle.journal_text.specs.declared.draft.Draft.{Draft}
@@ -9,7 +9,7 @@ use Rattle.journal_text.specs.declared.heading.Stage.TheVariants as stage
 use Rattle.journal_text.specs.declared.keyword.Keyword.{Keyword}
 use Rattle.journal_text.specs.declared.keyword.Keyword.TheVariants as keyword
 use Rattle.journal_text.specs.Entries.{entry_after}
-use Rattle.journal_text.specs.Fields.{◌>>=◌, gap_len, word_len, one_of, ended}
+use Rattle.journal_text.specs.Fields.{◌>>=◌, gap_len, word_len, one_of}
 use Rattle.journal_text.specs.Headings.{heading_after}
 use Rattle.journal_text.specs.Keywords.{keyword_of}
 

@@ -53,34 +53,59 @@ pub fn next_heading(heading: Heading, word: &[u8], rest: &[u8]) -> Option<Headin
             if number_behind("journal", word, rest)? != 1 {
                 return None;
             }
-            Some(Heading { stage: Stage::Cpus, cpus, tasks, seats })
+            Some(Heading {
+                stage: Stage::Cpus,
+                cpus,
+                tasks,
+                seats,
+            })
         }
         Stage::Cpus => {
             let n = number_behind("cpus", word, rest)?;
             if n < 1 || n > 16 {
                 return None;
             }
-            Some(Heading { stage: Stage::Tasks, cpus: n as u32, tasks, seats })
+            Some(Heading {
+                stage: Stage::Tasks,
+                cpus: n as u32,
+                tasks,
+                seats,
+            })
         }
         Stage::Tasks => {
             let n = number_behind("tasks", word, rest)?;
             if n > 200 {
                 return None;
             }
-            Some(Heading { stage: Stage::Seats, cpus, tasks: n as u32, seats })
+            Some(Heading {
+                stage: Stage::Seats,
+                cpus,
+                tasks: n as u32,
+                seats,
+            })
         }
         Stage::Seats => {
             let n = number_behind("seats", word, rest)?;
             if n < u64::from(cpus) || n > u64::from(cpus) + 4 || n > 20 {
                 return None;
             }
-            Some(Heading { stage: Stage::FirstSeat, cpus, tasks, seats: n as u32 })
+            Some(Heading {
+                stage: Stage::FirstSeat,
+                cpus,
+                tasks,
+                seats: n as u32,
+            })
         }
         Stage::FirstSeat => {
             if number_behind("seat", word, rest)? != 0 {
                 return None;
             }
-            Some(Heading { stage: Stage::Entries, cpus, tasks, seats })
+            Some(Heading {
+                stage: Stage::Entries,
+                cpus,
+                tasks,
+                seats,
+            })
         }
         Stage::Entries | Stage::Done => None,
     }

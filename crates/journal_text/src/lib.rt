@@ -7,5 +7,7 @@ mod fields;
 mod heading;
 mod keyword;
 mod reading;
+mod writing;
 
 pub use reading::{JournalError, TEXT_LIMIT, read_journal};
+pub use writing::write_journal;

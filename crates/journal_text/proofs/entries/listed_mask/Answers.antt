@@ -1,4 +1,4 @@
-use Rattle.std.proofs.Common.{◌≡◌, ℕ, ◌≤◌, length, take, drop, ap, sym, ◌∙◌, Some, None, subst, arith}
+use Rattle.std.proofs.Common.{◌≤◌, length, take, drop, ap, sym, ◌∙◌, Some, arith}
 use Rattle.std.specs.List.{slice_split}
 use Rattle.handoff_data.specs.declared.mask.CpuMask.{CpuMask}
 use Rattle.journal_text.specs.Entries.{is_comma, mask_from, listed_mask_of}

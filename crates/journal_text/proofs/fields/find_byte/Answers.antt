@@ -1,4 +1,4 @@
-use Rattle.std.proofs.Common.{ℕ, nat_eq, sym, arith, eq-eqb}
+use Rattle.std.proofs.Common.{ℕ, nat_eq, sym, arith}
 use Rattle.std.proofs.lemmas.List.Sums.{position_or_len_is}
 use Rattle.journal_text.proofs.fields.find_byte.Goals as goal
 

@@ -1,4 +1,4 @@
-use Rattle.std.proofs.Common.{◌≡◌, ℕ, ◌<◌, get_or, true, false}
+use Rattle.std.proofs.Common.{◌≡◌, ℕ, ◌<◌, get_or, true}
 use Rattle.journal_text.specs.Fields.{is_blank}
 use Rattle.journal_text.proofs.fields.gap_length.Given as goal
 

@@ -1,9 +1,9 @@
-use Rattle.std.proofs.Common.{◌≡◌, ℕ, ◌≤◌, length, take, drop, ap, sym, ◌∙◌, Ok, Err, Result, subst, arith, MatchResult}
+use Rattle.std.proofs.Common.{◌≡◌, ℕ, ◌≤◌, length, take, drop, ap, sym, ◌∙◌, Ok, Result, subst, arith, MatchResult}
 use Rattle.std.specs.List.{slice_split, position_or_len}
 use Rattle.handoff_data.specs.History.{History}
 use Rattle.journal_text.specs.Lines.{progress}
-use Rattle.journal_text.specs.Text.{is_feed, byte_limit, parts_from, reading, last_of, IsFault}
-use Rattle.journal_text.proofs.Texts.{parts_last, parts_more, on_with, on_full, on_refused, on_taken, was_taken, was_refused}
+use Rattle.journal_text.specs.Text.{is_feed, byte_limit, parts_from, reading, IsFault}
+use Rattle.journal_text.proofs.Texts.{parts_last, parts_more, on_full, on_refused, on_taken, was_taken, was_refused}
 use Rattle.journal_text.proofs.reading.read_journal.Goals as goal
 
 pub lines-init : goal.lines-init
@@ -41,7 +41,7 @@ returns-then-not-branch c =
     sym c.lines.invariant.0
     ∙ parts_more c.lines.line c.lines.room (progress c.lines.draft) rest text c.split_at.result.1.now c.in-Some._feed.now c.in-Some.more.now within front back c.in-Some.ensures.cases.0
     ∙ on_refused c.lines.line c.lines.room (progress c.lines.draft) text c.in-Some.more.now
-      (was_refused _ _ _ c.if-not-branch.true c.in_ok-take_line.ensures)
+    (was_refused _ _ _ c.if-not-branch.true c.in_ok-take_line.ensures)
 
 pub lines-preserved : goal.lines-preserved
 lines-preserved c =
@@ -49,10 +49,9 @@ lines-preserved c =
     let text = c.split_at.result.0.now in
     let within : position_or_len is_feed rest ≤ length rest = omega (arith, c.find_byte.ensures.value, c.find_byte.ensures.within) in
     let front = c.split_at.ensures.front ∙ ap (λ n. take n rest) c.find_byte.ensures.value in
-    let back = c.split_at.ensures.back ∙ ap (λ n. drop n rest) c.find_byte.ensures.value in
-    (
+    let back = c.split_at.ensures.back ∙ ap (λ n. drop n rest) c.find_byte.ensures.value in (
       sym (on_taken c.lines.line c.lines.room (progress c.lines.draft) _ text c.in-Some.more.now (omega arith) (was_taken _ _ _ c.if-not-branch.false c.in_ok-take_line.ensures))
-      ∙ sym (parts_more c.lines.line c.lines.room (progress c.lines.draft) rest text c.split_at.result.1.now c.in-Some._feed.now c.in-Some.more.now within front back c.in-Some.ensures.cases.0)
-      ∙ c.lines.invariant.0,
+          ∙ sym (parts_more c.lines.line c.lines.room (progress c.lines.draft) rest text c.split_at.result.1.now c.in-Some._feed.now c.in-Some.more.now within front back c.in-Some.ensures.cases.0)
+          ∙ c.lines.invariant.0,
       omega arith,
     )
