@@ -1,7 +1,7 @@
 //! A set of processors.
 
 ghost use Rattle.std.specs.Prelude.{◌≡◌, ◌<◌, ◌≤◌, ◌⊎◌, ◌↔◌, ℕ, IsTrue, IfSome, IsNone};
-ghost use Rattle.handoff_data.specs.Mask.{HasCpu, IsEmpty};
+ghost use Rattle.handoff_data.specs.Mask.{HasCpu, IsEmpty, has_cpu, mask_with, no_cpus};
 
 use crate::numbers::CpuNo;
 
@@ -20,6 +20,14 @@ impl CpuMask {
         CpuMask { bits: 1 << c }
     }
 
+    /// The set of no processor.
+    pub fn none() -> CpuMask
+        ensures members { IsEmpty result }
+        ensures exact { result ≡ no_cpus }
+    {
+        CpuMask { bits: 0 }
+    }
+
     /// The set of the processors below `cpus`.
     pub fn all(cpus: u32) -> CpuMask
         requires { cpus ≤ 16 }
@@ -32,7 +40,8 @@ impl CpuMask {
 
     /// Whether the processor is in the set.
     pub fn contains(&self, c: CpuNo) -> bool
-        ensures { IsTrue result ↔ HasCpu self.now c }
+        ensures member { IsTrue result ↔ HasCpu self.now c }
+        ensures value { result ≡ has_cpu self.now c }
     {
         let bits = self.bits;
         c < 128 && (bits >> c) & 1 == 1
@@ -63,7 +72,8 @@ impl CpuMask {
     /// The set with this processor added.
     pub fn with(&self, c: CpuNo) -> CpuMask
         requires { c < 16 }
-        ensures { (k : ℕ) → HasCpu result k ↔ (HasCpu self.now k ⊎ (k ≡ c)) }
+        ensures members { (k : ℕ) → HasCpu result k ↔ (HasCpu self.now k ⊎ (k ≡ c)) }
+        ensures exact { result ≡ mask_with self.now c }
     {
         CpuMask {
             bits: self.bits | 1 << c,

@@ -1,0 +1,5 @@
+pub mod Digits
+pub mod FieldLaws
+pub mod Masks
+pub mod Parts
+pub mod Texts

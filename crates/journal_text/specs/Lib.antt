@@ -1,0 +1,7 @@
+pub mod Entries
+pub mod Fields
+pub mod Headings
+pub mod Keywords
+pub mod Lines
+pub mod Spelling
+pub mod Text

@@ -1,0 +1,13 @@
+//! The text of journals: written in one way, and read with some freedom.
+#![tactic(auto)]
+
+mod draft;
+mod entries;
+mod fields;
+mod heading;
+mod keyword;
+mod reading;
+mod writing;
+
+pub use reading::{JournalError, TEXT_LIMIT, read_journal};
+pub use writing::write_journal;
