@@ -1,5 +1,6 @@
 #!/bin/sh
-# What the built program prints to standard error and with what status it ends, for each answer that a command can show.
+# What the built program prints to standard error and with what status it ends, for each answer that a command can show;
+# and the report of each script in examples/.
 # Run it after `rt ci`, which leaves the program in crates/wakerun/out.
 top=$(CDPATH='' cd -- "$(dirname -- "$0")/.." && pwd) || exit 1
 program=$top/crates/wakerun/out/wakerun
@@ -35,6 +36,12 @@ printf 'cpus 1\ntask a nosuch\nend\n' >"$work/bad"
 run "$work/hi" "$work/out" run
 expect 'a script' 0 ''
 printf 'a: hi\n' | cmp -s - "$work/out" || { failed=$((failed + 1)); echo 'a script: wrong report'; }
+
+for script in "$top"/examples/*.wake; do
+    run "$script" "$work/out" run
+    expect "$script" 0 ''
+    cmp -s "${script%.wake}.report" "$work/out" || { failed=$((failed + 1)); echo "$script: wrong report"; }
+done
 
 run "$work/bad" "$work/out" run
 expect 'no script' 1 'wakerun: line 1: 2 UnknownWord'
