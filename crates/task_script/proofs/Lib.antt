@@ -1,4 +1,5 @@
 pub mod LineLaws
-pub mod TaskLaws
+pub mod FormLaws
+pub mod SoFarLaws
 pub mod ScriptLaws
-pub mod ChainLaws
+pub mod ForestLaws

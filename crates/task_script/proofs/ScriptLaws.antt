@@ -1,409 +1,411 @@
--- What the reader holds is what the lines so far say.
-use Rattle.std.proofs.Common.{◌≡◌, ℕ, zero, suc, ◌+◌, ◌<◌, ◌≤◌, ◌==◌, Bool, true, false, cond, ◌&&◌, List, [], ◌∷◌, ◌++◌, length, map, Option, Some, None, Result, Err, refl, sym, ap, subst, ◌∙◌, append_assoc, arith}
-use Rattle.std.specs.List.{last_or, filter_map}
-use Rattle.std.specs.Option.{is_some, is_none, option_and_then, option_map, option_to_list}
-use Rattle.std.proofs.lemmas.Bool.{and_parts, ltb-true, eqb-true, eqb-false, lt-ltb, le-leb, leb-true, ne_eqb, and_from, not-true, not_from_false, false≢true}
-use Rattle.std.proofs.lemmas.List.{append-nil, map_push}
-use Rattle.task_script.specs.declared.reader.Stage.{Stage}
-use Rattle.task_script.specs.declared.reader.Stage.TheVariants.{Start, Inside, Ended}
-use Rattle.task_script.specs.declared.reader.Source.{Source}
+-- What the reader answers is a script or the first fault.
+use Rattle.std.proofs.Common.{◌≡◌, ◌≢◌, ℕ, zero, suc, ◌+◌, ◌-◌, ◌<◌, ◌≤◌, ◌==◌, Bool, true, false, cond, ◌&&◌, List, [], ◌∷◌, ◌++◌, length, take, Option, Some, None, Result, Ok, Err, refl, sym, ap, subst, ◌∙◌, append_assoc, inl, inr, ◌⊎◌, lit≤, arith}
+use Rattle.std.specs.Prelude.{unwrap_or, nat_lt, ⊤}
+use Rattle.std.specs.List.{onto_first, list_any}
+use Rattle.std.specs.Option.{option_map, option_to_list}
+use Rattle.std.proofs.lemmas.Bool.{ltb-true, ltb-false, lt-ltb, le-ltb, leb-false, false≢true, true≢false}
+use Rattle.std.proofs.lemmas.List.{append-nil, length-append, length-take, take_all}
 use Rattle.task_script.specs.declared.script.TaskDef.{TaskDef}
-use Rattle.task_script.specs.declared.plan.Plan.{Plan}
-use Rattle.task_script.specs.declared.plan.Plan.TheVariants as plan
-use Rattle.task_script.specs.Forms.{Kind, lines_kind, upper_kind, number_kind, reads, Form, cpus_line, task_line, text_line, end_line, form_of, is_name}
 use Rattle.task_script.specs.declared.script.Script.{Script}
-use Rattle.task_script.specs.Lines.{input_lines}
-use Rattle.task_script.specs.Script.{script_of, shape_of, IsScript, NotScript, number_of, plan_of, task_of, tasks_of, texts_of, names_of, is_inside, takes_text, previous, IsNext, MayStand, IsFaultless, AreFaultless}
 use Rattle.task_script.specs.declared.script.ScriptFault.{ScriptFault}
+use Rattle.task_script.specs.declared.reader.Source.{Source}
 use Rattle.task_script.specs.declared.script.ScriptError.{ScriptError}
 use Rattle.task_script.specs.declared.script.ScriptError.TheVariants as errors
-use Rattle.task_script.specs.Reading.{Refuses, the_fault, State, source_task, all_tasks, names, is_in, is_start, is_open, add_reader, add_kind, add_task, add_text, is_plain, step, step_line, run, start}
-
--- ---- the last of the lines, and the names in them
-
-pub last_push : (o : Option Form) (before : List Form) (form : Form) → last_or o (before ++ form ∷ []) ≡ Some form
-last_push o [] form = refl
-last_push o (f ∷ before) form = last_push (Some f) before form
-
-last_some : (f : Form) (before : List Form) → (g : Form) × (last_or (Some f) before ≡ Some g)
-last_some f [] = (f, refl)
-last_some f (g ∷ before) = last_some g before
-
-pub names_push : (before : List Form) (form : Form) → names_of (before ++ form ∷ []) ≡ names_of before ++ names_of (form ∷ [])
-names_push [] form = refl
-names_push (cpus_line ∷ before) form = names_push before form
-names_push (task_line name kind ∷ before) form = ap (λ (ns : List (List ℕ)). name ∷ ns) (names_push before form)
-names_push (text_line text ∷ before) form = names_push before form
-names_push (end_line ∷ before) form = names_push before form
-
--- ---- where the lines have come to
-
-abbrev stage_after : Option Form → Stage
-stage_after None = Start
-stage_after (Some cpus_line) = Inside
-stage_after (Some (task_line name kind)) = Inside
-stage_after (Some (text_line text)) = Inside
-stage_after (Some end_line) = Ended
-
-none_at_start : (before : List Form) → Start ≡ stage_after (last_or None before) → before ≡ []
-none_at_start [] e = refl
-none_at_start (f ∷ before) e =
-    let l = last_some f before in
-    let P : Option Form → Type 0 = λ o. Start ≡ stage_after o in
-    started l.0 (subst P l.1 e)
-  where
-    started : (g : Form) → Start ≡ stage_after (Some g) → f ∷ before ≡ []
-    started cpus_line e = absurd cc
-    started (task_line name kind) e = absurd cc
-    started (text_line text) e = absurd cc
-    started end_line e = absurd cc
-
-inside_when : (o : Option Form) → Inside ≡ stage_after o → is_inside o ≡ true
-inside_when None e = absurd cc
-inside_when (Some cpus_line) e = refl
-inside_when (Some (task_line name kind)) e = refl
-inside_when (Some (text_line text)) e = refl
-inside_when (Some end_line) e = absurd cc
-
-when_inside : (o : Option Form) → is_inside o ≡ true → stage_after o ≡ Inside
-when_inside None e = absurd cc
-when_inside (Some cpus_line) e = refl
-when_inside (Some (task_line name kind)) e = refl
-when_inside (Some (text_line text)) e = refl
-when_inside (Some end_line) e = absurd cc
-
-when_text : (o : Option Form) → true ≡ takes_text o → stage_after o ≡ Inside
-when_text None e = absurd cc
-when_text (Some cpus_line) e = absurd cc
-when_text (Some (task_line name kind)) e = refl
-when_text (Some (text_line text)) e = refl
-when_text (Some end_line) e = absurd cc
-
--- ---- the script that the reader and the lines to come say
-
-abbrev open_said : Option Source → List Form → List TaskDef
-open_said None forms = []
-open_said (Some source) forms = task_of [] source.name lines_kind (source.texts ++ texts_of forms) ∷ []
-
-abbrev pub said : State → List Form → List Form → List TaskDef
-said s before forms = s.tasks ++ (open_said s.source forms ++ tasks_of (names_of before) forms)
-
--- the reader holds what these lines say
-pub record Follows (s : State) (before : List Form) : Type 0 where
-  pub stage : s.stage ≡ stage_after (last_or None before)
-  pub takes : is_some s.source ≡ takes_text (last_or None before)
-  pub called : names (all_tasks s) ≡ names_of before
-
--- ---- one task more
-
-abbrev linked_none : List (List ℕ) → Kind → Type 0
-linked_none ns kind = map (number_of ns) (reads kind) ≡ map Some (previous (length ns))
-
--- what the reader makes of a task that may come next by all but its links
-abbrev Added : List TaskDef → List ℕ → Kind → Option State → Type 0
-Added tasks name kind None = linked_none (names tasks) kind → ⊥
-Added tasks name kind (Some t) =
-    linked_none (names tasks) kind × (t.stage ≡ Inside) × (is_some t.source ≡ takes_text (Some (task_line name kind)))
-    × (names (all_tasks t) ≡ names tasks ++ name ∷ [])
-    × ((forms : List Form) → t.tasks ++ open_said t.source forms ≡ tasks ++ task_of (names tasks) name kind (texts_of forms) ∷ [])
-
-names_added : (tasks : List TaskDef) (task : TaskDef) → names (tasks ++ task ∷ []) ≡ names tasks ++ task.name ∷ []
-names_added tasks task = map_push (λ (t : TaskDef). t.name) tasks task
-
-pub names-length : (tasks : List TaskDef) → length (names tasks) ≡ length tasks
-names-length [] = refl
-names-length (task ∷ tasks) = rw (names-length tasks) refl
-
-abbrev reader_task : List ℕ → Plan → ℕ → TaskDef
-reader_task name p number = record { name = name; plan = p; from = number ∷ [] }
-
-previous_is : (n number : ℕ) → number + 1 ≡ n → previous n ≡ number ∷ []
-previous_is zero number e = absurd (omega arith)
-previous_is (suc n) number e = let same : n ≡ number = omega arith in ap (λ (k : ℕ). k ∷ []) same
-
-is_previous : (n number : ℕ) → Some number ∷ [] ≡ map Some (previous n) → number + 1 ≡ n
-is_previous zero number e = absurd cc
-is_previous (suc n) number e = let same : number ≡ n = cc in omega arith
-
-none_previous : (n : ℕ) → None ∷ [] ≡ map Some (previous n) → ⊥
-none_previous zero e = cc
-none_previous (suc n) e = cc
-
--- a reader of this kind, with the plan that it has
-reader_added : (tasks : List TaskDef) (name : List ℕ) (kind : Kind) (p : Plan) (from : List ℕ) (found : Option ℕ)
-    → reads kind ≡ from ∷ [] → ((texts : List (List ℕ)) → plan_of kind texts ≡ p) → takes_text (Some (task_line name kind)) ≡ false
-    → number_of (names tasks) from ≡ found → Added tasks name kind (add_reader tasks name p found)
-reader_added tasks name kind p from None reads_it planned no_text is = λ linked.
-    none_previous (length (names tasks)) (sym (ap (map (number_of (names tasks))) reads_it ∙ ap (λ (o : Option ℕ). o ∷ []) is) ∙ linked)
-reader_added tasks name kind p from (Some number) reads_it planned no_text is = at (number + 1 == length tasks) refl
-  where
-    ns : List (List ℕ)
-    ns = names tasks
-
-    found : map (number_of (names tasks)) (reads kind) ≡ Some number ∷ []
-    found = ap (map (number_of (names tasks))) reads_it ∙ ap (λ (o : Option ℕ). o ∷ []) is
-
-    numbers : filter_map (number_of (names tasks)) (reads kind) ≡ number ∷ []
-    numbers = rw (reads_it, is) refl
-
-    same_task : (texts : List (List ℕ)) → reader_task name p number ≡ task_of (names tasks) name kind texts
-    same_task texts = let one = sym (planned texts) in let two = sym numbers in λ i. record { name = name; plan = one i; from = two i }
-
-    at : (b : Bool) → (number + 1 == length tasks) ≡ b
-        → Added tasks name kind (cond b (Some (record { stage = Inside; tasks = tasks ++ reader_task name p number ∷ []; source = None })) None)
-    at true e = (
-      found ∙ sym (ap (map Some) (previous_is (length (names tasks)) number (eqb-true _ _ e ∙ sym (names-length tasks)))),
-      refl,
-      sym no_text,
-      rw append-nil (names_added tasks (reader_task name p number)),
-      λ forms. append-nil _ ∙ ap (λ (task : TaskDef). tasks ++ task ∷ []) (same_task (texts_of forms)),
-    )
-    at false e = λ linked. eqb-false _ _ e (is_previous (length (names tasks)) number (sym found ∙ linked) ∙ names-length tasks)
-
--- a task of any kind
-kind_added : (tasks : List TaskDef) (name : List ℕ) (kind : Kind) → Added tasks name kind (add_kind tasks name kind)
-kind_added [] name lines_kind = (refl, refl, refl, refl, λ forms. refl)
-kind_added (task ∷ tasks) name lines_kind =
-    let more : (length (task ∷ tasks) == 0) ≡ false = ne_eqb _ _ (λ e. omega arith) in
-    let none : linked_none (names (task ∷ tasks)) lines_kind → ⊥ = λ linked. absurd cc in
-    rw more none
-kind_added tasks name (upper_kind from) =
-    reader_added tasks name (upper_kind from) plan.Upper from (number_of (names tasks) from) refl (λ texts. refl) refl refl
-kind_added tasks name (number_kind from) =
-    reader_added tasks name (number_kind from) (plan.Number 1) from (number_of (names tasks) from) refl (λ texts. refl) refl refl
-
--- ---- one line more
-
--- the tasks so far, where no text comes next
-closed_said : (tasks : List TaskDef) (source : Option Source) (later : List Form) (more : List TaskDef) → texts_of later ≡ []
-    → tasks ++ (open_said source later ++ more) ≡ (tasks ++ option_to_list (option_map source_task source)) ++ more
-closed_said tasks None later more none = rw append-nil refl
-closed_said tasks (Some source) later more none =
-    rw (none, append-nil source.texts) (sym (append_assoc tasks (source_task source ∷ []) more))
-
-abbrev StepHolds : State → List Form → Form → Option State → Type 0
-StepHolds s before form None = MayStand before form → ⊥
-StepHolds s before form (Some t) =
-    MayStand before form × Follows t (before ++ form ∷ [])
-    × ((forms : List Form) → said t (before ++ form ∷ []) forms ≡ said s before (form ∷ forms))
-
-is_in_inside : (stage : Stage) → is_in stage ≡ true → stage ≡ Inside
-is_in_inside Start e = absurd cc
-is_in_inside Inside e = refl
-is_in_inside Ended e = absurd cc
-
-none_is : (o : Option ℕ) → is_none o ≡ true → o ≡ None
-none_is None e = refl
-none_is (Some n) e = absurd cc
-
-module _ (s : State) (before : List Form) (f : Follows s before) where
-  inside : is_in s.stage ≡ true → is_inside (last_or None before) ≡ true
-  inside e = inside_when _ (sym (is_in_inside _ e) ∙ f.stage)
-
-  is_in_when : is_inside (last_or None before) ≡ true → is_in s.stage ≡ true
-  is_in_when e = ap is_in (f.stage ∙ when_inside _ e)
-
-  cpus_at : (stage : Stage) → s.stage ≡ stage
-      → StepHolds s before cpus_line (cond (is_start stage) (Some (record { stage = Inside; tasks = s.tasks; source = s.source })) None)
-  cpus_at Start e =
-      let none = none_at_start before (sym e ∙ f.stage) in
-      let closed = f.takes ∙ ap (λ (b : List Form). takes_text (last_or None b)) none in
-      let last = last_push None before cpus_line in (
-        none,
-        record {
-          stage = sym (ap stage_after last);
-          takes = closed ∙ sym (ap takes_text last);
-          called = f.called ∙ sym (names_push before cpus_line ∙ append-nil _);
-        },
-        λ forms. rw (names_push before cpus_line, append-nil (names_of before)) (no_source s.source closed forms),
-      )
-    where
-      no_source : (source : Option Source) → is_some source ≡ false → (forms : List Form)
-          → s.tasks ++ (open_said source forms ++ tasks_of (names_of before) forms) ≡ s.tasks ++ (open_said source (cpus_line ∷ forms) ++ tasks_of (names_of before) forms)
-      no_source None c forms = refl
-      no_source (Some source) c forms = absurd cc
-  cpus_at Inside e = λ none. let t = sym e ∙ f.stage ∙ ap (λ (b : List Form). stage_after (last_or None b)) none in absurd cc
-  cpus_at Ended e = λ none. let t = sym e ∙ f.stage ∙ ap (λ (b : List Form). stage_after (last_or None b)) none in absurd cc
-
-  text_at : (text : List ℕ) (source : Option Source) → s.source ≡ source → StepHolds s before (text_line text) (add_text s source text)
-  text_at text None e = λ m. false≢true (sym (ap is_some e) ∙ f.takes ∙ m)
-  text_at text (Some source) e =
-      let m : true ≡ takes_text (last_or None before) = sym (ap is_some e) ∙ f.takes in
-      let last = last_push None before (text_line text) in
-      let same = names_push before (text_line text) ∙ append-nil _ in (
-        sym m,
-        record {
-          stage = f.stage ∙ when_text _ m ∙ sym (ap stage_after last);
-          takes = sym (ap takes_text last);
-          called =
-              names_added s.tasks _ ∙ sym (names_added s.tasks (source_task source))
-              ∙ ap (λ (o : Option Source). names (s.tasks ++ option_to_list (option_map source_task o))) (sym e)
-              ∙ f.called ∙ sym same;
-        },
-        λ forms. rw (same, e, append_assoc source.texts (text ∷ []) (texts_of forms)) refl,
-      )
-
-  end_at : (b : Bool) → is_in s.stage ≡ b
-      → StepHolds s before end_line (cond b (Some (record { stage = Ended; tasks = all_tasks s; source = None })) None)
-  end_at true e =
-      let last = last_push None before end_line in
-      let same = names_push before end_line ∙ append-nil _ in (
-        inside e,
-        record {
-          stage = sym (ap stage_after last);
-          takes = sym (ap takes_text last);
-          called = ap names (append-nil (all_tasks s)) ∙ f.called ∙ sym same;
-        },
-        λ forms. ap (λ (ns : List (List ℕ)). all_tasks s ++ tasks_of ns forms) same ∙ sym (closed_said s.tasks s.source (end_line ∷ forms) (tasks_of (names_of before) forms) refl),
-      )
-  end_at false e = λ m. false≢true (sym e ∙ is_in_when m)
-
-  task_added : (name : List ℕ) (kind : Kind) → is_inside (last_or None before) ≡ true → is_name name ≡ true → is_open (names (all_tasks s)) name ≡ true
-      → (o : Option State) → Added (all_tasks s) name kind o → StepHolds s before (task_line name kind) o
-  task_added name kind inner named vacant None a = λ m. a (subst (λ (ns : List (List ℕ)). linked_none ns kind) (sym f.called) m.1.linked)
-  task_added name kind inner named vacant (Some t) a =
-      let parts = and_parts _ _ vacant in
-      let last = last_push None before (task_line name kind) in
-      let next : IsNext (names (all_tasks s)) name kind = record { few = ltb-true _ _ parts.0; named = named; fresh = none_is _ parts.1; linked = a.0 } in (
-        (inner, subst (λ (ns : List (List ℕ)). IsNext ns name kind) f.called next),
-        record {
-          stage = a.1 ∙ sym (ap stage_after last);
-          takes = a.2 ∙ sym (ap takes_text last);
-          called = a.3 ∙ ap (λ (ns : List (List ℕ)). ns ++ name ∷ []) f.called ∙ sym (names_push before (task_line name kind));
-        },
-        λ forms.
-            let rest = tasks_of (names_of before ++ name ∷ []) forms in
-            let task : List (List ℕ) → TaskDef = λ ns. task_of ns name kind (texts_of forms) in
-            ap (λ (ns : List (List ℕ)). t.tasks ++ (open_said t.source forms ++ tasks_of ns forms)) (names_push before (task_line name kind))
-            ∙ sym (append_assoc t.tasks (open_said t.source forms) rest)
-            ∙ ap (λ (ts : List TaskDef). ts ++ rest) (a.4 forms ∙ ap (λ (ns : List (List ℕ)). all_tasks s ++ task ns ∷ []) f.called)
-            ∙ append_assoc (all_tasks s) (task (names_of before) ∷ []) rest
-            ∙ sym (closed_said s.tasks s.source (task_line name kind ∷ forms) (task (names_of before) ∷ rest) refl),
-      )
-
-  task_open : (name : List ℕ) (kind : Kind) → is_inside (last_or None before) ≡ true → is_name name ≡ true
-      → (b : Bool) → is_open (names (all_tasks s)) name ≡ b → StepHolds s before (task_line name kind) (cond b (add_kind (all_tasks s) name kind) None)
-  task_open name kind inner named true e = task_added name kind inner named e _ (kind_added (all_tasks s) name kind)
-  task_open name kind inner named false e = λ m.
-      let next = subst (λ (ns : List (List ℕ)). IsNext ns name kind) (sym f.called) m.1 in
-      false≢true (sym e ∙ and_from _ _ (lt-ltb _ _ next.few) (ap is_none next.fresh))
-
-  task_at : (name : List ℕ) (kind : Kind) (b : Bool) → (is_in s.stage && is_name name) ≡ b
-      → StepHolds s before (task_line name kind) (cond b (add_task (all_tasks s) name kind) None)
-  task_at name kind true e = let parts = and_parts _ _ e in task_open name kind (inside parts.0) parts.1 _ refl
-  task_at name kind false e = λ m. false≢true (sym e ∙ and_from _ _ (is_in_when m.0) m.1.named)
-
-  step_holds : (form : Form) → StepHolds s before form (step s form)
-  unfolding step
-  step_holds cpus_line = cpus_at s.stage refl
-  step_holds (task_line name kind) = task_at name kind _ refl
-  step_holds (text_line text) = text_at text s.source refl
-  step_holds end_line = end_at _ refl
+use Rattle.task_script.specs.Lines.{input_lines}
+use Rattle.task_script.specs.Forms.{Kind, lines_kind, count_kind, upper_kind, number_kind, keep_kind, drop_kind, tally_kind, pin_kind, cat_kind, weave_kind, Form, skip_line, cpus_line, caches_line, room_line, task_line, text_line, end_line, form_of}
+use Rattle.task_script.specs.Script.{shape_of, script_of, given, cpus_in, tasks_of, is_end, SoFar, so_far, faults, lowest, form_code, line_code, code_of, IsFaultless, AreFaultless, IsScript, NotScript, judged_lines, is_over, IsFaulty, faulty_line, no_end, FirstFault}
+use Rattle.task_script.specs.Reading.{State, held, start, source_task, all_tasks, opened, added, with_text, next, fault_at, stepped, step, and_then, run, judged, verdict, IsScriptOf, Fails}
+use Rattle.task_script.proofs.FormLaws.{IsGood, is_good}
+use Rattle.task_script.proofs.SoFarLaws.{held_next, said, said_next, closed_said}
 
 -- ---- a line
 
-abbrev LineHolds : State → List Form → List ℕ → Option State → Type 0
-LineHolds s before line None = (form : Form) → IsFaultless before line form → ⊥
-LineHolds s before line (Some t) =
-    (form : Form) × (IsFaultless before line form × (Follows t (before ++ form ∷ [])
-    × ((forms : List Form) → said t (before ++ form ∷ []) forms ≡ said s before (form ∷ forms))))
+-- the code of a form, from that of its line
+code_at : (b : Bool) (o : Option ℕ) → cond b (Some 1) o ≡ None → o ≡ None
+code_at true o e = absurd cc
+code_at false o e = e
 
-same_form : (o : Option Form) (form other : Form) → o ≡ Some form → o ≡ Some other → form ≡ other
-same_form o form other d e = cc
+pub form_good : (s : SoFar) (line : List ℕ) (form : Form) → form_of line ≡ Some form → line_code s line ≡ None → form_code s (Some form) ≡ None
+form_good s line form is e = ap (form_code s) (sym is) ∙ code_at (nat_lt 4096 (length line)) (form_code s (form_of line)) e
 
-module _ (s : State) (before : List Form) (f : Follows s before) (line : List ℕ) where
-  form_holds : (form : Form) → is_plain line ≡ true → form_of line ≡ Some form → (o : Option State) → StepHolds s before form o → LineHolds s before line o
-  form_holds form plain e None h = λ other fl. h (subst (MayStand before) (same_form _ _ _ fl.formed e) fl.placed)
-  form_holds form plain e (Some t) h =
-      let parts = and_parts _ _ plain in (
-        form,
-        (record { short = leb-true _ _ parts.0; no_return = eqb-false _ _ (not-true _ parts.1); formed = e; placed = h.0 }, (h.1, h.2)),
-      )
+abbrev LineHolds : ℕ → State → List Form → List ℕ → Result State ScriptFault → Type 0
+LineHolds number s before line (Err fault) = (fault.line ≡ number) × (line_code (so_far before) line ≡ Some fault.code)
+LineHolds number s before line (Ok t) =
+    (form : Form) × (IsFaultless before line form × ((held t ≡ so_far (before ++ form ∷ [])) × ((forms : List Form) → said t forms ≡ said s (form ∷ forms))))
 
-  formed_holds : is_plain line ≡ true → (o : Option Form) → form_of line ≡ o → LineHolds s before line (option_and_then (step s) o)
-  formed_holds plain None e = λ form fl. let no_form = sym e ∙ fl.formed in absurd cc
-  formed_holds plain (Some form) e = form_holds form plain e _ (step_holds s before f form)
+module _ (number : ℕ) (s : State) (before : List Form) (f : held s ≡ so_far before) (line : List ℕ) where
+  same_code : line_code (held s) line ≡ line_code (so_far before) line
+  same_code = ap (λ (h : SoFar). line_code h line) f
 
-  plain_holds : (b : Bool) → is_plain line ≡ b → LineHolds s before line (cond b (option_and_then (step s) (form_of line)) None)
-  plain_holds true e = formed_holds e _ refl
-  plain_holds false e = λ form fl. false≢true (sym e ∙ and_from _ _ (le-leb _ _ fl.short) (not_from_false _ (ne_eqb _ _ fl.no_return)))
+  stepped_holds : (code : Option ℕ) (form : Option Form) → line_code (held s) line ≡ code → form_of line ≡ form → LineHolds number s before line (stepped number s code form)
+  stepped_holds (Some code) form e is = (refl, sym same_code ∙ e)
+  stepped_holds None None e is = let none = ap (form_code (held s)) (sym is) ∙ code_at (nat_lt 4096 (length line)) (form_code (held s) (form_of line)) e in absurd cc
+  stepped_holds None (Some form) e is =
+      let good = form_good (held s) line form is e in
+      (form, (record { formed = is; good = sym same_code ∙ e }, (held_next s before f form good, said_next s form good)))
 
-  line_holds : LineHolds s before line (step_line s line)
-  unfolding step_line
-  line_holds = plain_holds _ refl
+  step_holds : LineHolds number s before line (step number s line)
+  unfolding step
+  step_holds = stepped_holds _ _ refl refl
 
 -- ---- all lines
 
-abbrev pub RunHolds : State → List Form → List (List ℕ) → Option State → Type 0
-RunHolds s before lines None = (forms : List Form) → AreFaultless before lines forms → ⊥
-RunHolds s before lines (Some t) =
-    (forms : List Form) × (AreFaultless before lines forms × (Follows t (before ++ forms) × (all_tasks t ≡ said s before forms)))
-
--- no forms, and one form and others
-others_hold : (s t : State) (before : List Form) (line : List ℕ) (lines : List (List ℕ)) (form : Form) → IsFaultless before line form
-    → ((forms : List Form) → said t (before ++ form ∷ []) forms ≡ said s before (form ∷ forms))
-    → (o : Option State) → RunHolds t (before ++ form ∷ []) lines o → RunHolds s before (line ∷ lines) o
-others_hold s t before line lines form fl same None h = refuses
-  where
-    refuses : (forms : List Form) → AreFaultless before (line ∷ lines) forms → ⊥
-    refuses [] all = all
-    refuses (other ∷ forms) all =
-        h forms (subst (λ (g : Form). AreFaultless (before ++ g ∷ []) lines forms) (same_form _ _ _ all.0.formed fl.formed) all.1)
-others_hold s t before line lines form fl same (Some u) h =
-    (form ∷ h.0, ((fl, h.1.0), (subst (Follows u) (append_assoc before (form ∷ []) h.0) h.1.1.0, h.1.1.1 ∙ same h.0)))
-
-line_then : (s : State) (before : List Form) (line : List ℕ) (lines : List (List ℕ)) → (o : Option State) → LineHolds s before line o
-    → ((t : State) (form : Form) → Follows t (before ++ form ∷ []) → RunHolds t (before ++ form ∷ []) lines (run t lines))
-    → RunHolds s before (line ∷ lines) (option_and_then (λ t. run t lines) o)
-line_then s before line lines None h again = refuses
-  where
-    refuses : (forms : List Form) → AreFaultless before (line ∷ lines) forms → ⊥
-    refuses [] all = all
-    refuses (form ∷ forms) all = h form all.0
-line_then s before line lines (Some t) h again = others_hold s t before line lines h.0 h.1.0 h.1.1.1 (run t lines) (again t h.0 h.1.1.0)
-
-pub run_holds : (s : State) (before : List Form) → Follows s before → (lines : List (List ℕ)) → RunHolds s before lines (run s lines)
-run_holds s before f [] =
-    ([], (tt, (subst (Follows s) (sym (append-nil before)) f, sym (closed_said s.tasks s.source [] [] refl ∙ append-nil (all_tasks s)))))
-run_holds s before f (line ∷ lines) =
-    line_then s before line lines (step_line s line) (line_holds s before f line) (λ t form g. run_holds t (before ++ form ∷ []) g lines)
-
--- ---- the whole input
-
-start_follows : Follows start []
-start_follows = record { stage = refl; takes = refl; called = refl }
-
-ended_is : (o : Option Form) → Ended ≡ stage_after o → o ≡ Some end_line
-ended_is None e = absurd cc
-ended_is (Some cpus_line) e = absurd cc
-ended_is (Some (task_line name kind)) e = absurd cc
-ended_is (Some (text_line text)) e = absurd cc
-ended_is (Some end_line) e = refl
-
-no_source : (source : Option Source) → is_some source ≡ false → source ≡ None
-no_source None e = refl
-no_source (Some source) e = absurd cc
-
--- what was read of all the lines
-pub record Read (lines : List (List ℕ)) (s : State) : Type 0 where
+-- the first faulty line among these
+pub record FaultIn (number : ℕ) (before : List Form) (lines : List (List ℕ)) (fault : ScriptFault) : Type 0 where
+  pub front : List (List ℕ)
   pub forms : List Form
-  pub faultless : AreFaultless [] lines forms
-  pub ended : last_or None forms ≡ Some end_line
-  pub tasks : s.tasks ≡ tasks_of [] forms
+  pub line : List ℕ
+  pub more : List (List ℕ)
+  pub whole : lines ≡ front ++ line ∷ more
+  pub faultless : AreFaultless before front forms
+  pub faulty : line_code (so_far (before ++ forms)) line ≡ Some fault.code
+  pub numbered : fault.line ≡ number + length front
 
-ended_reads : (lines : List (List ℕ)) (s : State) → s.stage ≡ Ended → RunHolds start [] lines (Some s) → Read lines s
-ended_reads lines s e h =
-    let last = ended_is (last_or None h.0) (sym e ∙ h.1.1.0.stage) in
-    let none = no_source s.source (h.1.1.0.takes ∙ ap takes_text last) in
-    let all : s.tasks ≡ all_tasks s = rw none (sym (append-nil s.tasks)) in
-    record { forms = h.0; faultless = h.1.0; ended = last; tasks = all ∙ h.1.1.1 }
+-- all of these lines are faultless
+pub record AllRead (s : State) (before : List Form) (lines : List (List ℕ)) (t : State) : Type 0 where
+  pub forms : List Form
+  pub faultless : AreFaultless before lines forms
+  pub held_is : held t ≡ so_far (before ++ forms)
+  pub tasks : all_tasks t ≡ said s forms
 
-pub run_reads : (lines : List (List ℕ)) (s : State) → s.stage ≡ Ended → run start lines ≡ Some s → Read lines s
-run_reads lines s e is = ended_reads lines s e (subst (RunHolds start [] lines) is (run_holds start [] start_follows lines))
+abbrev RunHolds : ℕ → State → List Form → List (List ℕ) → Result State ScriptFault → Type 0
+RunHolds number s before lines (Err fault) = FaultIn number before lines fault
+RunHolds number s before lines (Ok t) = AllRead s before lines t
+
+later_holds : (number : ℕ) (s t : State) (before : List Form) (line : List ℕ) (lines : List (List ℕ)) (form : Form) → IsFaultless before line form
+    → ((forms : List Form) → said t forms ≡ said s (form ∷ forms))
+    → (r : Result State ScriptFault) → RunHolds (number + 1) t (before ++ form ∷ []) lines r → RunHolds number s before (line ∷ lines) r
+later_holds number s t before line lines form fl same (Err fault) h =
+    record {
+      front = line ∷ h.front;
+      forms = form ∷ h.forms;
+      line = h.line;
+      more = h.more;
+      whole = ap (λ (ls : List (List ℕ)). line ∷ ls) h.whole;
+      faultless = (fl, h.faultless);
+      faulty = ap (λ (fs : List Form). line_code (so_far fs) h.line) (sym (append_assoc before (form ∷ []) h.forms)) ∙ h.faulty;
+      numbered = let n = h.numbered in omega arith;
+    }
+later_holds number s t before line lines form fl same (Ok u) h =
+    record {
+      forms = form ∷ h.forms;
+      faultless = (fl, h.faultless);
+      held_is = h.held_is ∙ ap so_far (append_assoc before (form ∷ []) h.forms);
+      tasks = h.tasks ∙ same h.forms;
+    }
+
+line_then : (number : ℕ) (s : State) (before : List Form) (line : List ℕ) (lines : List (List ℕ)) → (r : Result State ScriptFault) → LineHolds number s before line r
+    → ((t : State) (form : Form) → held t ≡ so_far (before ++ form ∷ []) → RunHolds (number + 1) t (before ++ form ∷ []) lines (run (number + 1) t lines))
+    → RunHolds number s before (line ∷ lines) (and_then r (λ t. run (number + 1) t lines))
+line_then number s before line lines (Err fault) h again =
+    record {
+      front = [];
+      forms = [];
+      line = line;
+      more = lines;
+      whole = refl;
+      faultless = tt;
+      faulty = ap (λ (fs : List Form). line_code (so_far fs) line) (append-nil before) ∙ h.1;
+      numbered = let n = h.0 in omega arith;
+    }
+line_then number s before line lines (Ok t) h again =
+    later_holds number s t before line lines h.0 h.1.0 h.1.1.1 (run (number + 1) t lines) (again t h.0 h.1.1.0)
+
+run_holds : (number : ℕ) (s : State) (before : List Form) → held s ≡ so_far before → (lines : List (List ℕ)) → RunHolds number s before lines (run number s lines)
+run_holds number s before f [] =
+    record { forms = []; faultless = tt; held_is = f ∙ ap so_far (sym (append-nil before)); tasks = sym (closed_said s.tasks s.source [] [] refl ∙ append-nil (all_tasks s)) }
+run_holds number s before f (line ∷ lines) =
+    line_then number s before line lines (step number s line) (step_holds number s before f line) (λ t form g. run_holds (number + 1) t (before ++ form ∷ []) g lines)
+
+-- ---- faultless lines are passed
+
+step_passes : (number : ℕ) (s : State) (before : List Form) → held s ≡ so_far before → (line : List ℕ) (form : Form) → IsFaultless before line form
+    → step number s line ≡ Ok (next s form)
+unfolding step
+step_passes number s before f line form fl = rw (same_code number s before f line, fl.good, fl.formed) refl
+
+step_stops : (number : ℕ) (s : State) (before : List Form) → held s ≡ so_far before → (line : List ℕ) (code : ℕ) → line_code (so_far before) line ≡ Some code
+    → step number s line ≡ Err (fault_at number code)
+unfolding step
+step_stops number s before f line code e = rw (same_code number s before f line, e) refl
+
+-- the reader behind faultless lines
+record Passed (number : ℕ) (s : State) (before : List Form) (front : List (List ℕ)) (forms : List Form) : Type 0 where
+  state : State
+  held_is : held state ≡ so_far (before ++ forms)
+  passes : (rest : List (List ℕ)) → run number s (front ++ rest) ≡ run (number + length front) state rest
+
+passes_on : (number : ℕ) (s : State) (before : List Form) → held s ≡ so_far before → (front : List (List ℕ)) (forms : List Form) → AreFaultless before front forms → Passed number s before front forms
+passes_on number s before f [] [] all =
+    record { state = s; held_is = f ∙ ap so_far (sym (append-nil before)); passes = λ rest. let n : number ≡ number + 0 = omega arith in ap (λ (k : ℕ). run k s rest) n }
+passes_on number s before f [] (form ∷ forms) all = absurd all
+passes_on number s before f (line ∷ front) [] all = absurd all
+passes_on number s before f (line ∷ front) (form ∷ forms) all =
+    let fl = all.0 in
+    let good = form_good (so_far before) line form fl.formed fl.good in
+    let g = held_next s before f form (ap (λ (h : SoFar). form_code h (Some form)) f ∙ good) in
+    let on = passes_on (number + 1) (next s form) (before ++ form ∷ []) g front forms all.1 in
+    record {
+      state = on.state;
+      held_is = on.held_is ∙ ap so_far (append_assoc before (form ∷ []) forms);
+      passes = λ rest.
+          let n : number + 1 + length front ≡ number + suc (length front) = omega arith in
+          ap (λ (r : Result State ScriptFault). and_then r (λ t. run (number + 1) t (front ++ rest))) (step_passes number s before f line form fl)
+          ∙ on.passes rest ∙ ap (λ (k : ℕ). run k on.state rest) n;
+    }
+
+-- ---- what the reader keeps
+
+abbrev pub OnState : (State → Type 0) → Result State ScriptFault → Type 0
+OnState P (Err fault) = ⊤
+OnState P (Ok t) = P t
+
+-- no source is open behind `end`, each name is a task's, and there are at most 200
+pub record Keeps (s : State) : Type 0 where
+  pub closed : s.ended ≡ true → s.source ≡ None
+  pub counted : length (all_tasks s) ≡ length s.names
+  pub few : length s.names ≤ 200
+
+pub start_keeps : Keeps start
+start_keeps = record { closed = λ e. refl; counted = refl; few = lit≤ tt }
+
+not_ended : (b : Bool) (o : Option ℕ) → cond (b && true) (Some 12) o ≡ None → b ≡ false
+not_ended true o e = absurd cc
+not_ended false o e = refl
+
+text_counted : (source : Option Source) (text : List ℕ) → length (option_to_list (option_map source_task (with_text source text))) ≡ length (option_to_list (option_map source_task source))
+text_counted None text = refl
+text_counted (Some source) text = refl
+
+one_added : (names : List (List ℕ)) (name : List ℕ) (kind : Kind) → length (added names name kind) + length (option_to_list (option_map source_task (opened name kind))) ≡ 1
+one_added names name lines_kind = refl
+one_added names name (count_kind number) = refl
+one_added names name (upper_kind source) = refl
+one_added names name (number_kind source) = refl
+one_added names name (keep_kind prefix source) = refl
+one_added names name (drop_kind prefix source) = refl
+one_added names name (tally_kind source) = refl
+one_added names name (pin_kind number source) = refl
+one_added names name (cat_kind first second) = refl
+one_added names name (weave_kind first second) = refl
+
+settled_keeps : (s t : State) → Keeps s → t.source ≡ None → t.tasks ≡ all_tasks s → t.names ≡ s.names → Keeps t
+settled_keeps s t k none tasks names =
+    record {
+      closed = λ e. none;
+      counted = rw (none, tasks, names, append-nil (all_tasks s)) k.counted;
+      few = rw names k.few;
+    }
+
+pub next_keeps : (s : State) (form : Form) → form_code (held s) (Some form) ≡ None → Keeps s → Keeps (next s form)
+next_keeps s skip_line e k = k
+next_keeps s (cpus_line number) e k = settled_keeps s (next s (cpus_line number)) k refl refl refl
+next_keeps s (caches_line number) e k = settled_keeps s (next s (caches_line number)) k refl refl refl
+next_keeps s (room_line number) e k = settled_keeps s (next s (room_line number)) k refl refl refl
+next_keeps s (task_line name kind) e k =
+    let open_still = not_ended s.ended (lowest (faults (held s) (task_line name kind))) e in
+    let room : length s.names < 200 = leb-false 200 (length s.names) (is_good (held s) (task_line name kind) e).few in
+    let more = length-append s.names (name ∷ []) in
+    let counted = k.counted in
+    let one = one_added s.names name kind in
+    record {
+      closed = λ ended. absurd (true≢false (sym ended ∙ open_still));
+      counted = omega (arith, length-append (all_tasks s ++ added s.names name kind) (option_to_list (option_map source_task (opened name kind))), length-append (all_tasks s) (added s.names name kind));
+      few = omega arith;
+    }
+next_keeps s (text_line text) e k =
+    let open_still = not_ended s.ended (lowest (faults (held s) (text_line text))) e in
+    let counted = k.counted in
+    record {
+      closed = λ ended. absurd (true≢false (sym ended ∙ open_still));
+      counted = omega (arith, length-append s.tasks (option_to_list (option_map source_task (with_text s.source text))), length-append s.tasks (option_to_list (option_map source_task s.source)), text_counted s.source text);
+      few = k.few;
+    }
+next_keeps s end_line e k = settled_keeps s (next s end_line) k refl refl refl
+
+stepped_keeps : (number : ℕ) (s : State) (line : List ℕ) → Keeps s → (code : Option ℕ) (form : Option Form) → line_code (held s) line ≡ code → form_of line ≡ form → OnState Keeps (stepped number s code form)
+stepped_keeps number s line k (Some code) form e is = tt
+stepped_keeps number s line k None None e is = k
+stepped_keeps number s line k None (Some form) e is = next_keeps s form (form_good (held s) line form is e) k
+
+step_keeps : (number : ℕ) (s : State) (line : List ℕ) → Keeps s → OnState Keeps (step number s line)
+unfolding step
+step_keeps number s line k = stepped_keeps number s line k (line_code (held s) line) (form_of line) refl refl
+
+then_keeps : (r : Result State ScriptFault) (more : State → Result State ScriptFault) → OnState Keeps r → ((t : State) → Keeps t → OnState Keeps (more t)) → OnState Keeps (and_then r more)
+then_keeps (Err fault) more k again = tt
+then_keeps (Ok t) more k again = again t k
+
+run_keeps : (number : ℕ) (s : State) → Keeps s → (lines : List (List ℕ)) → OnState Keeps (run number s lines)
+run_keeps number s k [] = k
+run_keeps number s k (line ∷ lines) =
+    then_keeps (step number s line) (λ t. run (number + 1) t lines) (step_keeps number s line k) (λ t g. run_keeps (number + 1) t g lines)
+
+ended_keeps : (b : Bool) (t : State) (fault : ScriptFault) → Keeps t → OnState Keeps (cond b (Ok t) (Err fault))
+ended_keeps true t fault k = k
+ended_keeps false t fault k = tt
+
+judged_keeps : (over : Bool) (lines : ℕ) (r : Result State ScriptFault) → OnState Keeps r → OnState Keeps (judged over lines r)
+judged_keeps over lines (Err fault) k = tt
+judged_keeps true lines (Ok t) k = tt
+judged_keeps false lines (Ok t) k = ended_keeps t.ended t (fault_at (lines + 1) 11) k
+
+verdict_keeps : (bytes : List ℕ) (s : State) → verdict bytes ≡ Ok s → Keeps s
+unfolding verdict
+verdict_keeps bytes s e =
+    subst (OnState Keeps) e (judged_keeps (is_over bytes) (length (judged_lines bytes)) (run 1 start (judged_lines bytes)) (run_keeps 1 start start_keeps (judged_lines bytes)))
+
+-- ---- the whole input: what the reader answers holds
+
+code_from : (over : Bool) (more : List (List ℕ)) (s : SoFar) (line : List ℕ) (code : ℕ) → line_code s line ≡ Some code → code_of over more s line ≡ Some code
+code_from true [] s line code e = ap (λ (o : Option ℕ). Some (unwrap_or o 16)) e
+code_from true (next ∷ more) s line code e = e
+code_from false more s line code e = e
+
+some_line : (bytes : List ℕ) → 0 < length bytes → 0 < length (input_lines bytes)
+some_line [] some = absurd (omega arith)
+some_line (byte ∷ bytes) some =
+    elim (byte == 10) as (λ b. 0 < length (cond b ([] ∷ input_lines bytes) (onto_first byte (input_lines bytes)))) [
+      | true ↦ omega arith
+      | false ↦ onto_some (input_lines bytes)
+    ]
+  where
+    onto_some : (lines : List (List ℕ)) → 0 < length (onto_first byte lines)
+    onto_some [] = omega arith
+    onto_some (line ∷ lines) = omega arith
+
+-- the last of faultless lines
+record LastLine (before : List Form) (lines : List (List ℕ)) : Type 0 where
+  front : List (List ℕ)
+  forms : List Form
+  line : List ℕ
+  whole : lines ≡ front ++ line ∷ []
+  faultless : AreFaultless before front forms
+  good : line_code (so_far (before ++ forms)) line ≡ None
+
+last_line : (before : List Form) (lines : List (List ℕ)) (forms : List Form) → 0 < length lines → AreFaultless before lines forms → LastLine before lines
+last_line before [] forms some all = absurd (omega arith)
+last_line before (line ∷ lines) [] some all = absurd all
+last_line before (line ∷ []) (form ∷ forms) some all =
+    record { front = []; forms = []; line = line; whole = refl; faultless = tt; good = ap (λ (fs : List Form). line_code (so_far fs) line) (append-nil before) ∙ all.0.good }
+last_line before (line ∷ next ∷ lines) (form ∷ forms) some all =
+    let h = last_line (before ++ form ∷ []) (next ∷ lines) forms (omega arith) all.1 in
+    record {
+      front = line ∷ h.front;
+      forms = form ∷ h.forms;
+      line = h.line;
+      whole = ap (λ (ls : List (List ℕ)). line ∷ ls) h.whole;
+      faultless = (all.0, h.faultless);
+      good = ap (λ (fs : List Form). line_code (so_far fs) h.line) (sym (append_assoc before (form ∷ []) h.forms)) ∙ h.good;
+    }
+
+all_judged : (bytes : List ℕ) → is_over bytes ≡ false → judged_lines bytes ≡ input_lines bytes
+all_judged bytes e = let fits : length bytes ≤ 16777216 = ltb-false 16777216 (length bytes) e in ap input_lines (take_all 16777217 bytes (omega arith))
+
+start_held : held start ≡ so_far []
+start_held = refl
+
+abbrev pub VerdictHolds : List ℕ → Result State ScriptFault → Type 0
+VerdictHolds bytes (Err fault) = FirstFault bytes fault.line fault.code
+VerdictHolds bytes (Ok s) = (script : Script) → IsScriptOf s script → IsScript bytes script
+
+module _ (bytes : List ℕ) where
+  over_holds : is_over bytes ≡ true → (t : State) → AllRead start [] (judged_lines bytes) t → FirstFault bytes (length (judged_lines bytes)) 16
+  over_holds e t h =
+      let many : 16777216 < length bytes = ltb-true 16777216 (length bytes) e in
+      let some : 0 < length (take 16777217 bytes) = omega (arith, length-take 16777217 bytes) in
+      let last = last_line [] (judged_lines bytes) h.forms (some_line (take 16777217 bytes) some) h.faultless in
+      let code : code_of (is_over bytes) [] (so_far last.forms) last.line ≡ Some 16 =
+      ap (λ (b : Bool). code_of b [] (so_far last.forms) last.line) e ∙ ap (λ (o : Option ℕ). Some (unwrap_or o 16)) last.good in
+      record {
+        front = last.front;
+        forms = last.forms;
+        faultless = last.faultless;
+        faulty = faulty_line last.line [] last.whole code;
+        numbered = ap length last.whole ∙ length-append last.front (last.line ∷ []);
+      }
+
+  unended_holds : is_over bytes ≡ false → (t : State) → t.ended ≡ false → AllRead start [] (judged_lines bytes) t → FirstFault bytes (length (judged_lines bytes) + 1) 11
+  unended_holds e t open_end h =
+      record {
+        front = judged_lines bytes;
+        forms = h.forms;
+        faultless = h.faultless;
+        faulty = no_end e refl (sym (ap (λ (r : SoFar). r.ended) h.held_is) ∙ open_end) refl;
+        numbered = refl;
+      }
+
+  fault_holds : (fault : ScriptFault) → FaultIn 1 [] (judged_lines bytes) fault → FirstFault bytes fault.line fault.code
+  fault_holds fault h =
+      record {
+        front = h.front;
+        forms = h.forms;
+        faultless = h.faultless;
+        faulty = faulty_line h.line h.more h.whole (code_from (is_over bytes) h.more (so_far h.forms) h.line fault.code h.faulty);
+        numbered = let n = h.numbered in omega arith;
+      }
+
+  script_holds : is_over bytes ≡ false → (t : State) → t.ended ≡ true → Keeps t → AllRead start [] (judged_lines bytes) t → (script : Script) → IsScriptOf t script → IsScript bytes script
+  script_holds e t ended keeps h script is =
+      let said_tasks : t.tasks ≡ tasks_of [] h.forms = sym (append-nil t.tasks) ∙ ap (λ (o : Option Source). t.tasks ++ option_to_list (option_map source_task o)) (sym (keeps.closed ended)) ∙ h.tasks in
+      let cpus = ap (λ (r : SoFar). r.cpus) h.held_is in
+      let caches = ap (λ (r : SoFar). r.caches) h.held_is in
+      let room = is.2 ∙ ap (λ (r : SoFar). unwrap_or r.room 4) h.held_is in
+      let tasks = is.0 ∙ said_tasks in
+      let shape = is.1 ∙ ap (λ (ts : List TaskDef). shape_of (unwrap_or t.cpus 1) t.caches (length ts)) said_tasks
+      ∙ ap (λ (o : Option ℕ). shape_of (unwrap_or o 1) t.caches (length (tasks_of [] h.forms))) cpus
+      ∙ ap (λ (o : Option ℕ). shape_of (unwrap_or (given cpus_in h.forms) 1) o (length (tasks_of [] h.forms))) caches in
+      record {
+        within = ltb-false 16777216 (length bytes) e;
+        forms = h.forms;
+        faultless = subst (λ (ls : List (List ℕ)). AreFaultless [] ls h.forms) (all_judged bytes e) h.faultless;
+        ended = sym (ap (λ (r : SoFar). r.ended) h.held_is) ∙ ended;
+        says = λ i. record { shape = shape i; room = room i; tasks = tasks i };
+      }
+
+  ended_holds : is_over bytes ≡ false → (t : State) → Keeps t → AllRead start [] (judged_lines bytes) t → (b : Bool) → t.ended ≡ b
+      → VerdictHolds bytes (cond b (Ok t) (Err (fault_at (length (judged_lines bytes) + 1) 11)))
+  ended_holds e t keeps h true ended = script_holds e t ended keeps h
+  ended_holds e t keeps h false ended = unended_holds e t ended h
+
+  read_holds : (t : State) → Keeps t → AllRead start [] (judged_lines bytes) t → (b : Bool) → is_over bytes ≡ b
+      → VerdictHolds bytes (judged b (length (judged_lines bytes)) (Ok t))
+  read_holds t keeps h true e = over_holds e t h
+  read_holds t keeps h false e = ended_holds e t keeps h t.ended refl
+
+  run_verdict : (r : Result State ScriptFault) → OnState Keeps r → RunHolds 1 start [] (judged_lines bytes) r
+      → VerdictHolds bytes (judged (is_over bytes) (length (judged_lines bytes)) r)
+  run_verdict (Err fault) keeps h = fault_holds fault h
+  run_verdict (Ok t) keeps h = read_holds t keeps h (is_over bytes) refl
+
+  pub verdict_holds : VerdictHolds bytes (verdict bytes)
+  unfolding verdict
+  verdict_holds = run_verdict (run 1 start (judged_lines bytes)) (run_keeps 1 start start_keeps (judged_lines bytes)) (run_holds 1 start [] start_held (judged_lines bytes))
+
+  pub script_verdict : (script : Script) → IsScript bytes script → (s : State) × (verdict bytes ≡ Ok s)
+  unfolding verdict
+  script_verdict script a =
+      let whole : is_over bytes ≡ false = le-ltb 16777216 (length bytes) a.within in
+      let on = passes_on 1 start [] start_held (input_lines bytes) a.forms a.faultless in
+      let ran : run 1 start (input_lines bytes) ≡ Ok on.state = ap (run 1 start) (sym (append-nil (input_lines bytes))) ∙ on.passes [] in
+      let ended : on.state.ended ≡ true = ap (λ (r : SoFar). r.ended) on.held_is ∙ a.ended in
+      (on.state, rw (whole, all_judged bytes whole, ran, ended) refl)
+
+-- the verdict, when it is that of a script and that of a fault
+pub script_found : (bytes : List ℕ) (s : State) (script : Script) → verdict bytes ≡ Ok s → IsScriptOf s script → IsScript bytes script
+script_found bytes s script e is = subst (VerdictHolds bytes) e (verdict_holds bytes) script is
+
+pub fault_found : (bytes : List ℕ) (fault : ScriptFault) → verdict bytes ≡ Err fault → FirstFault bytes fault.line fault.code
+fault_found bytes fault e = subst (VerdictHolds bytes) e (verdict_holds bytes)
+
+pub not_script : (bytes : List ℕ) (fault : ScriptFault) → verdict bytes ≡ Err fault → NotScript bytes
+not_script bytes fault e = λ script a. let s = script_verdict bytes script a in let both = sym e ∙ s.1 in absurd cc
 
 -- lines have one list of forms
-one_reading : (before : List Form) (lines : List (List ℕ)) (forms others : List Form)
-    → AreFaultless before lines forms → AreFaultless before lines others → forms ≡ others
+same_form : (o : Option Form) (form other : Form) → o ≡ Some form → o ≡ Some other → form ≡ other
+same_form o form other d e = cc
+
+one_reading : (before : List Form) (lines : List (List ℕ)) (forms others : List Form) → AreFaultless before lines forms → AreFaultless before lines others → forms ≡ others
 one_reading before [] [] [] a b = refl
 one_reading before [] [] (other ∷ others) a b = absurd b
 one_reading before [] (form ∷ forms) others a b = absurd a
@@ -414,45 +416,109 @@ one_reading before (line ∷ lines) (form ∷ forms) (other ∷ others) a b =
     let rest = one_reading (before ++ form ∷ []) lines forms others a.1 (subst (λ (g : Form). AreFaultless (before ++ g ∷ []) lines others) (sym same) b.1) in
     λ i. same i ∷ rest i
 
--- ---- what `read_script` promises
-
-pub is_script : (bytes : List ℕ) (s : State) (script : Script) → length bytes ≤ 16777216 → run start (input_lines bytes) ≡ Some s → s.stage ≡ Ended
-    → script.tasks ≡ s.tasks → script.shape ≡ shape_of (length s.tasks) → script.room ≡ 4 → IsScript bytes script
-is_script bytes s script within is ended tasks shape room =
-    let read = run_reads (input_lines bytes) s ended is in
-    let all = tasks ∙ read.tasks in
-    let sized = shape ∙ ap (λ (ts : List TaskDef). shape_of (length ts)) read.tasks in
-    record {
-      within = within;
-      forms = read.forms;
-      faultless = read.faultless;
-      ended = read.ended;
-      says = λ i. record { shape = sized i; room = room i; tasks = all i };
-    }
-
 pub one_script : (bytes : List ℕ) (script other : Script) → IsScript bytes script → IsScript bytes other → other ≡ script
 one_script bytes script other a b =
     b.says ∙ ap script_of (one_reading [] (input_lines bytes) b.forms a.forms b.faultless a.faultless) ∙ sym a.says
 
-pub not_script : (bytes : List ℕ) → run start (input_lines bytes) ≡ None → NotScript bytes
-not_script bytes is = λ script a. subst (RunHolds start [] (input_lines bytes)) is (run_holds start [] start_follows (input_lines bytes)) a.forms a.faultless
+pub few_tasks : (bytes : List ℕ) (s : State) → verdict bytes ≡ Ok s → length s.tasks ≤ 200
+few_tasks bytes s e = let keeps = verdict_keeps bytes s e in let counted = keeps.counted in let few = keeps.few in omega (arith, length-append s.tasks (option_to_list (option_map source_task s.source)))
 
-pub not_ended : (bytes : List ℕ) (s : State) → run start (input_lines bytes) ≡ Some s → (s.stage ≡ Ended → ⊥) → NotScript bytes
-not_ended bytes s is open_end = λ script a.
-    let h = subst (RunHolds start [] (input_lines bytes)) is (run_holds start [] start_follows (input_lines bytes)) in
-    let same = one_reading [] (input_lines bytes) h.0 a.forms h.1.0 a.faultless in
-    open_end (h.1.1.0.stage ∙ ap stage_after (ap (λ (forms : List Form). last_or None forms) same ∙ a.ended))
-
-pub not_within : (bytes : List ℕ) → 16777216 < length bytes → NotScript bytes
-not_within bytes long = λ script a. let w = a.within in omega arith
-
--- an error that isn't want of memory, and no state with it
-pub refused : {Y : Type 0} (error : ScriptError) (read : Option Y) → Refuses error read → (fault : ScriptFault) → error ≡ errors.Bad fault → (fault ≡ the_fault) × (read ≡ None)
+-- an error that isn't want of memory
+pub refused : {Y : Type 0} (error : ScriptError) (read : Result Y ScriptFault) → Fails error read → (fault : ScriptFault) → error ≡ errors.Bad fault → read ≡ Err fault
 refused errors.NoMemory read h fault e = absurd cc
-refused (errors.Bad other) read h fault e = let same : other ≡ fault = cc in (sym same ∙ h.0, h.1)
+refused (errors.Bad other) read h fault e = let same : other ≡ fault = cc in rw (← same) h
 
-abbrev bad : ScriptFault → Result Script ScriptError
-bad fault = Err (errors.Bad fault)
+-- ---- the first fault is the reader's
 
-pub fault_is : (fault : ScriptFault) → bad the_fault ≡ bad fault → fault ≡ the_fault
-fault_is fault e = cc
+form_there : (s : SoFar) (line : List ℕ) → line_code s line ≡ None → (form : Form) × (form_of line ≡ Some form)
+form_there s line e = at (form_of line) refl
+  where
+    at : (o : Option Form) → form_of line ≡ o → (form : Form) × (form_of line ≡ Some form)
+    at None is = let none = ap (form_code s) (sym is) ∙ code_at (nat_lt 4096 (length line)) (form_code s (form_of line)) e in absurd cc
+    at (Some form) is = (form, is)
+
+module _ (bytes : List ℕ) (front : List (List ℕ)) (forms : List Form) (all : AreFaultless [] front forms) where
+  behind : Passed 1 start [] front forms
+  behind = passes_on 1 start [] start_held front forms all
+
+  -- a line that has a code of its own
+  stops_at : (line : List ℕ) (more : List (List ℕ)) (code : ℕ) → judged_lines bytes ≡ front ++ line ∷ more → line_code (so_far forms) line ≡ Some code
+      → verdict bytes ≡ Err (fault_at (length front + 1) code)
+  unfolding verdict
+  stops_at line more code whole e =
+      let on = behind in
+      let number : 1 + length front ≡ length front + 1 = omega arith in
+      let ran : run 1 start (judged_lines bytes) ≡ Err (fault_at (length front + 1) code) =
+      ap (run 1 start) whole ∙ on.passes (line ∷ more)
+      ∙ ap (λ (r : Result State ScriptFault). and_then r (λ t. run (1 + length front + 1) t more)) (step_stops (1 + length front) on.state forms on.held_is line code e)
+      ∙ ap (λ (n : ℕ). Err (fault_at n code)) number in
+      rw ran refl
+
+  -- the last line, which has the byte too many
+  stops_over : (line : List ℕ) → is_over bytes ≡ true → judged_lines bytes ≡ front ++ line ∷ [] → line_code (so_far forms) line ≡ None
+      → verdict bytes ≡ Err (fault_at (length front + 1) 16)
+  unfolding verdict
+  stops_over line over whole e =
+      let on = behind in
+      let form = form_there (so_far forms) line e in
+      let fl : IsFaultless forms line form.0 = record { formed = form.1; good = e } in
+      let ran : run 1 start (judged_lines bytes) ≡ Ok (next on.state form.0) =
+      ap (run 1 start) whole ∙ on.passes (line ∷ [])
+      ∙ ap (λ (r : Result State ScriptFault). and_then r (λ t. run (1 + length front + 1) t [])) (step_passes (1 + length front) on.state forms on.held_is line form.0 fl) in
+      let number : length (judged_lines bytes) ≡ length front + 1 = ap length whole ∙ length-append front (line ∷ []) in
+      rw (over, ran, number) refl
+
+  -- no line is faulty, and `end` hasn't stood
+  stops_without_end : is_over bytes ≡ false → judged_lines bytes ≡ front → list_any is_end forms ≡ false → verdict bytes ≡ Err (fault_at (length front + 1) 11)
+  unfolding verdict
+  stops_without_end over whole open_end =
+      let on = behind in
+      let ran : run 1 start (judged_lines bytes) ≡ Ok on.state = ap (run 1 start) (whole ∙ sym (append-nil front)) ∙ on.passes [] in
+      let ended : on.state.ended ≡ false = ap (λ (r : SoFar). r.ended) on.held_is ∙ open_end in
+      let number : length (judged_lines bytes) ≡ length front = ap length whole in
+      rw (over, ran, ended, number) refl
+
+  line_stops : (line : List ℕ) (more : List (List ℕ)) (code : ℕ) (own : Option ℕ) → judged_lines bytes ≡ front ++ line ∷ more → line_code (so_far forms) line ≡ own
+      → (over : Bool) → is_over bytes ≡ over → code_of over more (so_far forms) line ≡ Some code → verdict bytes ≡ Err (fault_at (length front + 1) code)
+  line_stops line more code (Some own) whole e over is faulty =
+      let same : own ≡ code = let c = sym (code_from over more (so_far forms) line own e) ∙ faulty in cc in
+      subst (λ (n : ℕ). verdict bytes ≡ Err (fault_at (length front + 1) n)) same (stops_at line more own whole e)
+  line_stops line [] code None whole e true is faulty =
+      let same : 16 ≡ code = let c = ap (λ (o : Option ℕ). Some (unwrap_or o 16)) (sym e) ∙ faulty in cc in
+      subst (λ (n : ℕ). verdict bytes ≡ Err (fault_at (length front + 1) n)) same (stops_over line is whole e)
+  line_stops line (other ∷ more) code None whole e true is faulty = let c = sym e ∙ faulty in absurd cc
+  line_stops line more code None whole e false is faulty = let c = sym e ∙ faulty in absurd cc
+
+  faulty_stops : (code : ℕ) → IsFaulty bytes front (so_far forms) code → verdict bytes ≡ Err (fault_at (length front + 1) code)
+  faulty_stops code (faulty_line line more whole faulty) = line_stops line more code (line_code (so_far forms) line) whole refl (is_over bytes) refl faulty
+  faulty_stops code (no_end over whole open_end eleven) =
+      subst (λ (n : ℕ). verdict bytes ≡ Err (fault_at (length front + 1) n)) (sym eleven) (stops_without_end over whole open_end)
+
+fault_verdict : (bytes : List ℕ) (line code : ℕ) → FirstFault bytes line code → verdict bytes ≡ Err (fault_at line code)
+fault_verdict bytes line code h =
+    subst (λ (n : ℕ). verdict bytes ≡ Err (fault_at n code)) (sym h.numbered) (faulty_stops bytes h.front h.forms h.faultless code h.faulty)
+
+-- ---- each input is one script, or has one first fault
+
+script_at_end : State → Script
+script_at_end s = record { shape = shape_of (unwrap_or s.cpus 1) s.caches (length s.tasks); room = unwrap_or s.room 4; tasks = s.tasks }
+
+some_verdict : (bytes : List ℕ) (r : Result State ScriptFault) → VerdictHolds bytes r → ((s : Script) × IsScript bytes s) ⊎ ((f : ScriptFault) × FirstFault bytes f.line f.code)
+unfolding script_at_end
+some_verdict bytes (Ok s) h = inl (script_at_end s, h (script_at_end s) (refl, refl, refl))
+some_verdict bytes (Err fault) h = inr (fault, h)
+
+pub script_or_fault : (bytes : List ℕ) → ((s : Script) × IsScript bytes s) ⊎ ((f : ScriptFault) × FirstFault bytes f.line f.code)
+script_or_fault bytes = some_verdict bytes (verdict bytes) (verdict_holds bytes)
+
+pub not_both : (bytes : List ℕ) (script : Script) (line code : ℕ) → IsScript bytes script → FirstFault bytes line code → ⊥
+not_both bytes script line code a h = let s = script_verdict bytes script a in let both = sym s.1 ∙ fault_verdict bytes line code h in cc
+
+abbrev failed : ScriptFault → Result State ScriptFault
+failed fault = Err fault
+
+same_fault : (line code other_line other_code : ℕ) → failed (fault_at line code) ≡ failed (fault_at other_line other_code) → (line ≡ other_line) × (code ≡ other_code)
+same_fault line code other_line other_code e = let f : fault_at line code ≡ fault_at other_line other_code = cc in (ap (λ (g : ScriptFault). g.line) f, ap (λ (g : ScriptFault). g.code) f)
+
+pub one_fault : (bytes : List ℕ) (line code other_line other_code : ℕ) → FirstFault bytes line code → FirstFault bytes other_line other_code → (line ≡ other_line) × (code ≡ other_code)
+one_fault bytes line code other_line other_code a b = same_fault line code other_line other_code (sym (fault_verdict bytes line code a) ∙ fault_verdict bytes other_line other_code b)

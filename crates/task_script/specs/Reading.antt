@@ -1,30 +1,55 @@
--- What the reader holds, and what one line does to it. `Script` says what a script is; the two are shown to agree.
-use Rattle.std.specs.Prelude.{◌≡◌, ℕ, ◌+◌, Bool, true, false, ◌&&◌, not, ◌==◌, ◌-◌, nat_lt, nat_le, if◌then◌else◌, List, [], ◌∷◌, ◌++◌, length, map, slice_index, Option, Some, None, Result, Ok, Err, ⊤}
-use Rattle.std.specs.Option.{is_none, option_map, option_to_list, option_and_then}
-use Rattle.task_script.specs.declared.reader.Stage.{Stage}
-use Rattle.task_script.specs.declared.reader.Stage.TheVariants.{Start, Inside, Ended}
+-- What the reader holds, and what one line does to it. `Script` says what a script is and which fault is the first; the
+-- two are shown to agree.
+use Rattle.std.specs.Prelude.{◌≡◌, ℕ, ◌+◌, ◌<◌, ◌≤◌, ◌^◌, Bool, true, false, IsTrue, if◌then◌else◌, List, [], ◌∷◌, ◌++◌, length, Option, Some, None, Result, Ok, Err, unwrap_or, ⊤}
+use Rattle.std.specs.Option.{IsSomeAnd, is_some, option_map, option_to_list}
 use Rattle.task_script.specs.declared.reader.Source.{Source}
 use Rattle.task_script.specs.declared.reader.Reader.{Reader}
-use Rattle.task_script.specs.declared.plan.Plan.{Plan}
-use Rattle.task_script.specs.declared.plan.Plan.TheVariants as plan
 use Rattle.task_script.specs.declared.script.TaskDef.{TaskDef}
+use Rattle.task_script.specs.declared.script.Script.{Script}
 use Rattle.task_script.specs.declared.script.ScriptFault.{ScriptFault}
 use Rattle.task_script.specs.declared.script.ScriptError.{ScriptError}
 use Rattle.task_script.specs.declared.script.ScriptError.TheVariants as errors
-use Rattle.task_script.specs.Forms.{Kind, lines_kind, upper_kind, number_kind, Form, cpus_line, task_line, text_line, end_line, form_of, is_name}
-use Rattle.task_script.specs.Script.{number_of, task_of}
+use Rattle.task_script.specs.Forms.{value_of, is_name, Kind, lines_kind, reads, Form, skip_line, cpus_line, caches_line, room_line, task_line, text_line, end_line, form_of}
+use Rattle.task_script.specs.Script.{shape_of, task_of, SoFar, line_code, judged_lines, is_over}
 
--- the tasks so far, apart from a `lines` task whose texts may still come
+-- what the lines so far come to, and their tasks; a `lines` task whose texts may still come stands apart
 pub record State : Type 0 where
-  pub stage : Stage
+  pub cpus : Option ℕ
+  pub caches : Option ℕ
+  pub room : Option ℕ
+  pub names : List (List ℕ)
+  pub sources : List (List ℕ)
+  pub ended : Bool
   pub tasks : List TaskDef
   pub source : Option Source
 
 abbrev pub state_of : Reader → State
-state_of reader = record { stage = reader.stage; tasks = reader.tasks.items; source = reader.source }
+state_of r =
+    record {
+      cpus = r.cpus;
+      caches = r.caches;
+      room = r.room;
+      names = r.names.items;
+      sources = r.sources.items;
+      ended = r.ended;
+      tasks = r.tasks.items;
+      source = r.source;
+    }
 
 abbrev pub start : State
-start = record { stage = Start; tasks = []; source = None }
+start = record { cpus = None; caches = None; room = None; names = []; sources = []; ended = false; tasks = []; source = None }
+
+abbrev pub held : State → SoFar
+held s =
+    record {
+      cpus = s.cpus;
+      caches = s.caches;
+      room = s.room;
+      names = s.names;
+      sources = s.sources;
+      texts = is_some s.source;
+      ended = s.ended;
+    }
 
 abbrev pub source_task : Source → TaskDef
 source_task source = task_of [] source.name lines_kind source.texts
@@ -32,78 +57,94 @@ source_task source = task_of [] source.name lines_kind source.texts
 abbrev pub all_tasks : State → List TaskDef
 all_tasks s = s.tasks ++ option_to_list (option_map source_task s.source)
 
-abbrev pub names : List TaskDef → List (List ℕ)
-names tasks = map (λ task. task.name) tasks
+-- after the last text of a source
+abbrev pub closed : State → State
+closed s = record s { tasks = all_tasks s; source = None }
 
-abbrev pub is_in : Stage → Bool
-is_in Start = false
-is_in Inside = true
-is_in Ended = false
+-- the source that a task of this kind is
+abbrev pub opened : List ℕ → Kind → Option Source
+opened name lines_kind = Some (record { name = name; texts = [] })
+opened name kind = None
 
-abbrev pub is_start : Stage → Bool
-is_start Start = true
-is_start Inside = false
-is_start Ended = false
+-- the task of this kind, unless it is a source whose texts are still to come
+abbrev pub added : List (List ℕ) → List ℕ → Kind → List TaskDef
+added names name lines_kind = []
+added names name kind = task_of names name kind [] ∷ []
 
--- a task that reads the last of the tasks, whose number was found
-abbrev pub add_reader : List TaskDef → List ℕ → Plan → Option ℕ → Option State
-add_reader tasks name plan None = None
-add_reader tasks name plan (Some number) =
-    if number + 1 == length tasks
-    then Some (record { stage = Inside; tasks = tasks ++ record { name = name; plan = plan; from = number ∷ [] } ∷ []; source = None })
-    else None
+-- a line of this form, after the last text of a source
+abbrev pub settled : State → Form → State
+settled s (cpus_line number) = record s { cpus = Some (value_of number) }
+settled s (caches_line number) = record s { caches = Some (value_of number) }
+settled s (room_line number) = record s { room = Some (value_of number) }
+settled s (task_line name kind) =
+    record s {
+      names = s.names ++ name ∷ [];
+      sources = s.sources ++ reads kind;
+      tasks = s.tasks ++ added s.names name kind;
+      source = opened name kind;
+    }
+settled s end_line = record s { ended = true }
+settled s _ = s
 
--- a task after these tasks, by its kind
-abbrev pub add_kind : List TaskDef → List ℕ → Kind → Option State
-add_kind tasks name lines_kind =
-    if length tasks == 0
-    then Some (record { stage = Inside; tasks = tasks; source = Some (record { name = name; texts = [] }) })
-    else None
-add_kind tasks name (upper_kind from) = add_reader tasks name plan.Upper (number_of (names tasks) from)
-add_kind tasks name (number_kind from) = add_reader tasks name (plan.Number 1) (number_of (names tasks) from)
-
--- whether a task of this name may come next
-abbrev pub is_open : List (List ℕ) → List ℕ → Bool
-is_open tasks name = nat_lt (length tasks) 200 && is_none (number_of tasks name)
-
-abbrev pub add_task : List TaskDef → List ℕ → Kind → Option State
-add_task tasks name kind = if is_open (names tasks) name then add_kind tasks name kind else None
-
--- a text at the end of the source's
-abbrev pub add_text : State → Option Source → List ℕ → Option State
-add_text s None text = None
-add_text s (Some source) text =
-    Some (record { stage = s.stage; tasks = s.tasks; source = Some (record { name = source.name; texts = source.texts ++ text ∷ [] }) })
+abbrev pub with_text : Option Source → List ℕ → Option Source
+with_text None text = None
+with_text (Some source) text = Some (record { name = source.name; texts = source.texts ++ text ∷ [] })
 
 -- a line of this form
-unfoldable pub step : State → Form → Option State
-step s cpus_line = if is_start s.stage then Some (record { stage = Inside; tasks = s.tasks; source = s.source }) else None
-step s (task_line name kind) = if is_in s.stage && is_name name then add_task (all_tasks s) name kind else None
-step s (text_line text) = add_text s s.source text
-step s end_line = if is_in s.stage then Some (record { stage = Ended; tasks = all_tasks s; source = None }) else None
+abbrev pub next : State → Form → State
+next s skip_line = s
+next s (text_line text) = record s { source = with_text s.source text }
+next s form = settled (closed s) form
 
--- whether a line is short enough and has no carriage return at its end
-abbrev pub is_plain : List ℕ → Bool
-is_plain line = nat_le (length line) 4096 && not (slice_index line (length line - 1) == 13)
+-- numbers and names that the reader can keep
+abbrev pub CanSettle : SoFar → Form → Type 0
+CanSettle s (cpus_line number) = value_of number < 2 ^ 32
+CanSettle s (caches_line number) = IsSomeAnd s.cpus (λ cpus. value_of number ≤ cpus)
+CanSettle s (room_line number) = value_of number < 2 ^ 32
+CanSettle s (task_line name kind) = IsTrue (is_name name) × (length s.names < 200)
+CanSettle s _ = ⊤
 
--- a line
-unfoldable pub step_line : State → List ℕ → Option State
-step_line s line = if is_plain line then option_and_then (step s) (form_of line) else None
+-- ---- a line, the lines, and the whole input
 
--- the lines, one after another
-abbrev pub run : State → List (List ℕ) → Option State
-run s [] = Some s
-run s (line ∷ lines) = option_and_then (λ t. run t lines) (step_line s line)
+abbrev pub fault_at : ℕ → ℕ → ScriptFault
+fault_at line code = record { line = line; code = code }
 
--- the one fault of the first form of scripts
-abbrev pub the_fault : ScriptFault
-the_fault = record { line = 1; code = 2 }
+abbrev pub stepped : ℕ → State → Option ℕ → Option Form → Result State ScriptFault
+stepped line s (Some code) form = Err (fault_at line code)
+stepped line s None None = Ok s
+stepped line s None (Some form) = Ok (next s form)
 
--- what a function returned is what reading gives, unless memory ran out
-abbrev pub Refuses : {Y : Type 0} → ScriptError → Option Y → Type 0
-Refuses errors.NoMemory read = ⊤
-Refuses (errors.Bad fault) read = (fault ≡ the_fault) × (read ≡ None)
+unfoldable pub step : ℕ → State → List ℕ → Result State ScriptFault
+step number s line = stepped number s (line_code (held s) line) (form_of line)
 
-abbrev pub Gives : {X Y : Type 0} → (X → Y) → Result X ScriptError → Option Y → Type 0
-Gives view (Ok x) read = read ≡ Some (view x)
-Gives view (Err error) read = Refuses error read
+abbrev pub and_then : Result State ScriptFault → (State → Result State ScriptFault) → Result State ScriptFault
+and_then (Err fault) more = Err fault
+and_then (Ok s) more = more s
+
+abbrev pub run : ℕ → State → List (List ℕ) → Result State ScriptFault
+run number s [] = Ok s
+run number s (line ∷ lines) = and_then (step number s line) (λ t. run (number + 1) t lines)
+
+abbrev pub judged : Bool → ℕ → Result State ScriptFault → Result State ScriptFault
+judged over lines (Err fault) = Err fault
+judged over lines (Ok s) =
+    if over then Err (fault_at lines 16)
+    else if s.ended then Ok s
+    else Err (fault_at (lines + 1) 11)
+
+unfoldable pub verdict : List ℕ → Result State ScriptFault
+verdict bytes = judged (is_over bytes) (length (judged_lines bytes)) (run 1 start (judged_lines bytes))
+
+-- what a function returned is what reading gives, seen by view, unless memory ran out
+abbrev pub Fails : {Y : Type 0} → ScriptError → Result Y ScriptFault → Type 0
+Fails errors.NoMemory read = ⊤
+Fails (errors.Bad fault) read = read ≡ Err fault
+
+abbrev pub Gives : {X Y : Type 0} → (X → Y) → Result X ScriptError → Result Y ScriptFault → Type 0
+Gives view (Ok x) read = read ≡ Ok (view x)
+Gives view (Err error) read = Fails error read
+
+-- the script of what the reader has at the end
+abbrev pub IsScriptOf : State → Script → Type 0
+IsScriptOf s script =
+    (script.tasks ≡ s.tasks) × (script.shape ≡ shape_of (unwrap_or s.cpus 1) s.caches (length s.tasks)) × (script.room ≡ unwrap_or s.room 4)

@@ -2,12 +2,14 @@
 #![tactic(auto)]
 
 mod form;
+mod law;
 mod lists;
 mod pieces;
 mod plan;
 mod reader;
 mod script;
 
+pub use law::law_script;
 pub use lists::{Sources, Tasks};
 pub use plan::Plan;
 pub use reader::{SCRIPT_LIMIT, read_script};

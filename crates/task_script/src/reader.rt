@@ -1,21 +1,21 @@
-ghost use Rattle.std.specs.Prelude.{◌≡◌, ◌≤◌, ◌<◌, ℕ, List, IsTrue, length, map, Err, IfOk, OnOk, OnErr, vec_len};
+ghost use Rattle.std.specs.Prelude.{◌≡◌, ◌≤◌, ◌<◌, ◌^◌, ℕ, [], ◌++◌, IsTrue, Some, length, take, None, ◌∷◌, Err, IfOk, OnOk, vec_len};
+ghost use Rattle.std.specs.List.{list_any, filter_map};
 ghost use Rattle.std.specs.Str.{bytes_eq};
 ghost use Rattle.handoff_data.specs.Line.{IsLine};
 ghost use Rattle.task_script.specs.Lines.{input_lines};
-ghost use Rattle.task_script.specs.declared.reader.Stage.TheVariants.{Inside};
-ghost use Rattle.task_script.specs.Forms.{form_seen, kind_of, is_name, HasLineText};
+ghost use Rattle.task_script.specs.Forms.{value_of, is_name, reads, kind_of, task_line, text_line, form_seen, HasLinePrefix, HasLineSources, HasLineText};
+ghost use Rattle.task_script.specs.Script.{SoFar, number_of, plan_of, lacks_task, reads_again, is_bad_group, has_bad_count, faults, lowest, form_code, IsScript, NotScript, FirstFault};
 ghost use Rattle.task_script.specs.declared.script.Script.{Script};
 ghost use Rattle.task_script.specs.declared.script.ScriptFault.{ScriptFault};
-ghost use Rattle.task_script.specs.Chain.{IsChain};
-ghost use Rattle.task_script.specs.Script.{number_of, shape_of, IsScript, NotScript};
-ghost use Rattle.task_script.specs.Reading.{Gives, state_of, start, all_tasks, names, step, step_line, run, add_reader, add_task, add_text};
+ghost use Rattle.task_script.specs.Forest.{IsForest};
+ghost use Rattle.task_script.specs.Reading.{Gives, IsScriptOf, state_of, start, held, all_tasks, closed, opened, added, settled, next, CanSettle, step, run, verdict};
 
-use crate::form::{Form, Kind, form_of, is_name};
+use crate::form::{Form, Inputs, Kind, form_of, is_name, is_within, number_in, sources_of};
 use crate::lists::{Sources, Tasks};
 use crate::pieces::next_line;
 use crate::plan::Plan;
 use crate::script::{Script, ScriptError, ScriptFault, TaskDef};
-use handoff_data::{Line, Lines, NoMemory, Shape};
+use handoff_data::{Line, Lines, NoMemory, Shape, TaskNo};
 use std::alloc::Global;
 
 /// How many bytes a script has at most.
@@ -27,19 +27,15 @@ const LINE_LIMIT: usize = 4_096;
 // How many tasks a script has at most.
 const TASK_LIMIT: usize = 200;
 
-// How many items a ring has room for.
+// How many processors there are at most, and how many items a ring has room for at most and by default.
+const CPU_LIMIT: u64 = 16;
+
+const ROOM_LIMIT: u64 = 64;
+
 const ROOM: u32 = 4;
 
-// The one refusal of the first form of scripts.
-const BAD: ScriptError = ScriptError::Bad(ScriptFault { line: 1, code: 2 });
-
-// How far the lines have come.
-#[derive(Clone, Copy, PartialEq, Eq)]
-enum Stage {
-    Start,
-    Inside,
-    Ended,
-}
+// The largest number of a `count` and of a `pin`.
+const COUNT_LIMIT: u64 = 1_000_000;
 
 // A `lines` task whose texts may still come.
 #[derive(Drop)]
@@ -48,12 +44,79 @@ struct Source {
     texts: Lines,
 }
 
-// What the lines so far say.
+// What the lines so far come to.
 #[derive(Drop)]
 struct Reader {
-    stage: Stage,
+    cpus: Option<u32>,
+    caches: Option<u32>,
+    room: Option<u32>,
+    // The names of the tasks, and those that stand after a `from`.
+    names: Vec<Line>,
+    sources: Vec<Line>,
+    ended: bool,
+    // The tasks, apart from a source whose texts may still come.
     tasks: Vec<TaskDef>,
     source: Option<Source>,
+}
+
+// Whether the numbers of this kind are none, or out of range.
+fn has_bad_count(kind: Kind) -> bool
+    ensures { result ≡ has_bad_count (kind_of kind.entry) }
+{
+    match kind {
+        Kind::Count(number) => !is_within(0, COUNT_LIMIT, number),
+        Kind::Pin(number, _) => !is_within(1, COUNT_LIMIT, number),
+        _ => false,
+    }
+}
+
+// The number that a word is, or 0.
+fn value_of(word: &[u8]) -> u64
+    ensures { result ≡ value_of word.now }
+{
+    number_in(word).unwrap_or(0)
+}
+
+// A copy of these bytes as a line.
+fn line_of(alloc: Global, bytes: &[u8]) -> Result<Line, NoMemory>
+    requires { IsLine bytes.now }
+    ensures { IfOk result (λ line. line ≡ bytes.now) }
+{
+    Ok(Line::new(Vec::from_slice(alloc, bytes)?))
+}
+
+// The plan of this kind as it begins, where it isn't a source of lines.
+fn plan_of(alloc: Global, kind: Kind) -> Result<Plan, NoMemory>
+    requires { HasLinePrefix (kind_of kind) }
+    ensures { IfOk result (λ plan. plan ≡ plan_of (kind_of kind.entry) []) }
+{
+    Ok(match kind {
+        Kind::Lines => Plan::Lines {
+            left: Lines::new(alloc),
+        },
+        Kind::Count(number) => Plan::Count {
+            next: 1,
+            last: value_of(number),
+        },
+        Kind::Upper(_) => Plan::Upper,
+        Kind::Number(_) => Plan::Number { next: 1 },
+        Kind::Keep(prefix, _) => Plan::Keep {
+            prefix: line_of(alloc, prefix)?,
+        },
+        Kind::Drop(prefix, _) => Plan::Drop {
+            prefix: line_of(alloc, prefix)?,
+        },
+        Kind::Tally(_) => Plan::Tally { n: 0 },
+        Kind::Pin(number, _) => Plan::Pin {
+            left: value_of(number),
+            on: false,
+        },
+        Kind::Cat(_, _) => Plan::Cat { side: 0 },
+        Kind::Weave(_, _) => Plan::Weave {
+            side: 0,
+            ended: false,
+        },
+    })
 }
 
 impl Reader {
@@ -61,17 +124,159 @@ impl Reader {
         ensures { state_of result ≡ start }
     {
         Reader {
-            stage: Stage::Start,
+            cpus: None,
+            caches: None,
+            room: None,
+            names: Vec::new(alloc),
+            sources: Vec::new(alloc),
+            ended: false,
             tasks: Vec::new(alloc),
             source: None,
         }
     }
 
+    // The number of the task of this name, if there is one.
+    fn number_of(&self, name: &[u8]) -> Option<usize>
+        ensures { result ≡ number_of self.now.names.items name.now }
+    {
+        self.names.iter().position(
+            |other: &Line| -> bool
+                ensures { result ≡ bytes_eq other.now name.entry.now }
+            { other.as_slice() == name },
+        )
+    }
+
+    // Whether this name stands after an earlier `from`.
+    fn is_read(&self, name: &[u8]) -> bool
+        ensures { result ≡ list_any (λ other. bytes_eq other name.now) self.now.sources.items }
+    {
+        self.sources.iter().any(
+            |other: &Line| -> bool
+                ensures { result ≡ bytes_eq other.now name.entry.now }
+            { other.as_slice() == name },
+        )
+    }
+
+    // Whether a task of this kind reads a name that isn't a task's.
+    fn lacks_task(&self, kind: Kind) -> bool
+        ensures { result ≡ lacks_task self.now.names.items (reads (kind_of kind.entry)) }
+    {
+        match sources_of(kind) {
+            Inputs::Nothing => false,
+            Inputs::One(source) => self.number_of(source).is_none(),
+            Inputs::Two(first, second) => {
+                self.number_of(first).is_none() || self.number_of(second).is_none()
+            }
+        }
+    }
+
+    // Whether a task of this kind reads a name that is read already.
+    fn reads_again(&self, kind: Kind) -> bool
+        ensures { result ≡ reads_again self.now.sources.items (reads (kind_of kind.entry)) }
+    {
+        match sources_of(kind) {
+            Inputs::Nothing => false,
+            Inputs::One(source) => self.is_read(source),
+            Inputs::Two(first, second) => {
+                self.is_read(first) || first == second || self.is_read(second)
+            }
+        }
+    }
+
+    // Whether a word isn't the size of a cache group.
+    fn is_bad_group(&self, number: &[u8]) -> bool
+        ensures { result ≡ is_bad_group self.now.cpus number.now }
+    {
+        match self.cpus {
+            Some(cpus) => !is_within(1, cpus as u64, number),
+            None => number_in(number).is_none(),
+        }
+    }
+
+    // The lowest code of a task line.
+    fn task_code(&self, name: &[u8], kind: Kind) -> Option<u32>
+        ensures { result ≡ lowest (faults (held (state_of self.now)) (task_line name.now (kind_of kind.entry))) }
+    {
+        if has_bad_count(kind) {
+            return Some(3);
+        }
+        if !is_name(name) {
+            return Some(4);
+        }
+        if self.number_of(name).is_some() {
+            return Some(5);
+        }
+        if self.lacks_task(kind) {
+            return Some(6);
+        }
+        if self.reads_again(kind) {
+            return Some(7);
+        }
+        if self.names.len() >= TASK_LIMIT {
+            return Some(8);
+        }
+        if self.cpus.is_none() {
+            return Some(10);
+        }
+        None
+    }
+
+    // The lowest code of a line of this form, before `end`.
+    fn lowest_code(&self, form: Form) -> Option<u32>
+        ensures { result ≡ lowest (faults (held (state_of self.now)) (form_seen form.entry)) }
+    {
+        match form {
+            Form::Skip => None,
+            Form::Cpus(number) => {
+                if !is_within(1, CPU_LIMIT, number) {
+                    return Some(3);
+                }
+                if self.cpus.is_some() { Some(10) } else { None }
+            }
+            Form::Caches(number) => {
+                if self.is_bad_group(number) {
+                    return Some(3);
+                }
+                if self.cpus.is_none() || self.caches.is_some() || !self.names.is_empty() {
+                    return Some(10);
+                }
+                None
+            }
+            Form::Room(number) => {
+                if !is_within(1, ROOM_LIMIT, number) {
+                    return Some(3);
+                }
+                if self.cpus.is_none() || self.room.is_some() || !self.names.is_empty() {
+                    return Some(10);
+                }
+                None
+            }
+            Form::Task { name, kind } => self.task_code(name, kind),
+            Form::Text(_) => if self.source.is_none() {
+                Some(14)
+            } else {
+                None
+            },
+            Form::End => if self.cpus.is_none() { Some(10) } else { None },
+        }
+    }
+
+    // The code of a line of this form, if it has a fault.
+    fn form_code(&self, form: Form) -> Option<u32>
+        ensures { result ≡ form_code (held (state_of self.now)) (Some (form_seen form.entry)) }
+    {
+        if self.ended {
+            return match form {
+                Form::Skip => None,
+                _ => Some(12),
+            };
+        }
+        self.lowest_code(form)
+    }
+
     // Ends the texts of a `lines` task.
     fn close(&mut self, alloc: Global) -> Result<(), NoMemory>
-        ensures tasks { OnOk result (self.new.tasks.items ≡ all_tasks (state_of self.old)) }
-        ensures source { OnOk result (self.new.source ≡ None) }
-        ensures stage { self.new.stage ≡ self.old.stage }
+        ensures { OnOk result (state_of self.new ≡ closed (state_of self.old)) }
     {
         if let Some(Source { name, texts }) = self.source.take() {
             self.tasks.push(TaskDef {
@@ -83,181 +288,232 @@ impl Reader {
         Ok(())
     }
 
-    // The number of the task of this name, if there is one.
-    fn number_of(&self, name: &[u8]) -> Option<usize>
-        ensures { result ≡ number_of (names self.now.tasks.items) name.now }
+    // Adds a text to the `lines` task that is open, if there is one.
+    fn add_text(&mut self, alloc: Global, text: &[u8]) -> Result<(), NoMemory>
+        requires { IsLine text.now }
+        ensures { OnOk result (state_of self.new ≡ next (state_of self.old) (text_line text.now)) }
     {
-        self.tasks.iter().position(
-            |task: &TaskDef| -> bool
-                ensures { result ≡ bytes_eq task.now.name name.entry.now }
-            { task.name.as_slice() == name },
-        )
-    }
-
-    // A task that reads the one just before it.
-    fn add_reader(
-        &mut self,
-        alloc: Global,
-        name: Line,
-        from: &[u8],
-        plan: Plan,
-    ) -> Result<(), ScriptError>
-        requires few { vec_len self.old.tasks < 200 }
-        requires inside { self.old.stage ≡ Inside }
-        requires closed { self.old.source ≡ None }
-        ensures { Gives (λ _. state_of self.new) result
-            (add_reader self.old.tasks.items name plan (number_of (names self.old.tasks.items) from.now)) }
-    {
-        let Some(number) = self.number_of(from) else {
-            return Err(BAD);
-        };
-        if number + 1 != self.tasks.len() {
-            return Err(BAD);
+        if let Some(mut source) = self.source.take() {
+            source.texts.push(line_of(alloc, text)?)?;
+            self.source = Some(source);
         }
-        let from = Sources::from_vec(vec![in alloc; number as u32]?);
-        self.tasks.push(TaskDef { name, plan, from })?;
         Ok(())
     }
 
-    // The next task, by its kind.
-    fn add_task(&mut self, alloc: Global, name: &[u8], kind: Kind) -> Result<(), ScriptError>
-        requires named { IsTrue (is_name name.now) }
-        requires inside { self.old.stage ≡ Inside }
-        requires closed { self.old.source ≡ None }
-        ensures { Gives (λ _. state_of self.new) result (add_task self.old.tasks.items name.now (kind_of kind.entry)) }
+    // Adds the number of a task to those that a task reads.
+    fn add_source(&self, from: &mut Vec<TaskNo>, name: &[u8]) -> Result<(), NoMemory>
+        requires { vec_len self.now.names < 200 }
+        ensures { OnOk result (from.new.items ≡ from.old.items ++ filter_map (number_of self.now.names.items) (name.now ∷ [])) }
     {
-        if self.tasks.len() >= TASK_LIMIT || self.number_of(name).is_some() {
-            return Err(BAD);
+        if let Some(number) = self.number_of(name) {
+            from.push(number as TaskNo)?;
         }
-        let name = Line::new(Vec::from_slice(alloc, name)?);
+        Ok(())
+    }
+
+    // The numbers of the tasks that a task of this kind reads.
+    fn numbers_of(&self, alloc: Global, kind: Kind) -> Result<Sources, NoMemory>
+        requires { vec_len self.now.names < 200 }
+        ensures { IfOk result (λ from. from ≡ filter_map (number_of self.now.names.items) (reads (kind_of kind.entry))) }
+    {
+        let mut from = Vec::new(alloc);
+        match sources_of(kind) {
+            Inputs::Nothing => {}
+            Inputs::One(source) => self.add_source(&mut from, source)?,
+            Inputs::Two(first, second) => {
+                self.add_source(&mut from, first)?;
+                self.add_source(&mut from, second)?;
+            }
+        }
+        Ok(Sources::from_vec(from))
+    }
+
+    // Keeps the names that a task of this kind reads.
+    fn keep_sources(&mut self, alloc: Global, kind: Kind) -> Result<(), NoMemory>
+        requires { HasLineSources (kind_of kind) }
+        ensures { OnOk result (state_of self.new ≡ record (state_of self.old) { sources = self.old.sources.items ++ reads (kind_of kind.entry) }) }
+    {
+        match sources_of(kind) {
+            Inputs::Nothing => {}
+            Inputs::One(source) => self.sources.push(line_of(alloc, source)?)?,
+            Inputs::Two(first, second) => {
+                self.sources.push(line_of(alloc, first)?)?;
+                self.sources.push(line_of(alloc, second)?)?;
+            }
+        }
+        Ok(())
+    }
+
+    // The next task, where no source is open.
+    fn add_task(&mut self, alloc: Global, name: &[u8], kind: Kind) -> Result<(), NoMemory>
+        requires few { vec_len self.old.names < 200 }
+        requires named { IsLine name.now }
+        requires prefix { HasLinePrefix (kind_of kind) }
+        requires sources { HasLineSources (kind_of kind) }
+        requires none { self.old.source ≡ None }
+        ensures { OnOk result (state_of self.new ≡ settled (state_of self.old) (task_line name.now (kind_of kind.entry))) }
+    {
+        let from = self.numbers_of(alloc, kind)?;
+        self.keep_sources(alloc, kind)?;
+        self.names.push(line_of(alloc, name)?)?;
+        let name = line_of(alloc, name)?;
         match kind {
             Kind::Lines => {
-                if !self.tasks.is_empty() {
-                    return Err(BAD);
-                }
                 let texts = Lines::new(alloc);
                 self.source = Some(Source { name, texts });
-                Ok(())
             }
-            Kind::Upper(from) => self.add_reader(alloc, name, from, Plan::Upper),
-            Kind::Number(from) => self.add_reader(alloc, name, from, Plan::Number { next: 1 }),
+            _ => {
+                let plan = plan_of(alloc, kind)?;
+                self.tasks.push(TaskDef { name, plan, from })?;
+            }
         }
-    }
-
-    // A text of the `lines` task that is open.
-    fn add_text(&mut self, alloc: Global, text: &[u8]) -> Result<(), ScriptError>
-        requires { IsLine text.now }
-        ensures { Gives (λ _. state_of self.new) result (add_text (state_of self.old) self.old.source text.now) }
-    {
-        let Some(mut source) = self.source.take() else {
-            return Err(BAD);
-        };
-        source.texts.push(Line::new(Vec::from_slice(alloc, text)?))?;
-        self.source = Some(source);
         Ok(())
     }
 
-    // One form.
-    #[tactic(auto, unfolding(crate::specs::Reading::step))]
-    fn take_form(&mut self, alloc: Global, form: Form) -> Result<(), ScriptError>
-        requires { HasLineText (form_seen form) }
-        ensures { Gives (λ _. state_of self.new) result (step (state_of self.old) (form_seen form.entry)) }
+    // A line of this form, where no source is open.
+    fn settle(&mut self, alloc: Global, form: Form) -> Result<(), NoMemory>
+        requires fits { CanSettle (held (state_of self.old)) (form_seen form) }
+        requires lines { HasLineText (form_seen form) }
+        requires none { self.old.source ≡ None }
+        ensures { OnOk result (state_of self.new ≡ settled (state_of self.old) (form_seen form.entry)) }
     {
         match form {
-            Form::Cpus => {
-                if self.stage != Stage::Start {
-                    return Err(BAD);
-                }
-                self.stage = Stage::Inside;
-                Ok(())
+            Form::Skip | Form::Text(_) => {}
+            Form::Cpus(number) => self.cpus = Some(value_of(number) as u32),
+            Form::Caches(number) => {
+                let Some(cpus) = self.cpus else {
+                    unreachable!()
+                };
+                self.caches = Some(value_of(number).min(cpus as u64) as u32);
             }
-            Form::Task { name, kind } => {
-                if self.stage != Stage::Inside || !is_name(name) {
-                    return Err(BAD);
-                }
-                self.close(alloc)?;
-                self.add_task(alloc, name, kind)
-            }
+            Form::Room(number) => self.room = Some(value_of(number) as u32),
+            Form::Task { name, kind } => self.add_task(alloc, name, kind)?,
+            Form::End => self.ended = true,
+        }
+        Ok(())
+    }
+
+    // A line of this form.
+    fn accept(&mut self, alloc: Global, form: Form) -> Result<(), NoMemory>
+        requires fits { CanSettle (held (state_of self.old)) (form_seen form) }
+        requires lines { HasLineText (form_seen form) }
+        ensures { OnOk result (state_of self.new ≡ next (state_of self.old) (form_seen form.entry)) }
+    {
+        match form {
+            Form::Skip => Ok(()),
             Form::Text(text) => self.add_text(alloc, text),
-            Form::End => {
-                if self.stage != Stage::Inside {
-                    return Err(BAD);
-                }
+            _ => {
                 self.close(alloc)?;
-                self.stage = Stage::Ended;
-                Ok(())
+                self.settle(alloc, form)
             }
         }
     }
 
-    // One line.
-    #[tactic(auto, unfolding(crate::specs::Reading::step_line))]
-    fn take(&mut self, alloc: Global, line: &[u8]) -> Result<(), ScriptError>
+    // One line, with its number.
+    #[tactic(auto, unfolding(crate::specs::Reading::step))]
+    fn take(&mut self, alloc: Global, number: u64, line: &[u8]) -> Result<(), ScriptError>
         requires { IsLine line.now }
-        ensures { Gives (λ _. state_of self.new) result (step_line (state_of self.old) line.now) }
+        ensures { Gives (λ _. state_of self.new) result (step number (state_of self.old) line.now) }
     {
-        if line.len() > LINE_LIMIT || line.last() == Some(&b'\r') {
-            return Err(BAD);
+        if line.len() > LINE_LIMIT {
+            return Err(fault_at(number, 1));
         }
         let Some(form) = form_of(line) else {
-            return Err(BAD);
+            return Err(fault_at(number, if self.ended { 12 } else { 2 }));
         };
-        self.take_form(alloc, form)
+        if let Some(code) = self.form_code(form) {
+            return Err(fault_at(number, code));
+        }
+        self.accept(alloc, form)?;
+        Ok(())
     }
 
-    // The script, after its last line.
+    // The script, behind its last line.
     fn into_script(self) -> Script
         requires { vec_len self.tasks ≤ 200 }
-        ensures tasks { result.tasks ≡ self.tasks.items }
-        ensures shape { result.shape ≡ shape_of (vec_len self.tasks) }
-        ensures room { result.room ≡ 4 }
+        ensures { IsScriptOf (state_of self) result }
     {
         let tasks = self.tasks.len() as u32;
+        let cpus = self.cpus.unwrap_or(1);
         let shape = Shape {
-            cpus: 1,
-            caches: 1,
+            cpus,
+            caches: self.caches.unwrap_or(cpus),
             tasks,
             conds: 2 * tasks,
             agents: 0,
         };
         Script {
             shape,
-            room: ROOM,
+            room: self.room.unwrap_or(ROOM),
             tasks: Tasks::from_vec(self.tasks),
         }
     }
 }
 
-// All lines of the input.
-fn read_lines(alloc: Global, bytes: &[u8]) -> Result<Reader, ScriptError>
-    ensures { Gives (λ reader. state_of reader) result (run start (input_lines bytes.now)) }
+// The refusal of a line by this code.
+fn fault_at(line: u64, code: u32) -> ScriptError
+    ensures { result ≡ ScriptError.Bad (record { line = line; code = code }) }
+{
+    ScriptError::Bad(ScriptFault { line, code })
+}
+
+// All lines, and how many there are.
+fn read_lines(alloc: Global, bytes: &[u8]) -> Result<(Reader, u64), ScriptError>
+    ensures gives { Gives (λ read. state_of read.0) result (run 1 start (input_lines bytes.now)) }
+    ensures count { IfOk result (λ read. read.1 ≡ length (input_lines bytes.now)) }
+    ensures few { IfOk result (λ read. read.1 ≤ length bytes.now) }
 {
     let mut reader = Reader::new(alloc);
     let mut rest = bytes;
+    let mut number = 0u64;
     while let Some((line, after)) = next_line(rest) {
-        reader.take(alloc, line)?;
+        number += 1;
+        reader.take(alloc, number, line)?;
         rest = after;
+    }
+    Ok((reader, number))
+}
+
+// The bytes that are judged: at most one more than a script may have.
+fn judged_part(bytes: &[u8]) -> &[u8]
+    ensures value { result.now ≡ take 16777217 bytes.now }
+    ensures short { length result.now ≤ 16777217 }
+{
+    if bytes.len() > SCRIPT_LIMIT {
+        &bytes[..SCRIPT_LIMIT + 1]
+    } else {
+        bytes
+    }
+}
+
+// The whole input.
+#[tactic(auto, unfolding(crate::specs::Reading::verdict))]
+fn read_input(alloc: Global, bytes: &[u8]) -> Result<Reader, ScriptError>
+    ensures { Gives (λ reader. state_of reader) result (verdict bytes.now) }
+{
+    let (reader, lines) = read_lines(alloc, judged_part(bytes))?;
+    if bytes.len() > SCRIPT_LIMIT {
+        return Err(fault_at(lines, 16));
+    }
+    if !reader.ended {
+        return Err(fault_at(lines + 1, 11));
     }
     Ok(reader)
 }
 
-/// Reads a script of the first form.
+/// Reads a script.
 ///
-/// The bytes are refused with line 1 and code 2 where they aren't one: `cpus 1`, then at most 200 tasks, then
-/// `end`. The first task is a source, `task NAME lines` and its text lines, and each later one, `task NAME upper
-/// from PREV` or `task NAME number from PREV`, reads the task just before it.
+/// A script is at most 16,777,216 bytes of lines: `cpus N`, then `caches G` and `room K` where they are wanted, then
+/// tasks with the text lines of each source, then `end`. Other bytes are refused with the number of their first faulty
+/// line and the lowest code there: 1 the line is too long, 2 it has no form, 3 a number, 4 a name, 5 a name that
+/// stands twice, 6 no such task, 7 a task that is read already, 8 too many tasks, 10 the order, 11 no `end`, 12 a line
+/// behind `end`, 14 a text without its task, 16 the input is too long.
 pub fn read_script(alloc: Global, bytes: &[u8]) -> Result<Script, ScriptError>
     ensures found { IfOk result (λ s. IsScript bytes.now s) }
     ensures only { IfOk result (λ s. (t : Script) → IsScript bytes.now t → t ≡ s) }
-    ensures chain { IfOk result (λ s. IsChain s.tasks) }
-    ensures bad { (f : ScriptFault) → result ≡ Err (ScriptError.Bad f) → (f ≡ record { line = 1; code = 2 }) × NotScript bytes.now }
+    ensures forest { IfOk result (λ s. IsForest s.tasks) }
+    ensures bad { (f : ScriptFault) → result ≡ Err (ScriptError.Bad f) → FirstFault bytes.now f.line f.code × NotScript bytes.now }
 {
-    if bytes.len() > SCRIPT_LIMIT {
-        return Err(BAD);
-    }
-    let reader = read_lines(alloc, bytes)?;
-    if reader.stage != Stage::Ended {
-        return Err(BAD);
-    }
+    let reader = read_input(alloc, bytes)?;
     Ok(reader.into_script())
 }

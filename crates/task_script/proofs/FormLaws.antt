@@ -1,0 +1,202 @@
+-- What a form's texts and words are, and what a form without fault can be kept as.
+use Rattle.std.proofs.Common.{◌≡◌, ◌≢◌, ℕ, zero, suc, ◌+◌, ◌-◌, ◌<◌, ◌≤◌, ◌^◌, ◌==◌, Bool, true, false, cond, ◌&&◌, ◌||◌, not, List, [], ◌∷◌, ◌++◌, length, Option, Some, None, refl, sym, ap, subst, ◌∙◌, arith}
+use Rattle.std.specs.List.{slice_split, onto_first, filter}
+use Rattle.std.specs.Option.{IsSomeAnd, is_some, is_none}
+use Rattle.std.specs.Prelude.{codes, nat_le}
+use Rattle.std.specs.Str.{bytes_eq}
+use Rattle.std.proofs.lemmas.Bool.{and_parts, or_parts, not-false, leb-true, leb-false}
+use Rattle.handoff_data.specs.Line.{IsLine}
+use Rattle.task_script.specs.Lines.{before_returns, without_returns, is_blank, skip_blanks, has_bytes, words}
+use Rattle.task_script.specs.Forms.{AreLines, HasLineText, HasLinePrefix, HasLineSources, value_of, is_number, is_within, is_name, Kind, lines_kind, count_kind, upper_kind, number_kind, keep_kind, drop_kind, tally_kind, pin_kind, cat_kind, weave_kind, reads, Form, skip_line, cpus_line, caches_line, room_line, task_line, text_line, end_line, setting_form, reader_form, joining_form, choosing_form, long_form, worded_form, text_of, bare_form, form_of}
+use Rattle.task_script.specs.Script.{SoFar, faults, lowest, form_code, is_bad_group, is_kept, has_tasks, bad_number, bad_name, name_twice, no_such_task, already_read, too_many, bad_order, text_without_task}
+use Rattle.task_script.specs.Reading.{CanSettle}
+
+-- ---- no line feeds
+
+cons_line : (byte : ℕ) (bytes : List ℕ) → byte ≢ 10 → IsLine bytes → IsLine (byte ∷ bytes)
+cons_line byte bytes other rest zero d lt = other
+cons_line byte bytes other rest (suc k) d lt = rest k d (omega arith)
+
+first_of_line : (byte : ℕ) (bytes : List ℕ) → IsLine (byte ∷ bytes) → byte ≢ 10
+first_of_line byte bytes h = h 0 0 (omega arith)
+
+rest_of_line : (byte : ℕ) (bytes : List ℕ) → IsLine (byte ∷ bytes) → IsLine bytes
+rest_of_line byte bytes h k d lt = h (suc k) d (omega arith)
+
+no_line : IsLine []
+no_line k d lt = absurd (omega arith)
+
+before_line : (byte : ℕ) (bytes : List ℕ) → byte ≢ 10 → IsLine bytes → IsLine (before_returns byte bytes)
+before_line byte [] other h =
+    elim (byte == 13) as (λ b. IsLine (cond b [] (byte ∷ []))) [ true ↦ no_line | false ↦ cons_line byte [] other no_line ]
+before_line byte (next ∷ bytes) other h = cons_line byte (next ∷ bytes) other h
+
+returns_line : (line : List ℕ) → IsLine line → IsLine (without_returns line)
+returns_line [] h = h
+returns_line (byte ∷ line) h = before_line byte (without_returns line) (first_of_line byte line h) (returns_line line (rest_of_line byte line h))
+
+blanks_line : (line : List ℕ) → IsLine line → IsLine (skip_blanks line)
+blanks_line [] h = h
+blanks_line (byte ∷ line) h =
+    let rest = blanks_line line (rest_of_line byte line h) in
+    elim (is_blank byte) as (λ b. IsLine (cond b (skip_blanks line) (byte ∷ line))) [ true ↦ rest | false ↦ h ]
+
+onto_lines : (byte : ℕ) (parts : List (List ℕ)) → byte ≢ 10 → AreLines parts → AreLines (onto_first byte parts)
+onto_lines byte [] other h = (cons_line byte [] other no_line, tt)
+onto_lines byte (part ∷ parts) other h = (cons_line byte part other h.0, h.1)
+
+split_lines : (line : List ℕ) → IsLine line → AreLines (slice_split is_blank line)
+split_lines [] h = (no_line, tt)
+split_lines (byte ∷ line) h =
+    let rest = split_lines line (rest_of_line byte line h) in
+    let onto = onto_lines byte (slice_split is_blank line) (first_of_line byte line h) rest in
+    elim (is_blank byte) as (λ b. AreLines (cond b ([] ∷ slice_split is_blank line) (onto_first byte (slice_split is_blank line)))) [
+      | true ↦ (no_line, rest)
+      | false ↦ onto
+    ]
+
+kept_lines : (parts : List (List ℕ)) → AreLines parts → AreLines (filter has_bytes parts)
+kept_lines [] h = tt
+kept_lines (part ∷ parts) h =
+    let rest = kept_lines parts h.1 in
+    elim (has_bytes part) as (λ b. AreLines (cond b (part ∷ filter has_bytes parts) (filter has_bytes parts))) [ true ↦ (h.0, rest) | false ↦ rest ]
+
+word_lines : (line : List ℕ) → IsLine line → AreLines (words line)
+word_lines line h = kept_lines (slice_split is_blank line) (split_lines line h)
+
+-- the form that is picked
+pick : (b : Bool) (x : Form) (rest : Option Form) (form : Form) → cond b (Some x) rest ≡ Some form → HasLineText x → (rest ≡ Some form → HasLineText form) → HasLineText form
+pick true x rest form e h more = let same : x ≡ form = cc in subst HasLineText same h
+pick false x rest form e h more = more e
+
+within : (b : Bool) (o : Option Form) (form : Form) → cond b o None ≡ Some form → o ≡ Some form
+within true o form e = e
+within false o form e = absurd cc
+
+none_text : (form : Form) → None ≡ Some form → HasLineText form
+none_text form e = absurd cc
+
+joining_text : (name kind first second : List ℕ) (form : Form) → IsLine name → IsLine first → IsLine second → joining_form name kind first second ≡ Some form → HasLineText form
+joining_text name kind first second form n a b e =
+    pick (bytes_eq kind (codes "cat")) (task_line name (cat_kind first second)) (cond (bytes_eq kind (codes "weave")) (Some (task_line name (weave_kind first second))) None) form e (n, tt, (a, (b, tt)))
+    (λ w. pick (bytes_eq kind (codes "weave")) (task_line name (weave_kind first second)) None form w (n, tt, (a, (b, tt))) (none_text form))
+
+choosing_text : (name kind word source : List ℕ) (form : Form) → IsLine name → IsLine word → IsLine source → choosing_form name kind word source ≡ Some form → HasLineText form
+choosing_text name kind word source form n w s e =
+    pick (bytes_eq kind (codes "keep")) (task_line name (keep_kind word source))
+    (cond (bytes_eq kind (codes "drop")) (Some (task_line name (drop_kind word source))) (cond (bytes_eq kind (codes "pin")) (Some (task_line name (pin_kind word source))) None)) form e (n, w, (s, tt))
+    (λ d. pick (bytes_eq kind (codes "drop")) (task_line name (drop_kind word source)) (cond (bytes_eq kind (codes "pin")) (Some (task_line name (pin_kind word source))) None) form d (n, w, (s, tt))
+    (λ p. pick (bytes_eq kind (codes "pin")) (task_line name (pin_kind word source)) None form p (n, tt, (s, tt)) (none_text form)))
+
+long_text : (name kind third fourth fifth : List ℕ) (form : Form) → IsLine name → IsLine third → IsLine fourth → IsLine fifth
+    → long_form name kind third fourth fifth ≡ Some form → HasLineText form
+long_text name kind third fourth fifth form n t o i e =
+    elim (bytes_eq kind (codes "cat") || bytes_eq kind (codes "weave"))
+    as (λ b. cond b (cond (bytes_eq third (codes "from")) (joining_form name kind fourth fifth) None) (cond (bytes_eq fourth (codes "from")) (choosing_form name kind third fifth) None) ≡ Some form → HasLineText form) [
+      | true ↦ λ j. joining_text name kind fourth fifth form n o i (within (bytes_eq third (codes "from")) (joining_form name kind fourth fifth) form j)
+      | false ↦ λ j. choosing_text name kind third fifth form n t i (within (bytes_eq fourth (codes "from")) (choosing_form name kind third fifth) form j)
+    ] e
+
+setting_text : (word number : List ℕ) (form : Form) → setting_form word number ≡ Some form → HasLineText form
+setting_text word number form e =
+    pick (bytes_eq word (codes "cpus")) (cpus_line number) (cond (bytes_eq word (codes "caches")) (Some (caches_line number)) (cond (bytes_eq word (codes "room")) (Some (room_line number)) None)) form e tt
+    (λ f. pick (bytes_eq word (codes "caches")) (caches_line number) (cond (bytes_eq word (codes "room")) (Some (room_line number)) None) form f tt
+    (λ g. pick (bytes_eq word (codes "room")) (room_line number) None form g tt (none_text form)))
+
+reader_text : (name kind source : List ℕ) (form : Form) → IsLine name → IsLine source → reader_form name kind source ≡ Some form → HasLineText form
+reader_text name kind source form n s e =
+    pick (bytes_eq kind (codes "upper")) (task_line name (upper_kind source))
+    (cond (bytes_eq kind (codes "number")) (Some (task_line name (number_kind source))) (cond (bytes_eq kind (codes "tally")) (Some (task_line name (tally_kind source))) None)) form e (n, tt, (s, tt))
+    (λ f. pick (bytes_eq kind (codes "number")) (task_line name (number_kind source)) (cond (bytes_eq kind (codes "tally")) (Some (task_line name (tally_kind source))) None) form f (n, tt, (s, tt))
+    (λ g. pick (bytes_eq kind (codes "tally")) (task_line name (tally_kind source)) None form g (n, tt, (s, tt)) (none_text form)))
+
+worded_text : (ws : List (List ℕ)) (form : Form) → AreLines ws → worded_form ws ≡ Some form → HasLineText form
+worded_text [] form h e = absurd cc
+worded_text (a ∷ []) form h e = pick (bytes_eq a (codes "end")) end_line None form e tt (none_text form)
+worded_text (a ∷ b ∷ []) form h e = setting_text a b form e
+worded_text (a ∷ b ∷ c ∷ []) form h e =
+    pick (bytes_eq a (codes "task") && bytes_eq c (codes "lines")) (task_line b lines_kind) None form e (h.1.0, tt, tt) (none_text form)
+worded_text (a ∷ b ∷ c ∷ d ∷ []) form h e =
+    pick (bytes_eq a (codes "task") && bytes_eq c (codes "count")) (task_line b (count_kind d)) None form e (h.1.0, tt, tt) (none_text form)
+worded_text (a ∷ b ∷ c ∷ d ∷ s ∷ []) form h e =
+    reader_text b c s form h.1.0 h.1.1.1.1.0 (within (bytes_eq a (codes "task") && bytes_eq d (codes "from")) (reader_form b c s) form e)
+worded_text (a ∷ b ∷ c ∷ d ∷ s ∷ t ∷ []) form h e =
+    long_text b c d s t form h.1.0 h.1.1.1.0 h.1.1.1.1.0 h.1.1.1.1.1.0 (within (bytes_eq a (codes "task")) (long_form b c d s t) form e)
+worded_text (a ∷ b ∷ c ∷ d ∷ s ∷ t ∷ u ∷ ws) form h e = absurd cc
+
+text_line_of : (bytes : List ℕ) → IsLine bytes → IsLine (text_of bytes)
+text_line_of [] h = h
+text_line_of (byte ∷ bytes) h =
+    let rest = rest_of_line byte bytes h in
+    elim (byte == 32) as (λ b. IsLine (cond b bytes (byte ∷ bytes))) [ true ↦ rest | false ↦ h ]
+
+bare_text : (line : List ℕ) (form : Form) → IsLine line → bare_form line ≡ Some form → HasLineText form
+bare_text [] form h e = let same : skip_line ≡ form = cc in subst HasLineText same tt
+bare_text (byte ∷ bytes) form h e =
+    pick (byte == 35) skip_line (cond (byte == 124) (Some (text_line (text_of bytes))) (worded_form (words (byte ∷ bytes)))) form e tt
+    (λ f. pick (byte == 124) (text_line (text_of bytes)) (worded_form (words (byte ∷ bytes))) form f (text_line_of bytes (rest_of_line byte bytes h))
+    (worded_text (words (byte ∷ bytes)) form (word_lines (byte ∷ bytes) h)))
+
+pub form_text : (line : List ℕ) (form : Form) → IsLine line → form_of line ≡ Some form → HasLineText form
+unfolding form_of
+form_text line form h e = bare_text (skip_blanks (without_returns line)) form (blanks_line (without_returns line) (returns_line line h)) e
+
+-- ---- what a faultless form can be kept as
+
+unended : (b : Bool) (o : Option ℕ) → cond b (Some 12) o ≡ None → o ≡ None
+unended true o e = absurd cc
+unended false o e = e
+
+-- no code comes
+eight : (a b c d e f g h : Bool) → lowest ((3, a) ∷ (4, b) ∷ (5, c) ∷ (6, d) ∷ (7, e) ∷ (8, f) ∷ (10, g) ∷ (14, h) ∷ []) ≡ None
+    → (a ≡ false) × (b ≡ false) × (c ≡ false) × (d ≡ false) × (e ≡ false) × (f ≡ false) × (g ≡ false) × (h ≡ false)
+eight true b c d e f g h is = absurd cc
+eight false true c d e f g h is = absurd cc
+eight false false true d e f g h is = absurd cc
+eight false false false true e f g h is = absurd cc
+eight false false false false true f g h is = absurd cc
+eight false false false false false true g h is = absurd cc
+eight false false false false false false true h is = absurd cc
+eight false false false false false false false true is = absurd cc
+eight false false false false false false false false is = (refl, refl, refl, refl, refl, refl, refl, refl)
+
+pub record IsGood (s : SoFar) (form : Form) : Type 0 where
+  pub numbers : bad_number s form ≡ false
+  pub named : bad_name form ≡ false
+  pub fresh : name_twice s form ≡ false
+  pub found : no_such_task s form ≡ false
+  pub unread : already_read s form ≡ false
+  pub few : too_many s form ≡ false
+  pub ordered : bad_order s form ≡ false
+  pub behind : text_without_task s form ≡ false
+
+pub is_good : (s : SoFar) (form : Form) → form_code s (Some form) ≡ None → IsGood s form
+is_good s form e =
+    let h = eight (bad_number s form) (bad_name form) (name_twice s form) (no_such_task s form) (already_read s form) (too_many s form) (bad_order s form) (text_without_task s form)
+    (unended (s.ended && is_kept form) (lowest (faults s form)) e) in
+    record { numbers = h.0; named = h.1; fresh = h.2; found = h.3; unread = h.4; few = h.5; ordered = h.6; behind = h.7 }
+
+within_high : (low high : ℕ) (number : List ℕ) → is_within low high number ≡ true → value_of number ≤ high
+within_high low high number e = leb-true (value_of number) high (and_parts (is_number number && nat_le low (value_of number)) (nat_le (value_of number) high) e).1
+
+group_fits : (cpus : Option ℕ) (number : List ℕ) → is_bad_group cpus number ≡ false → is_none cpus ≡ false → IsSomeAnd cpus (λ n. value_of number ≤ n)
+group_fits None number bad none = absurd cc
+group_fits (Some n) number bad none = within_high 1 n number (not-false _ bad)
+
+pub can_settle : (s : SoFar) (form : Form) → form_code s (Some form) ≡ None → CanSettle s form
+can_settle s skip_line e = tt
+can_settle s (cpus_line number) e =
+    let good = is_good s (cpus_line number) e in
+    let top : value_of number ≤ 16 = within_high 1 16 number (not-false _ good.numbers) in omega arith
+can_settle s (caches_line number) e =
+    let good = is_good s (caches_line number) e in
+    group_fits s.cpus number good.numbers
+    (or_parts (is_none s.cpus) (is_some s.caches) (or_parts (is_none s.cpus || is_some s.caches) (has_tasks s.names) good.ordered).0).0
+can_settle s (room_line number) e =
+    let good = is_good s (room_line number) e in
+    let top : value_of number ≤ 64 = within_high 1 64 number (not-false _ good.numbers) in omega arith
+can_settle s (task_line name kind) e =
+    let good = is_good s (task_line name kind) e in
+    (not-false _ good.named, leb-false 200 (length s.names) good.few)
+can_settle s (text_line text) e = tt
+can_settle s end_line e = tt

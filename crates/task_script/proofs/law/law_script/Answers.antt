@@ -1,0 +1,14 @@
+use Rattle.task_script.proofs.ScriptLaws.{script_or_fault, not_both, one_script, one_fault}
+use Rattle.task_script.proofs.law.law_script.Goals as goal
+
+pub returns-clause-some : goal.returns-clause-some
+returns-clause-some c = script_or_fault
+
+pub returns-clause-not_both : goal.returns-clause-not_both
+returns-clause-not_both c = not_both
+
+pub returns-clause-one_script : goal.returns-clause-one_script
+returns-clause-one_script c = one_script
+
+pub returns-clause-one_fault : goal.returns-clause-one_fault
+returns-clause-one_fault c = one_fault
