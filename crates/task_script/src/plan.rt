@@ -1,12 +1,29 @@
-use handoff_data::Lines;
+use handoff_data::{Line, Lines};
 
-/// What a text task puts out, for what it reads. A plan changes with each line that it takes.
+/// What a text task puts out, for what it reads. A plan changes with each line that it takes. Counts are of 64 bits,
+/// and one that has come to its last value stands still there.
 #[derive(Drop)]
 pub enum Plan {
     /// A source of these lines, the first of `left` next.
     Lines { left: Lines },
+    /// A source of the numbers from `next` to `last` in decimal; of none where `last` is below `next`.
+    Count { next: u64, last: u64 },
     /// Each line with the bytes `a` to `z` as `A` to `Z`.
     Upper,
     /// Each line after its number in decimal and a space; the next line gets `next`.
     Number { next: u64 },
+    /// The lines that begin with `prefix`.
+    Keep { prefix: Line },
+    /// The lines that don't begin with `prefix`.
+    Drop { prefix: Line },
+    /// At the end, how many lines there were in decimal: `n` so far.
+    Tally { n: u64 },
+    /// All lines of side 0, and then all lines of side 1. The lines of `side` are read now.
+    Cat { side: u32 },
+    /// One line of side 0, one of side 1, in turn, and the rest of the other where one has ended. The next line is read
+    /// from `side`, and `ended` says that the other side has ended.
+    Weave { side: u32, ended: bool },
+    /// Each line. Its task is to be migration-disabled while `on`, which is from its first line on, for as many lines as
+    /// `left` says at the beginning or until the input ends; `left` of them are still to come.
+    Pin { left: u64, on: bool },
 }
