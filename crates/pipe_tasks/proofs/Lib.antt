@@ -1,3 +1,4 @@
 pub mod TextLaws
 pub mod PlanLaws
+pub mod FeedLaws
 pub mod RunLaws
