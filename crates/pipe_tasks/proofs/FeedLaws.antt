@@ -1,5 +1,5 @@
 -- A plan that is fed item by item puts out the lines that are stated for whole lists.
-use Rattle.std.proofs.Common.{◌≡◌, ℕ, zero, suc, ◌+◌, ◌-◌, ◌<◌, ◌≤◌, List, [], ◌∷◌, ◌++◌, length, map, Bool, true, false, refl, sym, ap, ◌∙◌, subst, arith}
+use Rattle.std.proofs.Common.{◌≡◌, ℕ, zero, suc, ◌+◌, ◌-◌, ◌<◌, List, [], ◌∷◌, ◌++◌, length, map, Bool, true, false, refl, sym, ap, ◌∙◌, subst, arith}
 use Rattle.std.specs.Prelude.{Option, Some, None, filter, not, nat_lt, nat_le, if◌then◌else◌}
 use Rattle.std.proofs.lemmas.Bool.Decides.{nat_tests}
 use Rattle.std.specs.Fmt.{decimal}
@@ -7,7 +7,7 @@ use Rattle.std.specs.List.{range_with_len}
 use Rattle.task_script.specs.declared.plan.Plan.{Plan}
 use Rattle.task_script.specs.declared.plan.Plan.TheVariants.{Lines, Count, Upper, Number, Keep, Drop, Tally, Cat, Weave, Pin}
 use Rattle.pipe_tasks.specs.Words.{Line, upper_line, counted, count_line, numbered_line, has_prefix, woven}
-use Rattle.pipe_tasks.specs.Plans.{wants, says, next, last, closed, made, counts_on, numbered, lines_of}
+use Rattle.pipe_tasks.specs.Plans.{says, last, made, counts_on, numbered, lines_of}
 use Rattle.pipe_tasks.specs.Feeds.{Feeds, FeedingGivesLines}
 use Rattle.pipe_tasks.specs.Feeds.Feeds.{makes, made_all, first, first_end, first_ends, second, second_end, second_ends}
 use Rattle.pipe_tasks.proofs.PlanLaws.{numbered-counted, tallied, woven-cons, lines_of-first, lines_of-second, lines_of-first_end, lines_of-first_ends, lines_of-second_end, lines_of-second_ends, lines_of-made, own_lines}

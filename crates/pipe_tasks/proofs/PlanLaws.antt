@@ -9,7 +9,7 @@ use Rattle.task_script.specs.Plan.{sides}
 use Rattle.task_script.specs.declared.plan.Plan.{Plan}
 use Rattle.task_script.specs.declared.plan.Plan.TheVariants.{Lines, Count, Upper, Number, Keep, Drop, Tally, Cat, Weave, Pin}
 use Rattle.pipe_tasks.specs.Words.{Line, counted, count_line, numbered_line, has_prefix, woven}
-use Rattle.pipe_tasks.specs.Plans.{wants, says, next, last, closed, made, counts_on, numbered, lines_of}
+use Rattle.pipe_tasks.specs.Plans.{wants, says, next, last, closed, made, numbered, lines_of}
 
 -- a counter that stands still numbers as one that goes on
 pub numbered-counted : (n : ℕ) (x : List Line) → numbered (counted n) x ≡ numbered n x

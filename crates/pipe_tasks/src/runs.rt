@@ -10,7 +10,7 @@ use std::alloc::Global;
 use task_script::{Plan, Script, TaskDef};
 
 // All lines of a source.
-fn run_source(alloc: Global, plan: Plan) -> Result<Lines, NoMemory>
+pub(crate) fn run_source(alloc: Global, plan: Plan) -> Result<Lines, NoMemory>
     requires { sides plan ≡ 0 }
     ensures { IfOk result (λ r. r ≡ lines_of plan [] []) }
 {
@@ -34,7 +34,7 @@ fn make_all(alloc: Global, plan: Plan) -> Result<Lines, NoMemory>
 
 // All lines of a plan that reads one side, of the lines of that side. Lines are taken from the front of the queue, and
 // what the plan says is put at its end.
-fn run_plan(alloc: Global, plan: Plan, lines: Lines) -> Result<Lines, NoMemory>
+pub(crate) fn run_plan(alloc: Global, plan: Plan, lines: Lines) -> Result<Lines, NoMemory>
     requires { sides plan ≡ 1 }
     ensures { IfOk result (λ r. r ≡ lines_of plan lines []) }
 {

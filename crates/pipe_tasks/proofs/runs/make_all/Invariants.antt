@@ -1,4 +1,4 @@
-use Rattle.std.proofs.Common.{length, [], List}
+use Rattle.std.proofs.Common.{length, []}
 use Rattle.pipe_tasks.specs.Plans.{lines_of}
 use Rattle.pipe_tasks.proofs.RunLaws.{Making}
 use Rattle.pipe_tasks.proofs.runs.make_all.Given as goal
