@@ -1,0 +1,4 @@
+pub mod ItemLaws
+pub mod CodeLaws
+pub mod TurnLaws
+pub mod BodyLaws
