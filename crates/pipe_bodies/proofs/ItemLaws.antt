@@ -63,13 +63,13 @@ module _ (p : Plan) (s t : List Item) where
   first_ended None w e = ap items (lines_of-first_ends p (texts t) w e) ∙ items-ended (last p 0)
   first_ended (Some q) w e =
       ap items (lines_of-first_end p q (texts t) w e) ∙ items-append (last p 0) (lines_of q [] (texts t))
-          ∙ ap (λ z. as_texts (last p 0) ++ items z) (first_over p q (texts s) (texts t) w e) ∙ ap (λ z. z ++ outputs (Some q) s t) (sym (append-nil (as_texts (last p 0))))
+      ∙ ap (λ z. as_texts (last p 0) ++ items z) (first_over p q (texts s) (texts t) w e) ∙ ap (λ z. z ++ outputs (Some q) s t) (sym (append-nil (as_texts (last p 0))))
 
   second_ended : (c : Option Plan) → wants p ≡ Some 1 → closed p 1 ≡ c → items (lines_of p (texts s) []) ≡ (as_texts (last p 1) ++ ending c) ++ outputs c s t
   second_ended None w e = ap items (lines_of-second_ends p (texts s) w e) ∙ items-ended (last p 1)
   second_ended (Some q) w e =
       ap items (lines_of-second_end p q (texts s) w e) ∙ items-append (last p 1) (lines_of q (texts s) [])
-          ∙ ap (λ z. as_texts (last p 1) ++ items z) (second_over p q (texts s) (texts t) w e) ∙ ap (λ z. z ++ outputs (Some q) s t) (sym (append-nil (as_texts (last p 1))))
+      ∙ ap (λ z. as_texts (last p 1) ++ items z) (second_over p q (texts s) (texts t) w e) ∙ ap (λ z. z ++ outputs (Some q) s t) (sym (append-nil (as_texts (last p 1))))
 
   pub item-left : (i : Item) → wants p ≡ Some 0 → outputs (Some p) (i ∷ s) t ≡ heard p 0 i ++ outputs (after p 0 i) s t
   item-left (Text a) w = ap items (lines_of-first p a (texts s) (texts t) w) ∙ items-append (says p 0 a) (lines_of (next p 0 a) (texts s) (texts t))

@@ -6,3 +6,4 @@ pub mod Parts
 pub mod Codes
 pub mod Bodies
 pub mod Inside
+pub mod Nets

@@ -2,13 +2,17 @@
 #![tactic(auto)]
 
 mod body;
+mod building;
 mod item;
 mod parts;
+mod settling;
 mod verdict;
 mod work;
 
 pub use body::Body;
+pub use building::build;
 pub use item::Item;
 pub use parts::Course;
+pub use settling::settle;
 pub use verdict::{Then, Verdict};
 pub use work::{Custom, NoWork, Work};

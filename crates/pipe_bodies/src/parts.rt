@@ -9,12 +9,12 @@ ghost use Rattle.pipe_bodies.specs.declared.parts.PutResult.TheVariants.{Done, B
 use crate::item::Item;
 use crate::verdict::{Then, Verdict};
 use crate::work::{Custom, Work};
-use rtrb::{Consumer, Producer, PushError};
 use handoff_data::{Lines, NoMemory};
 use pipe_tasks::{end_plan, make_line, step_plan, wanted_side};
+use rtrb::{Consumer, Producer, PushError};
 use std::alloc::Global;
-use task_script::Plan;
 use std::collections::VecDeque;
+use task_script::Plan;
 
 #[derive(Drop)]
 pub(crate) struct Parts<W: Work> {
@@ -158,11 +158,7 @@ fn make<W: Work>(
     }
 }
 
-fn make_plan(
-    alloc: Global,
-    plan: Plan,
-    held: &mut VecDeque<Item>,
-) -> Result<Option<Plan>, NoMemory>
+fn make_plan(alloc: Global, plan: Plan, held: &mut VecDeque<Item>) -> Result<Option<Plan>, NoMemory>
     requires { wants plan ≡ None }
     ensures { IfOk result (λ p. (p ≡ more plan) × (held.new.items ≡ held.old.items ++ makes plan)) }
 {

@@ -103,4 +103,3 @@ impl<W: Work> Custom<W> {
         ended
     }
 }
-
