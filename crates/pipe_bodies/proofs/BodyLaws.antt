@@ -4,7 +4,8 @@ use Rattle.pipe_bodies.specs.Turns.{Seen, Turns, Sound}
 use Rattle.pipe_bodies.specs.Parts.{Rings, Stands, IsJoined}
 use Rattle.task_script.specs.declared.plan.Plan.{Plan}
 use Rattle.pipe_bodies.specs.declared.verdict.Verdict.{Verdict}
-use Rattle.pipe_bodies.proofs.TurnLaws.{Sound-turn, IsJoined-turn, ended-turn}
+use Rattle.pipe_bodies.specs.declared.verdict.Then.TheVariants.{Exit}
+use Rattle.pipe_bodies.proofs.TurnLaws.{Sound-turn, IsJoined-turn, ended-turn, exit-turn}
 use Rattle.std.proofs.Common.{ℕ, List}
 use Rattle.std.specs.Prelude.{Some}
 use Rattle.pipe_bodies.specs.Items.{outputs}
@@ -29,7 +30,10 @@ Stands-broken begun b s e = record {
 pub Stands-ended : (begun : Plan) (a b : Seen) (r : Rings) (v : Verdict) → Stands begun a r false → Turns a b v → a.ended ≡ true → b.ended ≡ true
 Stands-ended begun a b r v k t e = ap (λ z. z.ended) (ended-turn a b v e (k.sound refl).ordered t) ∙ e
 
-pub ruleset body_laws = (Stands-turn, Stands-broken, Stands-ended)
+pub Stands-exit : (begun : Plan) (a b : Seen) (r : Rings) (v : Verdict) → Stands begun a r false → Turns a b v → v.then ≡ Exit → b.ended ≡ true
+Stands-exit begun a b r v k t e = exit-turn a b v e (k.sound refl).ordered t
+
+pub ruleset body_laws = (Stands-turn, Stands-broken, Stands-ended, Stands-exit)
 
 -- what a body that has ended is known to be
 sound_by : (begun : Plan) (a : Seen) (r : Rings) (b : Bool) → Stands begun a r b → a.ended ≡ true → Sound begun a

@@ -6,3 +6,4 @@ pub mod NetLaws
 pub mod SettleLaws
 pub mod BuildLaws
 pub mod BuildLoop
+pub mod ForestScripts

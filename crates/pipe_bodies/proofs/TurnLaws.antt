@@ -13,6 +13,7 @@ use Rattle.task_script.specs.declared.plan.Plan.TheVariants.{Lines, Count, Upper
 use Rattle.pipe_bodies.specs.declared.item.Item.{Item}
 use Rattle.pipe_bodies.specs.declared.item.Item.TheVariants.{Text, End}
 use Rattle.pipe_bodies.specs.declared.verdict.Verdict.{Verdict}
+use Rattle.pipe_bodies.specs.declared.verdict.Then.TheVariants.{More, WaitIn, WaitOut, Exit}
 use Rattle.pipe_bodies.proofs.ItemLaws.{item-left, item-right, source, side-below}
 
 -- ---- the order of what is held
@@ -215,3 +216,35 @@ module _ (a b : Seen) (v : Verdict) (ended : a.ended ≡ true) (ordered : Ordere
 
   pub ended-turn : Turns a b v → b ≡ a
   ended-turn t = ended_held a.held refl t
+
+-- ---- an exit comes only once the end was put out
+
+module _ (a b : Seen) (v : Verdict) (exit : v.then ≡ Exit) (ordered : Ordered a.ended a.plan a.held) where
+  none_open : (e : Bool) → Ordered e None [] → e ≡ true
+  none_open true o = refl
+  none_open false o = absurd o
+
+  exit_take : (side : ℕ) (p : Plan) → TakesFrom side p a b v → b.ended ≡ true
+  exit_take zero p (inl t) = cc
+  exit_take zero p (inr t) = cc
+  exit_take (suc k) p (inl t) = cc
+  exit_take (suc k) p (inr t) = cc
+
+  exit_wants : (w : Option ℕ) (p : Plan) → Goes w p a b v → b.ended ≡ true
+  exit_wants None p t = cc
+  exit_wants (Some side) p t = exit_take side p t
+
+  exit_plan : (q : Option Plan) → a.held ≡ [] → a.plan ≡ q → GoesOn q a b v → b.ended ≡ true
+  exit_plan None e r t = ap (λ z. z.ended) t.0 ∙ none_open a.ended (subst (λ z. Ordered a.ended z []) r (subst (λ z. Ordered a.ended a.plan z) e ordered))
+  exit_plan (Some p) e r t = exit_wants (wants p) p t
+
+  exit_put : (i : Item) (h : List Item) → PutsOut i h a b v → b.ended ≡ true
+  exit_put i h (inl t) = cc
+  exit_put i h (inr t) = cc
+
+  exit_held : (h : List Item) → a.held ≡ h → TurnsBy h a b v → b.ended ≡ true
+  exit_held [] e t = exit_plan a.plan e refl t
+  exit_held (i ∷ h) e t = exit_put i h t
+
+  pub exit-turn : Turns a b v → b.ended ≡ true
+  exit-turn t = exit_held a.held refl t

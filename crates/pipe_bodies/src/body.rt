@@ -50,6 +50,7 @@ impl<W: Work> Body<W> {
     ghost use Rattle.pipe_bodies.specs.Rings.{in_ring, ring_out, got};
     ghost use Rattle.pipe_bodies.specs.Bodies.{lasting_by, joined_by, fresh_seen};
     ghost use Rattle.pipe_bodies.specs.Turns.{Turns, Sound};
+    ghost use Rattle.pipe_bodies.specs.declared.verdict.Then.TheVariants.{Exit};
     ghost use Rattle.pipe_bodies.specs.Parts.{seen, rings, IsJoined};
 
     // A body that has done nothing, and that nobody reads yet.
@@ -100,6 +101,7 @@ impl<W: Work> Body<W> {
     #[tactic(auto, using(crate::proofs::BodyLaws::body_laws))]
     pub fn turn(&mut self) -> Result<Verdict, NoMemory>
         ensures turns { IfOk result (λ v. Turns self.old.seen self.new.seen v) }
+        ensures exit { IfOk result (λ v. v.then ≡ Exit → self.new.seen.ended ≡ true) }
         ensures lasting { self.new.lasting ≡ self.old.lasting }
         ensures ended { self.old.seen.ended ≡ true → self.new.seen.ended ≡ true }
         ensures broken { self.old.broken ≡ true → IsErr result }

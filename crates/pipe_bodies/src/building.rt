@@ -1,9 +1,10 @@
 // The bodies of a script, joined by rings.
 ghost use Rattle.std.specs.Prelude.{◌≡◌, ◌<◌, ◌^◌, ℕ, List, [], ◌∷◌, ◌++◌, length, map, OnOk, IfOk};
 ghost use Rattle.task_script.specs.Plan.{sides};
+ghost use Rattle.task_script.specs.Forest.{IsForest};
 ghost use Rattle.pipe_bodies.specs.Courses.{plan_in};
 ghost use Rattle.pipe_bodies.specs.Rings.{in_ring, got};
-ghost use Rattle.pipe_bodies.specs.Nets.{IsScript, IsNet, IsReading, IsFree, Links, Built, plan_for, part_of, output_of, seen_of, lasting_of, reads_on, IsUnused};
+ghost use Rattle.pipe_bodies.specs.Nets.{IsNet, IsReading, IsFree, Links, Built, plan_for, part_of, output_of, seen_of, lasting_of, reads_on, IsUnused};
 
 use crate::body::Body;
 use crate::item::Item;
@@ -72,7 +73,7 @@ pub fn build<W: Work>(
     tasks: &[TaskDef],
     courses: Vec<Course<W>>,
 ) -> Result<Vec<Body<W>>, NoMemory>
-    requires script { IsScript tasks.now }
+    requires forest { IsForest tasks.now }
     requires count { length tasks.now < 2 ^ 32 }
     requires courses { map plan_in courses.items ≡ map plan_for tasks.now }
     ensures net { IfOk result (λ r. IsNet tasks.now (map lasting_of r.items)) }

@@ -1,10 +1,11 @@
 use Rattle.std.proofs.Common.{◌+◌, arith, refl, ap}
 use Rattle.std.specs.Vec.Iter.{into_iter_items}
 use Rattle.pipe_bodies.proofs.BuildLoop.{building-starts, building-none, building-sides, building-reads, building-plan, building-step, building-end, building-unread}
+use Rattle.pipe_bodies.proofs.ForestScripts.{IsScript-forest}
 use Rattle.pipe_bodies.proofs.building.build.Goals as goal
 
 pub loop-task-init : goal.loop-task-init
-loop-task-init g c = (rw (c.into_iter-courses.ensures.rest, c.new-bodies.ensures.items) (building-starts c.args.tasks.now c.args.courses.items c.requires.script c.requires.courses), refl)
+loop-task-init g c = (rw (c.into_iter-courses.ensures.rest, c.new-bodies.ensures.items) (building-starts c.args.tasks.now c.args.courses.items (IsScript-forest c.args.tasks.now c.requires.forest) c.requires.courses), refl)
 
 pub unreachable-requires : goal.unreachable-requires
 unreachable-requires g c = building-none c.args.tasks.now c.loop-task.bodies.items c.loop-task.task-index c.task-item.result (into_iter_items c.loop-task.courses) c.loop-task-test.true c.task-item.is c.loop-task.invariant.0 (omega (arith, c.in_default.ensures.cases, c.loop-task.courses.rest.ok))
