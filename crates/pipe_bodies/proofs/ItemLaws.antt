@@ -1,13 +1,12 @@
 -- Feeding a plan item by item gives the lines of whole lists.
-use Rattle.std.proofs.Common.{◌≡◌, ℕ, zero, suc, List, [], ◌∷◌, ◌++◌, Bool, true, false, refl, sym, ap, ◌∙◌, arith, append-nil}
+use Rattle.std.proofs.Common.{◌≡◌, ℕ, zero, suc, List, [], ◌∷◌, ◌++◌, true, false, refl, sym, ap, ◌∙◌, append-nil}
 use Rattle.std.specs.Prelude.{Option, Some, None}
-use Rattle.task_script.specs.Plan.{sides}
 use Rattle.task_script.specs.declared.plan.Plan.{Plan}
 use Rattle.task_script.specs.declared.plan.Plan.TheVariants.{Lines, Count, Upper, Number, Keep, Drop, Tally, Cat, Weave, Pin}
 use Rattle.pipe_tasks.specs.Words.{Line}
 use Rattle.pipe_tasks.specs.Plans.{wants, says, next, last, closed, made, lines_of}
 use Rattle.pipe_tasks.proofs.PlanLaws.{lines_of-first, lines_of-second, lines_of-first_end, lines_of-first_ends, lines_of-second_end, lines_of-second_ends, lines_of-made, own_lines}
-use Rattle.pipe_bodies.specs.Items.{texts, items, as_texts, outputs, ending, heard, after, makes, more, item_made, plan_made, pinned, is_pin}
+use Rattle.pipe_bodies.specs.Items.{texts, items, as_texts, outputs, ending, heard, after, makes, more, item_made, plan_made}
 use Rattle.pipe_bodies.specs.declared.item.Item.{Item}
 use Rattle.pipe_bodies.specs.declared.item.Item.TheVariants.{Text, End}
 

@@ -3,7 +3,7 @@ use Rattle.std.proofs.Common.{◌≡◌, ℕ, zero, suc, ◌+◌, List, [], ◌�
 use Rattle.std.specs.Prelude.{Option, Some, None, nat_lt, nat_le, if◌then◌else◌}
 use Rattle.std.specs.Fmt.{decimal}
 use Rattle.pipe_tasks.specs.Words.{Line}
-use Rattle.pipe_tasks.specs.Plans.{wants, says, last, closed, made, counts_on}
+use Rattle.pipe_tasks.specs.Plans.{wants, says, last, closed, made}
 use Rattle.pipe_bodies.specs.Items.{as_texts, outputs, ending, heard, after, makes, more, item_made, plan_made}
 use Rattle.pipe_bodies.specs.Rings.{Ring}
 use Rattle.pipe_bodies.specs.Turns.{Seen, is_end, PutsOut, TakesFrom, Goes, GoesOn, TurnsBy, Turns, NoEnd, OneEnd, Ordered, Sound}
@@ -13,7 +13,7 @@ use Rattle.task_script.specs.declared.plan.Plan.TheVariants.{Lines, Count, Upper
 use Rattle.pipe_bodies.specs.declared.item.Item.{Item}
 use Rattle.pipe_bodies.specs.declared.item.Item.TheVariants.{Text, End}
 use Rattle.pipe_bodies.specs.declared.verdict.Verdict.{Verdict}
-use Rattle.pipe_bodies.specs.declared.verdict.Then.TheVariants.{More, WaitIn, WaitOut, Exit}
+use Rattle.pipe_bodies.specs.declared.verdict.Then.TheVariants.{Exit}
 use Rattle.pipe_bodies.proofs.ItemLaws.{item-left, item-right, source, side-below}
 
 -- ---- the order of what is held

@@ -5,6 +5,7 @@ mod body;
 mod building;
 mod item;
 mod parts;
+mod running;
 mod settling;
 mod verdict;
 mod work;
@@ -13,6 +14,10 @@ pub use body::Body;
 pub use building::build;
 pub use item::Item;
 pub use parts::Course;
+pub use running::{have_ended, run_bodies};
 pub use settling::settle;
 pub use verdict::{Then, Verdict};
 pub use work::{Custom, NoWork, Work};
+
+#[cfg(test)]
+mod tests;
