@@ -1,15 +1,15 @@
 -- The plain run of one plan, and of a chain.
 use Rattle.std.proofs.Common.{◌≡◌, ℕ, zero, suc, ◌+◌, ◌-◌, ◌<◌, List, [], ◌∷◌, ◌++◌, length, refl, sym, ap, ◌∙◌, subst, arith, append-nil, append_assoc, length-append}
 use Rattle.std.proofs.Math.Seq.{get_or-append_seam}
-use Rattle.std.specs.Prelude.{slice_index_or}
+use Rattle.std.specs.Prelude.{Option, Some, None, slice_index_or}
 use Rattle.task_script.specs.Plan.{sides}
 use Rattle.task_script.specs.declared.plan.Plan.{Plan}
 use Rattle.task_script.specs.Chain.{IsChain, IsChainFrom, IsLink}
 use Rattle.task_script.specs.declared.script.TaskDef.{TaskDef}
 use Rattle.pipe_tasks.specs.Words.{Line}
 use Rattle.pipe_tasks.specs.Tasks.{first_input, second_input, task_lines, lines_after, all_lines, chain_lines}
-use Rattle.pipe_tasks.specs.Plans.{says, next, last, lines_of}
-use Rattle.pipe_tasks.proofs.PlanLaws.{lines_of-first, lines_of-first_ends, one-wants, one-closed, sides-next}
+use Rattle.pipe_tasks.specs.Plans.{wants, says, next, last, made, lines_of}
+use Rattle.pipe_tasks.proofs.PlanLaws.{lines_of-first, lines_of-first_ends, lines_of-made, own_lines, made-wants, none-wants, one-wants, one-closed, sides-next}
 
 -- a queue with so many lines still to be read, and behind them the lines that were put out
 pub record Turning (begun : Plan) (lines : List Line) (plan : Plan) (queue : List Line) (left : ℕ) : Type 0 where
@@ -61,6 +61,32 @@ module _ (begun : Plan) (lines : List Line) where
     ends : (rest : List Line) → queue ≡ rest ++ t.out → length rest ≡ 0 → lines_of begun lines [] ≡ t.out ++ lines_of plan rest [] → queue ++ last plan 0 ≡ lines_of begun lines []
     ends [] q l e = ap (λ z. z ++ last plan 0) q ∙ ap (λ z. t.out ++ z) (sym (lines_of-first_ends plan [] (one-wants plan t.one) (one-closed plan 0 t.one))) ∙ sym e
     ends (a ∷ rest) q l e = absurd (omega arith)
+
+-- ---- a source
+
+-- the lines made so far, and the plan that makes the others
+pub record Making (begun plan : Plan) (out : List Line) : Type 0 where
+  pub source : wants plan ≡ None
+  pub lines_are : lines_of begun [] [] ≡ out ++ lines_of plan [] []
+
+pub Making-starts : (begun : Plan) → sides begun ≡ 0 → Making begun begun []
+Making-starts begun none = record { source = none-wants begun none; lines_are = refl }
+
+made-lines : (plan plan' : Plan) (line : Line) → wants plan ≡ None → made plan ≡ Some (line, plan') → lines_of plan [] [] ≡ line ∷ lines_of plan' [] []
+made-lines plan plan' line w m = lines_of-made plan [] [] w ∙ ap (λ (o : Option (Line × Plan)). own_lines o [] []) m
+
+pub Making-steps : (begun plan plan' : Plan) (line : Line) (out out' : List Line) → Making begun plan out → made plan ≡ Some (line, plan') → out' ≡ out ++ line ∷ [] → Making begun plan' out'
+Making-steps begun plan plan' line out out' m next pushed = record {
+  source = made-wants plan plan' line next;
+  lines_are = m.lines_are ∙ ap (λ z. out ++ z) (made-lines plan plan' line m.source next) ∙ sym (append_assoc out (line ∷ []) (lines_of plan' [] [])) ∙ ap (λ z. z ++ lines_of plan' [] []) (sym pushed);
+}
+
+pub Making-fewer : (begun plan plan' : Plan) (line : Line) (out : List Line) → Making begun plan out → made plan ≡ Some (line, plan') → length (lines_of plan' [] []) < length (lines_of plan [] [])
+Making-fewer begun plan plan' line out m next = let e = ap length (made-lines plan plan' line m.source next) in omega arith
+
+pub Making-ends : (begun plan : Plan) (out : List Line) → Making begun plan out → made plan ≡ None → out ≡ lines_of begun [] []
+Making-ends begun plan out m none =
+    sym (append-nil out) ∙ ap (λ z. out ++ z) (sym (lines_of-made plan [] [] m.source ∙ ap (λ (o : Option (Line × Plan)). own_lines o [] []) none)) ∙ sym m.lines_are
 
 -- ---- a chain
 

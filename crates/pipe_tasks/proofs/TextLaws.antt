@@ -50,3 +50,5 @@ one_more xs ys i u l same e f =
 pub ruleset uppercase_laws = (IsLine-upper, written-back)
 
 pub ruleset number_laws = (IsLine-numbered, counted-same, append_assoc)
+
+pub ruleset decimal_laws = (IsLine-decimal, counted-same)

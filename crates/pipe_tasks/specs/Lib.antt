@@ -1,4 +1,5 @@
 pub mod Words
 pub mod Plans
 pub mod Feeds
+pub mod Joins
 pub mod Tasks

@@ -1,8 +1,10 @@
 -- The lines of each task of a script.
-use Rattle.std.specs.Prelude.{ℕ, ◌-◌, List, [], ◌∷◌, ◌++◌, length, slice_index_or}
+use Rattle.std.specs.Prelude.{ℕ, ◌-◌, ◌==◌, List, [], ◌∷◌, ◌++◌, length, map, Bool, slice_index_or, slice_set, if◌then◌else◌}
+use Rattle.std.specs.List.{enumerate_from, list_any}
+use Rattle.task_script.specs.Forest.{reads}
+use Rattle.task_script.specs.declared.script.TaskDef.{TaskDef}
 use Rattle.pipe_tasks.specs.Words.{Line}
 use Rattle.pipe_tasks.specs.Plans.{lines_of}
-use Rattle.task_script.specs.declared.script.TaskDef.{TaskDef}
 
 -- the lines of the task on the first side and on the second, of the lines of the tasks before; none where no task is read
 abbrev pub first_input : List ℕ → List (List Line) → List Line
@@ -29,3 +31,16 @@ all_lines tasks = lines_after [] tasks
 -- the lines of the last task; none where there is no task
 abbrev pub chain_lines : List TaskDef → List Line
 chain_lines tasks = slice_index_or (all_lines tasks) (length tasks - 1) []
+
+-- whether a task is one of these
+abbrev pub is_among : List ℕ → ℕ → Bool
+is_among tasks t = list_any (λ s. s == t) tasks
+
+-- the lines of each task that no other reads, in the order of the script; none in the place of a task that is read
+abbrev pub forest_lines : List TaskDef → List (List Line)
+forest_lines tasks = map (λ (e : ℕ × List Line). if is_among (reads tasks) e.0 then [] else e.1) (enumerate_from 0 (all_lines tasks))
+
+-- the lists after those of these tasks were taken
+abbrev pub emptied : List ℕ → List (List Line) → List (List Line)
+emptied [] lists = lists
+emptied (t ∷ from) lists = emptied from (slice_set lists t [])

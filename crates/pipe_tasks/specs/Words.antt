@@ -1,7 +1,8 @@
 -- Words on lines of text.
-use Rattle.std.specs.Prelude.{ℕ, ◌-◌, ◌^◌, List, ◌∷◌, ◌++◌, map, min}
+use Rattle.std.specs.Prelude.{ℕ, ◌-◌, ◌^◌, List, [], ◌∷◌, ◌++◌, map, min, Bool, nat_eq}
 use Rattle.std.specs.Char.{to_ascii_uppercase}
 use Rattle.std.specs.Fmt.{decimal}
+use Rattle.std.specs.List.{starts_with}
 
 -- a line is the list of its bytes
 abbrev pub Line : Type 0
@@ -15,6 +16,20 @@ upper_line line = map to_ascii_uppercase line
 abbrev pub counted : ℕ → ℕ
 counted n = min n (2 ^ 64 - 1)
 
+-- the count in decimal
+abbrev pub count_line : ℕ → Line
+count_line n = decimal (counted n)
+
 -- the count in decimal, a space, and the line
 abbrev pub numbered_line : ℕ → Line → Line
 numbered_line n line = decimal (counted n) ++ 32 ∷ line
+
+-- whether a line begins with these bytes
+abbrev pub has_prefix : Line → Line → Bool
+has_prefix prefix line = starts_with nat_eq line prefix
+
+-- one line of x, one of y, in turn, and then the rest of the other
+abbrev pub woven : List Line → List Line → List Line
+woven [] y = y
+woven (a ∷ x) [] = a ∷ x
+woven (a ∷ x) (b ∷ y) = a ∷ b ∷ woven x y

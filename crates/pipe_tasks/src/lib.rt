@@ -1,14 +1,17 @@
 //! Text tasks: what a plan puts out for each line that it reads, and the plain run of a chain of tasks.
 #![tactic(auto)]
 
+mod forest;
+mod joins;
 mod laws;
 mod runs;
 mod steps;
 mod text;
 
+pub use forest::run_forest;
 pub use laws::feeding_gives_lines;
 pub use runs::run_chain;
-pub use steps::{end_plan, step_plan};
+pub use steps::{end_plan, make_line, step_plan, wanted_side};
 
 #[cfg(test)]
 mod tests;

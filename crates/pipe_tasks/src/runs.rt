@@ -1,17 +1,40 @@
-ghost use Rattle.std.specs.Prelude.{◌≡◌, [], IfOk};
+ghost use Rattle.std.specs.Prelude.{◌≡◌, ◌+◌, ◌<◌, ◌≤◌, [], ◌++◌, IfOk, OnOk, IsTrue, length, if◌then◌else◌};
 ghost use Rattle.task_script.specs.Plan.{sides};
 ghost use Rattle.task_script.specs.Chain.{IsChain};
 ghost use Rattle.pipe_tasks.specs.Plans.{lines_of};
 ghost use Rattle.pipe_tasks.specs.Tasks.{chain_lines};
 
-use crate::steps::{end_plan, step_plan};
+use crate::steps::{end_plan, make_line, step_plan, wanted_side};
 use handoff_data::{Lines, NoMemory};
 use std::alloc::Global;
 use task_script::{Plan, Script, TaskDef};
 
+// All lines of a source.
+pub(crate) fn run_source(alloc: Global, plan: Plan) -> Result<Lines, NoMemory>
+    requires { sides plan ≡ 0 }
+    ensures { IfOk result (λ r. r ≡ lines_of plan [] []) }
+{
+    match plan {
+        Plan::Lines { left } => Ok(left),
+        plan => make_all(alloc, plan),
+    }
+}
+
+fn make_all(alloc: Global, plan: Plan) -> Result<Lines, NoMemory>
+    requires { sides plan ≡ 0 }
+    ensures { IfOk result (λ r. r ≡ lines_of plan [] []) }
+{
+    let mut plan = plan;
+    let mut out = Lines::new(alloc);
+    while let Some(line) = make_line(alloc, &mut plan)? {
+        out.push(line)?;
+    }
+    Ok(out)
+}
+
 // All lines of a plan that reads one side, of the lines of that side. Lines are taken from the front of the queue, and
 // what the plan says is put at its end.
-fn run_plan(alloc: Global, plan: Plan, lines: Lines) -> Result<Lines, NoMemory>
+pub(crate) fn run_plan(alloc: Global, plan: Plan, lines: Lines) -> Result<Lines, NoMemory>
     requires { sides plan ≡ 1 }
     ensures { IfOk result (λ r. r ≡ lines_of plan lines []) }
 {
@@ -28,16 +51,6 @@ fn run_plan(alloc: Global, plan: Plan, lines: Lines) -> Result<Lines, NoMemory>
     Ok(lines)
 }
 
-// All lines of a task, of the lines of the task that it reads; a source reads none.
-fn run_task(alloc: Global, plan: Plan, lines: Lines) -> Result<Lines, NoMemory>
-    ensures { IfOk result (λ r. r ≡ lines_of plan lines []) }
-{
-    match plan {
-        Plan::Lines { left } => Ok(left),
-        plan => run_plan(alloc, plan, lines),
-    }
-}
-
 /// Runs the tasks of a chain one after another, each to its end before the next begins, and answers the lines of the
 /// last. Lines are moved from task to task, and each task is evaluated once.
 pub fn run_chain(alloc: Global, script: Script) -> Result<Lines, NoMemory>
@@ -52,4 +65,16 @@ pub fn run_chain(alloc: Global, script: Script) -> Result<Lines, NoMemory>
         lines = run_task(alloc, plan, lines)?;
     }
     Ok(lines)
+}
+
+// All lines of a task of a chain, of the lines of the task before it.
+fn run_task(alloc: Global, plan: Plan, lines: Lines) -> Result<Lines, NoMemory>
+    requires sides { sides plan ≤ 1 }
+    requires first { sides plan ≡ 0 → lines ≡ [] }
+    ensures { IfOk result (λ r. r ≡ lines_of plan lines []) }
+{
+    if wanted_side(&plan).is_none() {
+        return run_source(alloc, plan);
+    }
+    run_plan(alloc, plan, lines)
 }

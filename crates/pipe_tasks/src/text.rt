@@ -1,6 +1,7 @@
 // What plans do to the bytes of a line.
 ghost use Rattle.std.specs.Prelude.{◌≡◌, map, IfOk};
 ghost use Rattle.std.specs.Char.{to_ascii_uppercase};
+ghost use Rattle.std.specs.Fmt.{decimal};
 ghost use Rattle.pipe_tasks.specs.Words.{upper_line, numbered_line};
 
 use handoff_data::{Line, NoMemory};
@@ -34,6 +35,16 @@ pub(crate) fn uppercase_line(line: Line) -> Line
     let mut bytes = line.into_bytes();
     uppercase(bytes.as_mut_slice());
     Line::new(bytes)
+}
+
+// The number in decimal.
+#[tactic(auto, using(crate::proofs::TextLaws::decimal_laws))]
+pub(crate) fn decimal_line(alloc: Global, number: u64) -> Result<Line, NoMemory>
+    ensures { IfOk result (λ l. l ≡ decimal number) }
+{
+    let mut buffer = Buffer::new();
+    let digits = buffer.format(number).as_bytes();
+    Ok(Line::new(Vec::from_slice(alloc, digits)?))
 }
 
 // The number in decimal, a space, and the line. It takes memory once.

@@ -1,6 +1,6 @@
 -- Tasks that read earlier tasks, each at most one reader.
-use Rattle.std.specs.Prelude.{◌≡◌, ◌<◌, ℕ, List, length, All, slice_index_or, nat_eq}
-use Rattle.std.specs.List.{flat_map, IsDistinct}
+use Rattle.std.specs.Prelude.{◌≡◌, ◌≢◌, ◌<◌, ℕ, List, length, All, AllPairs, slice_index_or}
+use Rattle.std.specs.List.{flat_map}
 use Rattle.task_script.specs.declared.script.TaskDef.{TaskDef}
 use Rattle.task_script.specs.Plan.{sides}
 
@@ -12,4 +12,4 @@ reads tasks = flat_map (λ (d : TaskDef). d.from) tasks
 pub record IsForest (tasks : List TaskDef) : Type 0 where
   pub inputs : All (λ d. length d.from ≡ sides d.plan) tasks
   pub earlier : (t : ℕ) (d : TaskDef) → t < length tasks → All (λ s. s < t) (slice_index_or tasks t d).from
-  pub once : IsDistinct nat_eq (reads tasks)
+  pub once : AllPairs (λ s t. s ≢ t) (reads tasks)

@@ -1,0 +1,12 @@
+use Rattle.std.proofs.Common.{ap}
+use Rattle.pipe_bodies.specs.Courses.{plan_in}
+use Rattle.pipe_bodies.specs.Rings.{in_ring}
+use Rattle.pipe_bodies.specs.Bodies.{lasting_by}
+use Rattle.pipe_bodies.proofs.BodyLaws.{Stands-fresh, plan_of-at}
+use Rattle.pipe_bodies.proofs.body.Body.new.Goals as goal
+
+pub invariant_of-result : goal.invariant_of-result
+invariant_of-result g c = rw (c.requires.fresh.0, c.requires.fresh.1, c.new.ensures, c.new-2.ensures.items) (Stands-fresh c.of-origin.result.numbers (plan_in c.args.course) _ c.of-origin.ensures c.requires.joined)
+
+pub returns-clause-lasting : goal.returns-clause-lasting
+returns-clause-lasting g c = ap (λ z. lasting_by c.args.task z (in_ring c.args.left) (in_ring c.args.right)) (plan_of-at c.of-origin.result.numbers (plan_in c.args.course) c.of-origin.ensures)

@@ -1,0 +1,30 @@
+-- What is seen of the parts of a body.
+use Rattle.std.specs.Prelude.{◌≡◌, ◌≤◌, Bool, true, false, Option, Some, None, IsSome}
+use Rattle.task_script.specs.Plan.{sides}
+use Rattle.pipe_bodies.specs.Courses.{plan_on}
+use Rattle.pipe_bodies.specs.Rings.{Ring, in_ring, out_ring, got, out_of}
+use Rattle.pipe_bodies.specs.Turns.{Seen, Sound}
+use Rattle.task_script.specs.declared.plan.Plan.{Plan}
+use Rattle.pipe_bodies.specs.declared.parts.Parts.{Parts}
+
+abbrev pub seen : {W : Type 0} → Parts W → Seen
+seen a = record { got_left = got a.left; got_right = got a.right; out = out_of a.output a.kept a.ended; held = a.held.items; plan = plan_on a.plan; ended = a.ended }
+
+pub record Rings : Type 0 where
+  pub left : Option Ring
+  pub right : Option Ring
+  pub output : Option Ring
+
+abbrev pub rings : {W : Type 0} → Parts W → Rings
+rings a = record { left = in_ring a.left; right = in_ring a.right; output = out_ring a.output }
+
+-- the sides that a plan reads are there
+abbrev pub IsJoined : Option Plan → Option Ring → Option Ring → Type 0
+IsJoined None l r = Unit {0}
+IsJoined (Some p) l r = (1 ≤ sides p → IsSome l) × (2 ≤ sides p → IsSome r)
+
+-- what is known of a body that began with a plan: all of it, unless memory has run out in a turn
+pub record Stands (begun : Plan) (a : Seen) (r : Rings) (broken : Bool) : Type 0 where
+  pub sound : broken ≡ false → Sound begun a
+  pub joined : broken ≡ false → IsJoined a.plan r.left r.right
+  pub broken_open : broken ≡ true → a.ended ≡ false

@@ -1,0 +1,81 @@
+-- What one turn of a body does, and what stays true of a body.
+use Rattle.std.specs.Prelude.{◌≡◌, ◌⊎◌, ℕ, zero, suc, List, [], ◌∷◌, ◌++◌, Bool, true, false, Option, Some, None}
+use Rattle.pipe_tasks.specs.Plans.{wants}
+use Rattle.pipe_bodies.specs.Items.{heard, after, makes, more, outputs, pinned}
+use Rattle.task_script.specs.declared.plan.Plan.{Plan}
+use Rattle.pipe_bodies.specs.declared.item.Item.{Item}
+use Rattle.pipe_bodies.specs.declared.item.Item.TheVariants.{Text, End}
+use Rattle.pipe_bodies.specs.declared.verdict.Verdict.{Verdict}
+use Rattle.pipe_bodies.specs.declared.verdict.Then.TheVariants.{More, WaitIn, WaitOut, Exit}
+
+-- what is seen of a body in its course
+pub record Seen : Type 0 where
+  pub got_left : List Item  -- taken from the left side
+  pub got_right : List Item
+  pub out : List Item  -- put out
+  pub held : List Item  -- still to be put out
+  pub plan : Option Plan  -- none once the end is held or put out
+  pub ended : Bool  -- the end was put out
+
+abbrev pub is_end : Item → Bool
+is_end (Text a) = false
+is_end End = true
+
+-- the oldest held item goes out, or the ring handed it back
+abbrev pub PutsOut : Item → List Item → Seen → Seen → Verdict → Type 0
+PutsOut i h a b v =
+    ((b ≡ record a { out = a.out ++ i ∷ []; held = h; ended = is_end i }) × (v.read ≡ None) × (v.wrote ≡ true) × (v.then ≡ More) × (v.pin ≡ pinned b.plan))
+    ⊎ ((b ≡ a) × (v.read ≡ None) × (v.wrote ≡ false) × (v.then ≡ WaitOut) × (v.pin ≡ pinned b.plan))
+
+-- an item is taken from the left or the right side, or nothing was there
+abbrev pub TakesFrom : ℕ → Plan → Seen → Seen → Verdict → Type 0
+TakesFrom zero p a b v =
+    ((i : Item) × (b ≡ record a { got_left = a.got_left ++ i ∷ []; held = heard p 0 i; plan = after p 0 i }) × (v.read ≡ Some 0) × (v.wrote ≡ false) × (v.then ≡ More) × (v.pin ≡ pinned b.plan))
+    ⊎ ((b ≡ a) × (v.read ≡ None) × (v.wrote ≡ false) × (v.then ≡ WaitIn 0) × (v.pin ≡ pinned b.plan))
+TakesFrom (suc k) p a b v =
+    ((i : Item) × (b ≡ record a { got_right = a.got_right ++ i ∷ []; held = heard p (suc k) i; plan = after p (suc k) i }) × (v.read ≡ Some (suc k)) × (v.wrote ≡ false) × (v.then ≡ More) × (v.pin ≡ pinned b.plan))
+    ⊎ ((b ≡ a) × (v.read ≡ None) × (v.wrote ≡ false) × (v.then ≡ WaitIn (suc k)) × (v.pin ≡ pinned b.plan))
+
+-- a source's next item, or an item of the side that the plan wants
+abbrev pub Goes : Option ℕ → Plan → Seen → Seen → Verdict → Type 0
+Goes None p a b v = (b ≡ record a { held = makes p; plan = more p }) × (v.read ≡ None) × (v.wrote ≡ false) × (v.then ≡ More) × (v.pin ≡ pinned b.plan)
+Goes (Some side) p a b v = TakesFrom side p a b v
+
+abbrev pub GoesOn : Option Plan → Seen → Seen → Verdict → Type 0
+GoesOn None a b v = (b ≡ a) × (v.read ≡ None) × (v.wrote ≡ false) × (v.then ≡ Exit) × (v.pin ≡ pinned b.plan)
+GoesOn (Some p) a b v = Goes (wants p) p a b v
+
+-- one turn: the first case that applies
+abbrev pub TurnsBy : List Item → Seen → Seen → Verdict → Type 0
+TurnsBy (i ∷ h) a b v = PutsOut i h a b v
+TurnsBy [] a b v = GoesOn a.plan a b v
+
+abbrev pub Turns : Seen → Seen → Verdict → Type 0
+Turns a b v = TurnsBy a.held a b v
+
+-- ---- what stays true
+
+-- whatever is still to come, the plan at build puts out for all of it what was put out, then what is held, then what the plan puts out for the rest
+abbrev pub Faithful : Plan → Seen → Type 0
+Faithful begun a = (s t : List Item) → outputs (Some begun) (a.got_left ++ s) (a.got_right ++ t) ≡ (a.out ++ a.held) ++ outputs a.plan s t
+
+abbrev pub NoEnd : List Item → Type 0
+NoEnd [] = Unit {0}
+NoEnd (Text a ∷ h) = NoEnd h
+NoEnd (End ∷ h) = ⊥
+
+abbrev pub OneEnd : List Item → Type 0
+OneEnd [] = ⊥
+OneEnd (Text a ∷ h) = OneEnd h
+OneEnd (End ∷ h) = h ≡ []
+
+-- the end is the last item that is held, and nothing is held once it is out
+abbrev pub Ordered : Bool → Option Plan → List Item → Type 0
+Ordered true (Some p) h = ⊥
+Ordered true None h = h ≡ []
+Ordered false (Some p) h = NoEnd h
+Ordered false None h = OneEnd h
+
+pub record Sound (begun : Plan) (a : Seen) : Type 0 where
+  pub faithful : Faithful begun a
+  pub ordered : Ordered a.ended a.plan a.held

@@ -1,0 +1,23 @@
+//! Text tasks as bodies over bounded rings, a line a turn.
+#![tactic(auto)]
+
+mod body;
+mod building;
+mod item;
+mod parts;
+mod running;
+mod settling;
+mod verdict;
+mod work;
+
+pub use body::Body;
+pub use building::build;
+pub use item::Item;
+pub use parts::Course;
+pub use running::{have_ended, run_bodies};
+pub use settling::settle;
+pub use verdict::{Then, Verdict};
+pub use work::{Custom, NoWork, Work};
+
+#[cfg(test)]
+mod tests;
