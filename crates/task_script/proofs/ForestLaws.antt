@@ -1,302 +1,302 @@
--- The tasks of a script are a forest.
-use Rattle.std.proofs.Common.{◌≡◌, ◌≢◌, ℕ, zero, suc, ◌+◌, ◌-◌, ◌<◌, ◌≤◌, ◌==◌, Bool, true, false, cond, ◌&&◌, ◌||◌, List, [], ◌∷◌, ◌++◌, length, get_or, Option, Some, None, Result, Ok, Err, refl, sym, ap, subst, ◌∙◌, append_assoc, arith}
-use Rattle.std.specs.Prelude.{⊤, nat_eq}
-use Rattle.std.specs.List.{AllByRecursion, AllZip, All, IsDistinct, flat_map, filter_map, cons_option, list_any, position}
-use Rattle.std.specs.Option.{is_none, option_map, option_to_list}
+-- The tasks of faultless lines are a forest.
+use Rattle.std.proofs.Common.{◌≡◌, ◌≢◌, ℕ, zero, suc, ◌+◌, ◌<◌, ◌≤◌, Bool, true, false, cond, ◌||◌, List, [], ◌∷◌, ◌++◌, length, Option, Some, None, refl, sym, ap, subst, ◌∙◌, append_assoc, length-append, All, arith}
+use Rattle.std.specs.Prelude.{AllPairs, slice_index_or, nat_lt}
+use Rattle.std.specs.List.{list_any, filter_map, cons_option, position_from, flat_map}
+use Rattle.std.specs.Option.{is_none}
 use Rattle.std.specs.Str.{bytes_eq}
-use Rattle.std.proofs.lemmas.Bool.{or_parts, eqb-true, false≢true}
-use Rattle.std.proofs.lemmas.List.{append-nil, length-append, get_or_append_left, get_or_default}
-use Rattle.std.proofs.lemmas.List.Folds.{list_any-append}
-use Rattle.std.proofs.lemmas.List.Quantifiers.{position-Some}
+use Rattle.std.proofs.lemmas.Bool.{or_parts}
+use Rattle.std.proofs.lemmas.Bool.Decides.{nat_tests}
 use Rattle.std.proofs.lemmas.Grind.{flat_map-append}
-use Rattle.std.proofs.lemmas.Map.Keys.{IsDistinct-push}
+use Rattle.std.proofs.lemmas.List.{append-nil, get_or_append_left}
+use Rattle.std.proofs.lemmas.List.Elements.{All-nil, All-push}
+use Rattle.std.proofs.lemmas.List.Folds.{list_any-append}
+use Rattle.std.proofs.lemmas.List.Quantifiers.{all_pairs_push}
 use Rattle.std.proofs.lemmas.Slice.Eq.{bytes_eq-Decides}
-use Rattle.std.specs.Cmp.{nat_eq_equiv}
-use Rattle.task_script.specs.declared.reader.Source.{Source}
+use Rattle.std.proofs.Math.Seq.{get_or-append_seam}
 use Rattle.task_script.specs.declared.script.TaskDef.{TaskDef}
-use Rattle.task_script.specs.declared.script.ScriptFault.{ScriptFault}
+use Rattle.task_script.specs.declared.script.Script.{Script}
 use Rattle.task_script.specs.Plan.{sides}
-use Rattle.task_script.specs.Forest as forest
+use Rattle.task_script.specs.Forest.{IsForest, reads as read_tasks}
 use Rattle.task_script.specs.Forms.{Kind, lines_kind, count_kind, upper_kind, number_kind, keep_kind, drop_kind, tally_kind, pin_kind, cat_kind, weave_kind, reads, Form, skip_line, cpus_line, caches_line, room_line, task_line, text_line, end_line, form_of}
-use Rattle.task_script.specs.Script.{number_of, plan_of, task_of, SoFar, form_code, line_code, lacks_task, reads_again, judged_lines, is_over}
-use Rattle.task_script.specs.Reading.{State, held, start, source_task, all_tasks, added, next, fault_at, stepped, step, and_then, run, judged, verdict}
+use Rattle.task_script.specs.Script.{number_of, plan_of, task_of, tasks_of, texts_of, named_in, read_in, so_far, lacks_task, reads_again, IsFaultless, AreFaultless, IsScript}
 use Rattle.task_script.proofs.FormLaws.{IsGood, is_good}
-use Rattle.task_script.proofs.ScriptLaws.{form_good, OnState, Keeps, start_keeps, next_keeps}
+use Rattle.task_script.proofs.ScriptLaws.{form_good}
+use Rattle.task_script.proofs.NameLaws.{by_position, last_some}
 
--- ---- lists with one item more
+abbrev Names : Type 0
+Names = List (List ℕ)
 
-all_push : {X : Type 0} (P : X → Type 0) (xs : List X) (y : X) → AllByRecursion P xs → P y → AllByRecursion P (xs ++ y ∷ [])
-all_push P [] y a b = (b, tt)
-all_push P (x ∷ xs) y a b = (a.0, all_push P xs y a.1 b)
+abbrev is_named : List ℕ → Names → Bool
+is_named name names = list_any (λ other. bytes_eq other name) names
 
-all_at : {X : Type 0} (P : X → Type 0) (xs : List X) → AllByRecursion P xs → All P xs
-all_at P [] a k d lt = absurd (omega arith)
-all_at P (x ∷ xs) a zero d lt = a.0
-all_at P (x ∷ xs) a (suc k) d lt = all_at P xs a.1 k d (omega arith)
+-- ---- the number of a name
 
-zip_push : {A B : Type 0} (R : A → B → Type 0) (xs : List A) (ys : List B) (x : A) (y : B) → AllZip R xs ys → R x y → AllZip R (xs ++ x ∷ []) (ys ++ y ∷ [])
-zip_push R [] [] x y a b = (b, tt)
-zip_push R [] (w ∷ ys) x y a b = absurd a
-zip_push R (v ∷ xs) [] x y a b = absurd a
-zip_push R (v ∷ xs) (w ∷ ys) x y a b = (a.0, zip_push R xs ys x y a.1 b)
+lower_step : (p : List ℕ → Bool) (i k : ℕ) (xs : Names) (b : Bool) → (position_from p (i + 1) xs ≡ Some k → i + 1 ≤ k) → cond b (Some i) (position_from p (i + 1) xs) ≡ Some k → i ≤ k
+lower_step p i k xs true more e = let same : i ≡ k = cc in omega arith
+lower_step p i k xs false more e = let above : i + 1 ≤ k = more e in omega arith
 
-zip_wider : {A B : Type 0} (R S : A → B → Type 0) → ((x : A) (y : B) → R x y → S x y) → (xs : List A) (ys : List B) → AllZip R xs ys → AllZip S xs ys
-zip_wider R S more [] [] a = tt
-zip_wider R S more [] (y ∷ ys) a = absurd a
-zip_wider R S more (x ∷ xs) [] a = absurd a
-zip_wider R S more (x ∷ xs) (y ∷ ys) a = (more x y a.0, zip_wider R S more xs ys a.1)
+lower : (p : List ℕ → Bool) (i k : ℕ) (xs : Names) → position_from p i xs ≡ Some k → i ≤ k
+lower p i k [] e = absurd cc
+lower p i k (x ∷ xs) e = lower_step p i k xs (p x) (lower p (i + 1) k xs) e
 
--- ---- numbers and their names
+upper_step : (p : List ℕ → Bool) (i k : ℕ) (xs : Names) (b : Bool) → (position_from p (i + 1) xs ≡ Some k → k < i + 1 + length xs) → cond b (Some i) (position_from p (i + 1) xs) ≡ Some k → k < i + suc (length xs)
+upper_step p i k xs true more e = let same : i ≡ k = cc in omega arith
+upper_step p i k xs false more e = let below : k < i + 1 + length xs = more e in omega arith
 
--- the task of this number has this name
-abbrev Named : List (List ℕ) → List ℕ → ℕ → Type 0
-Named names name number = (number < length names) × ((d : List ℕ) → get_or names number d ≡ name)
+upper : (p : List ℕ → Bool) (i k : ℕ) (xs : Names) → position_from p i xs ≡ Some k → k < i + length xs
+upper p i k [] e = absurd cc
+upper p i k (x ∷ xs) e = upper_step p i k xs (p x) (upper p (i + 1) k xs) e
 
-named_more : (names : List (List ℕ)) (new name : List ℕ) (number : ℕ) → Named names name number → Named (names ++ new ∷ []) name number
-named_more names new name number h =
-    (let n = h.0 in omega (arith, length-append names (new ∷ [])), λ d. get_or_append_left names (new ∷ []) d number h.0 ∙ h.1 d)
+one_step : (i k : ℕ) (x a b : List ℕ) (xs : Names) (is_a is_b : Bool) → bytes_eq x a ≡ is_a → bytes_eq x b ≡ is_b
+    → (position_from (λ other. bytes_eq other a) (i + 1) xs ≡ Some k → position_from (λ other. bytes_eq other b) (i + 1) xs ≡ Some k → a ≡ b)
+    → cond is_a (Some i) (position_from (λ other. bytes_eq other a) (i + 1) xs) ≡ Some k
+    → cond is_b (Some i) (position_from (λ other. bytes_eq other b) (i + 1) xs) ≡ Some k → a ≡ b
+one_step i k x a b xs true true p q more e f = sym ((bytes_eq-Decides x a).0 p) ∙ (bytes_eq-Decides x b).0 q
+one_step i k x a b xs true false p q more e f =
+    let same : i ≡ k = cc in
+    let above : i + 1 ≤ k = lower (λ other. bytes_eq other b) (i + 1) k xs f in
+    absurd (omega arith)
+one_step i k x a b xs false true p q more e f =
+    let same : i ≡ k = cc in
+    let above : i + 1 ≤ k = lower (λ other. bytes_eq other a) (i + 1) k xs e in
+    absurd (omega arith)
+one_step i k x a b xs false false p q more e f = more e f
 
-number_named : (names : List (List ℕ)) (name : List ℕ) (number : ℕ) → number_of names name ≡ Some number → Named names name number
-number_named names name number e =
-    let at : (d : List ℕ) → (number < length names) × (bytes_eq (get_or names number d) name ≡ true) × ((k : ℕ) → k < number → bytes_eq (get_or names k d) name ≡ false) =
-    λ d. position-Some (λ other. bytes_eq other name) names number d e in
-    ((at []).0, λ d. (bytes_eq-Decides (get_or names number d) name).0 (at d).1)
+one_name : (i k : ℕ) (a b : List ℕ) (xs : Names) → position_from (λ other. bytes_eq other a) i xs ≡ Some k → position_from (λ other. bytes_eq other b) i xs ≡ Some k → a ≡ b
+one_name i k a b [] e f = absurd cc
+one_name i k a b (x ∷ xs) e f = one_step i k x a b xs (bytes_eq x a) (bytes_eq x b) refl refl (one_name (i + 1) k a b xs) e f
 
--- a name that isn't read has a number that isn't read
-fresh_number : (names : List (List ℕ)) (sources : List (List ℕ)) (numbers : List ℕ) (name : List ℕ) (number : ℕ) → AllZip (Named names) sources numbers
-    → list_any (λ other. bytes_eq other name) sources ≡ false → Named names name number → list_any (nat_eq number) numbers ≡ false
-fresh_number names [] [] name number zip none h = refl
-fresh_number names [] (m ∷ numbers) name number zip none h = absurd zip
-fresh_number names (source ∷ sources) [] name number zip none h = absurd zip
-fresh_number names (source ∷ sources) (m ∷ numbers) name number zip none h =
-    let parts = or_parts (bytes_eq source name) (list_any (λ other. bytes_eq other name) sources) none in
-    let rest = fresh_number names sources numbers name number zip.1 parts.1 h in
-    at (nat_eq number m) refl parts.0 rest
-  where
-    at : (b : Bool) → nat_eq number m ≡ b → bytes_eq source name ≡ false → list_any (nat_eq number) numbers ≡ false → (b || list_any (nat_eq number) numbers) ≡ false
-    at true e other rest =
-        let same : number ≡ m = eqb-true number m e in
-        let one : source ≡ name = sym (zip.0.1 []) ∙ ap (λ (k : ℕ). get_or names k []) (sym same) ∙ h.1 [] in
-        absurd (false≢true (sym other ∙ (bytes_eq-Decides source name).1 one))
-    at false e other rest = rest
+-- a number is that of one name, and below the number of names
+number-one : (names : Names) (k : ℕ) (a b : List ℕ) → number_of names a ≡ Some k → number_of names b ≡ Some k → a ≡ b
+number-one names k a b e f = one_name 0 k a b names (sym (by_position names a) ∙ e) (sym (by_position names b) ∙ f)
 
--- ---- tasks that grow
+number-below : (names : Names) (k : ℕ) (a : List ℕ) → number_of names a ≡ Some k → k < length names
+number-below names k a e = let below = upper (λ other. bytes_eq other a) 0 k names (sym (by_position names a) ∙ e) in omega (arith, below)
 
-abbrev Earlier : ℕ → List TaskDef → Type 0
-Earlier n [] = ⊤
-Earlier n (d ∷ ds) = AllByRecursion (λ k. k < n) d.from × Earlier (suc n) ds
+number-later : (names : Names) (k : ℕ) (a new : List ℕ) → number_of names a ≡ Some k → number_of (names ++ new ∷ []) a ≡ Some k
+number-later names k a new e = by_position (names ++ new ∷ []) a ∙ last_some (λ other. bytes_eq other a) 0 k names new (sym (by_position names a) ∙ e)
 
-earlier_push : (n : ℕ) (ds : List TaskDef) (d : TaskDef) → Earlier n ds → AllByRecursion (λ k. k < n + length ds) d.from → Earlier n (ds ++ d ∷ [])
-earlier_push n [] d a b = let e : n + 0 ≡ n = omega arith in (subst (λ (m : ℕ). AllByRecursion (λ k. k < m) d.from) e b, tt)
-earlier_push n (c ∷ ds) d a b =
-    let e : n + suc (length ds) ≡ suc n + length ds = omega arith in
-    (a.0, earlier_push (suc n) ds d a.1 (subst (λ (m : ℕ). AllByRecursion (λ k. k < m) d.from) e b))
+-- ---- the tasks that are read
 
-earlier_at : (n : ℕ) (ds : List TaskDef) → Earlier n ds → (t : ℕ) (d : TaskDef) → t < length ds → AllByRecursion (λ k. k < n + t) (get_or ds t d).from
-earlier_at n [] a t d lt = absurd (omega arith)
-earlier_at n (c ∷ ds) a zero d lt = let e : n ≡ n + 0 = omega arith in subst (λ (m : ℕ). AllByRecursion (λ k. k < m) c.from) e a.0
-earlier_at n (c ∷ ds) a (suc t) d lt =
-    let e : suc n + t ≡ n + suc t = omega arith in
-    subst (λ (m : ℕ). AllByRecursion (λ k. k < m) (get_or ds t d).from) e (earlier_at (suc n) ds a.1 t d (omega arith))
+-- the name of this task is among those that are read
+record IsReadName (names sources : Names) (k : ℕ) : Type 0 where
+  name : List ℕ
+  read : is_named name sources ≡ true
+  numbered : number_of names name ≡ Some k
 
-record Sound (names sources : List (List ℕ)) (tasks : List TaskDef) : Type 0 where
-  inputs : AllByRecursion (λ (d : TaskDef). length d.from ≡ sides d.plan) tasks
-  earlier : Earlier 0 tasks
-  named : AllZip (Named names) sources (forest.reads tasks)
-  once : IsDistinct nat_eq (forest.reads tasks)
+abbrev Differ : ℕ → ℕ → Type 0
+Differ s t = s ≢ t
 
-reads_push : (tasks : List TaskDef) (d : TaskDef) → forest.reads (tasks ++ d ∷ []) ≡ forest.reads tasks ++ d.from
-reads_push tasks d = flat_map-append (λ (t : TaskDef). t.from) tasks (d ∷ []) ∙ ap (λ (ks : List ℕ). forest.reads tasks ++ ks) (append-nil d.from)
+-- tasks that are read, each once, and by these names
+record AreRead (names sources : Names) (tasks : List ℕ) : Type 0 where
+  named : All (IsReadName names sources) tasks
+  once : AllPairs Differ tasks
 
-sound_wider : (names sources : List (List ℕ)) (new : List ℕ) (tasks : List TaskDef) → Sound names sources tasks → Sound (names ++ new ∷ []) sources tasks
-sound_wider names sources new tasks h =
-    record { inputs = h.inputs; earlier = h.earlier; once = h.once; named = zip_wider (Named names) (Named (names ++ new ∷ [])) (named_more names new) sources (forest.reads tasks) h.named }
+more_names : (sources more : Names) (name : List ℕ) → is_named name sources ≡ true → is_named name (sources ++ more) ≡ true
+more_names sources more name e = list_any-append (λ other. bytes_eq other name) sources more ∙ ap (λ b. b || is_named name more) e
 
--- a task that reads none
-sound_none : (names sources : List (List ℕ)) (tasks : List TaskDef) (d : TaskDef) → d.from ≡ [] → sides d.plan ≡ 0 → Sound names sources tasks → Sound names sources (tasks ++ d ∷ [])
-sound_none names sources tasks d none zero_sides h =
-    let same : forest.reads (tasks ++ d ∷ []) ≡ forest.reads tasks = reads_push tasks d ∙ ap (λ (ks : List ℕ). forest.reads tasks ++ ks) none ∙ append-nil _ in
+itself : (name : List ℕ) → bytes_eq name name ≡ true
+itself name = (bytes_eq-Decides name name).1 refl
+
+false_or_true : (b : Bool) → (b || true) ≡ true
+false_or_true true = refl
+false_or_true false = refl
+
+last_named : (sources : Names) (name : List ℕ) → is_named name (sources ++ name ∷ []) ≡ true
+last_named sources name =
+    list_any-append (λ other. bytes_eq other name) sources (name ∷ [])
+    ∙ ap (λ b. is_named name sources || (b || false)) (itself name)
+    ∙ false_or_true (is_named name sources)
+
+read-one : (names sources : Names) (tasks : List ℕ) (name : List ℕ) (k : ℕ) → AreRead names sources tasks → number_of names name ≡ Some k → is_named name sources ≡ false
+    → AreRead names (sources ++ name ∷ []) (tasks ++ k ∷ [])
+read-one names sources tasks name k are number fresh = record {
+  named = All-push (IsReadName names (sources ++ name ∷ [])) tasks k
+      (λ i d below. let was = are.named i d below in record { name = was.name; read = more_names sources (name ∷ []) was.name was.read; numbered = was.numbered })
+      (record { name = name; read = last_named sources name; numbered = number });
+  once = all_pairs_push Differ tasks k are.once
+      (λ i d below same.
+      let was = are.named i d below in
+      let one : was.name ≡ name = number-one names k was.name name (was.numbered ∙ ap (λ (t : ℕ). Some t) same) number in
+      let read : is_named name sources ≡ true = subst (λ (n : List ℕ). is_named n sources ≡ true) one was.read in
+      cc);
+}
+
+-- names in another order are the same names
+abbrev Same : Names → Names → Type 0
+Same x y = (q : List ℕ) → is_named q x ≡ is_named q y
+
+turned : (a b : Bool) → (a || b) ≡ (b || (a || false))
+turned true true = refl
+turned true false = refl
+turned false true = refl
+turned false false = refl
+
+same-more : (x y : Names) (name : List ℕ) → Same x y → Same (name ∷ x) (y ++ name ∷ [])
+same-more x y name same q =
+    ap (λ b. bytes_eq name q || b) (same q)
+    ∙ turned (bytes_eq name q) (is_named q y)
+    ∙ sym (list_any-append (λ other. bytes_eq other q) y (name ∷ []))
+
+record Found (names : Names) (name : List ℕ) : Type 0 where
+  number : ℕ
+  is : number_of names name ≡ Some number
+
+found_one : (names : Names) (name : List ℕ) (o : Option ℕ) → number_of names name ≡ o → is_none o ≡ false → Found names name
+found_one names name None e f = absurd cc
+found_one names name (Some k) e f = record { number = k; is = e }
+
+-- the numbers of these names are read, each once
+record AreReadMore (names sources : Names) (tasks : List ℕ) (more : Names) : Type 0 where
+  read : AreRead names (sources ++ more) (tasks ++ filter_map (number_of names) more)
+  below : All (λ t. t < length names) (filter_map (number_of names) more)
+  counted : length (filter_map (number_of names) more) ≡ length more
+
+cons_below : (n k : ℕ) (ks : List ℕ) → k < n → All (λ t. t < n) ks → All (λ t. t < n) (k ∷ ks)
+cons_below n k ks one more zero d within = one
+cons_below n k ks one more (suc i) d within = more i d (omega arith)
+
+read-more : (names sources seen : Names) (tasks : List ℕ) (more : Names) → Same seen sources → AreRead names sources tasks
+    → lacks_task names more ≡ false → reads_again seen more ≡ false → AreReadMore names sources tasks more
+read-more names sources seen tasks [] same are found once = record {
+  read = subst (λ (z : Names). AreRead names z (tasks ++ [])) (sym (append-nil sources)) (subst (λ (z : List ℕ). AreRead names sources z) (sym (append-nil tasks)) are);
+  below = All-nil (λ t. t < length names);
+  counted = refl;
+}
+read-more names sources seen tasks (name ∷ more) same are found once =
+    let lacks = or_parts (is_none (number_of names name)) (lacks_task names more) found in
+    let again = or_parts (is_named name seen) (reads_again (name ∷ seen) more) once in
+    let this = found_one names name (number_of names name) refl lacks.0 in
+    let fresh : is_named name sources ≡ false = sym (same name) ∙ again.0 in
+    let one = read-one names sources tasks name this.number are this.is fresh in
+    let rest = read-more names (sources ++ name ∷ []) (name ∷ seen) (tasks ++ this.number ∷ []) more (same-more seen sources name same) one lacks.1 again.1 in
+    let numbers : filter_map (number_of names) (name ∷ more) ≡ this.number ∷ filter_map (number_of names) more = ap (λ (o : Option ℕ). cons_option o (filter_map (number_of names) more)) this.is in
     record {
-      inputs = all_push (λ (t : TaskDef). length t.from ≡ sides t.plan) tasks d h.inputs (ap length none ∙ sym zero_sides);
-      earlier = earlier_push 0 tasks d h.earlier (subst (λ (ks : List ℕ). AllByRecursion (λ k. k < 0 + length tasks) ks) (sym none) tt);
-      named = subst (AllZip (Named names) sources) (sym same) h.named;
-      once = subst (IsDistinct nat_eq) (sym same) h.once;
+      read = subst (λ (z : List ℕ). AreRead names (sources ++ name ∷ more) (tasks ++ z)) (sym numbers)
+          (subst (λ (z : Names). AreRead names z (tasks ++ this.number ∷ filter_map (number_of names) more)) (append_assoc sources (name ∷ []) more)
+          (subst (λ (z : List ℕ). AreRead names ((sources ++ name ∷ []) ++ more) z) (append_assoc tasks (this.number ∷ []) (filter_map (number_of names) more)) rest.read));
+      below = subst (λ (z : List ℕ). All (λ t. t < length names) z) (sym numbers) (cons_below (length names) this.number (filter_map (number_of names) more) (number-below names this.number name this.is) rest.below);
+      counted = ap length numbers ∙ ap (λ (n : ℕ). suc n) rest.counted;
     }
 
--- names that a task reads, with their numbers
-record Sources (names sources : List (List ℕ)) (numbers : List ℕ) (new : List (List ℕ)) (found : List ℕ) : Type 0 where
-  named : AllZip (Named names) (sources ++ new) (numbers ++ found)
-  once : IsDistinct nat_eq (numbers ++ found)
-  below : AllByRecursion (λ k. k < length names) found
+read-later : (names sources : Names) (tasks : List ℕ) (new : List ℕ) → AreRead names sources tasks → AreRead (names ++ new ∷ []) sources tasks
+read-later names sources tasks new are = record {
+  named = λ i d below. let was = are.named i d below in record { name = was.name; read = was.read; numbered = number-later names _ was.name new was.numbered };
+  once = are.once;
+}
 
-some_of : (o : Option ℕ) → is_none o ≡ false → (n : ℕ) × (o ≡ Some n)
-some_of None e = absurd cc
-some_of (Some n) e = (n, refl)
+-- ---- the tasks so far
 
-or_false : (b : Bool) → (b || false) ≡ b
-or_false true = refl
-or_false false = refl
+reads-push : (done : List TaskDef) (d : TaskDef) → read_tasks (done ++ d ∷ []) ≡ read_tasks done ++ d.from
+reads-push done d = flat_map-append (λ (e : TaskDef). e.from) done (d ∷ []) ∙ ap (λ (z : List ℕ). read_tasks done ++ z) (append-nil d.from)
 
-one_more : (names sources : List (List ℕ)) (numbers : List ℕ) (name : List ℕ) (number : ℕ) → AllZip (Named names) sources numbers → IsDistinct nat_eq numbers
-    → list_any (λ other. bytes_eq other name) sources ≡ false → number_of names name ≡ Some number → Sources names sources numbers (name ∷ []) (number ∷ [])
-one_more names sources numbers name number zip once unread found =
-    let h = number_named names name number found in
+record Grown (names sources : Names) (done : List TaskDef) : Type 0 where
+  forest : IsForest done
+  counted : length done ≡ length names
+  read : AreRead names sources (read_tasks done)
+
+sides_are : (kind : Kind) (texts : Names) → length (reads kind) ≡ sides (plan_of kind texts)
+sides_are lines_kind texts = refl
+sides_are (count_kind number) texts = refl
+sides_are (upper_kind source) texts = refl
+sides_are (number_kind source) texts = refl
+sides_are (keep_kind prefix source) texts = refl
+sides_are (drop_kind prefix source) texts = refl
+sides_are (tally_kind source) texts = refl
+sides_are (pin_kind number source) texts = refl
+sides_are (cat_kind first second) texts = refl
+sides_are (weave_kind first second) texts = refl
+
+module _ (done : List TaskDef) (d : TaskDef) (forest : IsForest done) (earlier : All (λ s. s < length done) d.from) where
+  reads_earlier : (t : ℕ) (below : Bool) → nat_lt t (length done) ≡ below → (e : TaskDef) → t < length (done ++ d ∷ []) → All (λ s. s < t) (slice_index_or (done ++ d ∷ []) t e).from
+  reads_earlier t true test e within =
+      let inside : t < length done = grind (arith, nat_tests) in
+      subst (λ (z : TaskDef). All (λ s. s < t) z.from) (sym (get_or_append_left done (d ∷ []) e t inside)) (forest.earlier t e inside)
+  reads_earlier t false test e within =
+      let above : length done ≤ t = grind (arith, nat_tests) in
+      let more = length-append done (d ∷ []) in
+      let at : length done ≡ t = omega arith in
+      subst (λ (k : ℕ). All (λ s. s < k) (slice_index_or (done ++ d ∷ []) k e).from) at
+      (subst (λ (z : TaskDef). All (λ s. s < length done) z.from) (sym (get_or-append_seam done d [] e)) earlier)
+
+  one_more : length d.from ≡ sides d.plan → AllPairs Differ (read_tasks done ++ d.from) → IsForest (done ++ d ∷ [])
+  one_more inputs once = record {
+    inputs = All-push (λ (e : TaskDef). length e.from ≡ sides e.plan) done d forest.inputs inputs;
+    earlier = λ t e within. reads_earlier t (nat_lt t (length done)) refl e within;
+    once = subst (λ (z : List ℕ). AllPairs Differ z) (sym (reads-push done d)) once;
+  }
+
+grown-task : (names sources : Names) (done : List TaskDef) (name : List ℕ) (kind : Kind) (texts : Names) → Grown names sources done
+    → lacks_task names (reads kind) ≡ false → reads_again sources (reads kind) ≡ false
+    → Grown (names ++ name ∷ []) (sources ++ reads kind) (done ++ task_of names name kind texts ∷ [])
+grown-task names sources done name kind texts g found once =
+    let d = task_of names name kind texts in
+    let more = read-more names sources sources (read_tasks done) (reads kind) (λ q. refl) g.read found once in
+    let earlier : All (λ s. s < length done) d.from = subst (λ (n : ℕ). All (λ s. s < n) d.from) (sym g.counted) more.below in
     record {
-      named = zip_push (Named names) sources numbers name number zip h;
-      once = IsDistinct-push nat_eq_equiv numbers number once (fresh_number names sources numbers name number zip unread h);
-      below = (h.0, tt);
+      forest = one_more done d g.forest earlier (more.counted ∙ sides_are kind texts) more.read.once;
+      counted = length-append done (d ∷ []) ∙ ap (λ (n : ℕ). n + 1) g.counted ∙ sym (length-append names (name ∷ []));
+      read = subst (λ (z : List ℕ). AreRead (names ++ name ∷ []) (sources ++ reads kind) z) (sym (reads-push done d))
+          (read-later names (sources ++ reads kind) (read_tasks done ++ d.from) name more.read);
     }
 
--- what the names after a `from` come to, where none lacks its task and none is read again
-record Found (names sources : List (List ℕ)) (numbers : List ℕ) (new : List (List ℕ)) : Type 0 where
-  sources_of : Sources names sources numbers new (filter_map (number_of names) new)
-  all_found : length (filter_map (number_of names) new) ≡ length new
+-- ---- the lines
 
-found_one : (names sources : List (List ℕ)) (numbers : List ℕ) (name : List ℕ) → AllZip (Named names) sources numbers → IsDistinct nat_eq numbers
-    → lacks_task names (name ∷ []) ≡ false → reads_again sources (name ∷ []) ≡ false → Found names sources numbers (name ∷ [])
-found_one names sources numbers name zip once lacks again =
-    let number = some_of (number_of names name) (or_parts (is_none (number_of names name)) false lacks).0 in
-    let unread = (or_parts (list_any (λ other. bytes_eq other name) sources) false again).0 in
-    let one = one_more names sources numbers name number.0 zip once unread number.1 in
-    let same : filter_map (number_of names) (name ∷ []) ≡ number.0 ∷ [] = ap (λ (o : Option ℕ). cons_option o []) number.1 in
-    record {
-      sources_of = subst (Sources names sources numbers (name ∷ [])) (sym same) one;
-      all_found = ap length same;
-    }
+flat_push : (names : Form → Names) (before : List Form) (form : Form) → flat_map names (before ++ form ∷ []) ≡ flat_map names before ++ names form
+flat_push names before form = flat_map-append names before (form ∷ []) ∙ ap (λ (z : Names). flat_map names before ++ z) (append-nil (names form))
 
-found_two : (names sources : List (List ℕ)) (numbers : List ℕ) (first second : List ℕ) → AllZip (Named names) sources numbers → IsDistinct nat_eq numbers
-    → lacks_task names (first ∷ second ∷ []) ≡ false → reads_again sources (first ∷ second ∷ []) ≡ false → Found names sources numbers (first ∷ second ∷ [])
-found_two names sources numbers first second zip once lacks again =
-    let l1 = or_parts (is_none (number_of names first)) (lacks_task names (second ∷ [])) lacks in
-    let l2 = or_parts (is_none (number_of names second)) false l1.1 in
-    let m = some_of (number_of names first) l1.0 in
-    let n = some_of (number_of names second) l2.0 in
-    let a1 = or_parts (list_any (λ other. bytes_eq other first) sources) (reads_again (first ∷ sources) (second ∷ [])) again in
-    let a2 = or_parts (list_any (λ other. bytes_eq other second) (first ∷ sources)) false a1.1 in
-    let a3 = or_parts (bytes_eq first second) (list_any (λ other. bytes_eq other second) sources) a2.0 in
-    let unread : list_any (λ other. bytes_eq other second) (sources ++ first ∷ []) ≡ false =
-    list_any-append (λ other. bytes_eq other second) sources (first ∷ []) ∙ rw (a3.1, a3.0) refl in
-    let one = one_more names sources numbers first m.0 zip once a1.0 m.1 in
-    let two = one_more names (sources ++ first ∷ []) (numbers ++ m.0 ∷ []) second n.0 one.named one.once unread n.1 in
-    let same : filter_map (number_of names) (first ∷ second ∷ []) ≡ m.0 ∷ n.0 ∷ [] =
-    ap (λ (o : Option ℕ). cons_option o (cons_option (number_of names second) [])) m.1 ∙ ap (λ (o : Option ℕ). m.0 ∷ cons_option o []) n.1 in
-    let both : Sources names sources numbers (first ∷ second ∷ []) (m.0 ∷ n.0 ∷ []) = record {
-      named = subst (λ (ss : List (List ℕ)). AllZip (Named names) ss (numbers ++ m.0 ∷ n.0 ∷ [])) (append_assoc sources (first ∷ []) (second ∷ []))
-          (subst (AllZip (Named names) ((sources ++ first ∷ []) ++ second ∷ [])) (append_assoc numbers (m.0 ∷ []) (n.0 ∷ [])) two.named);
-      once = subst (IsDistinct nat_eq) (append_assoc numbers (m.0 ∷ []) (n.0 ∷ [])) two.once;
-      below = (one.below.0, two.below);
-    } in
-    record {
-      sources_of = subst (Sources names sources numbers (first ∷ second ∷ [])) (sym same) both;
-      all_found = ap length same;
-    }
+abbrev GrownAfter : List Form → List TaskDef → Type 0
+GrownAfter before done = Grown (flat_map named_in before) (flat_map read_in before) done
 
--- a task that reads these
-sound_task : (names sources : List (List ℕ)) (tasks : List TaskDef) (name : List ℕ) (kind : Kind) → length tasks ≡ length names
-    → length (reads kind) ≡ sides (plan_of kind []) → Sound names sources tasks → Found names sources (forest.reads tasks) (reads kind)
-    → Sound names (sources ++ reads kind) (tasks ++ task_of names name kind [] ∷ [])
-sound_task names sources tasks name kind counted sized h found =
-    let d = task_of names name kind [] in
-    let s = found.sources_of in
-    record {
-      inputs = all_push (λ (t : TaskDef). length t.from ≡ sides t.plan) tasks d h.inputs (found.all_found ∙ sized);
-      earlier = earlier_push 0 tasks d h.earlier (let e : length names ≡ 0 + length tasks = omega arith in subst (λ (m : ℕ). AllByRecursion (λ k. k < m) d.from) e s.below);
-      named = subst (AllZip (Named names) (sources ++ reads kind)) (sym (reads_push tasks d)) s.named;
-      once = subst (IsDistinct nat_eq) (sym (reads_push tasks d)) s.once;
-    }
+-- a line that is no task leaves the tasks
+grown-same : (before : List Form) (form : Form) (done : List TaskDef) → named_in form ≡ [] → read_in form ≡ [] → GrownAfter before done → GrownAfter (before ++ form ∷ []) done
+grown-same before form done none unread g =
+    let names : flat_map named_in (before ++ form ∷ []) ≡ flat_map named_in before = flat_push named_in before form ∙ ap (λ (z : Names). flat_map named_in before ++ z) none ∙ append-nil (flat_map named_in before) in
+    let sources : flat_map read_in (before ++ form ∷ []) ≡ flat_map read_in before = flat_push read_in before form ∙ ap (λ (z : Names). flat_map read_in before ++ z) unread ∙ append-nil (flat_map read_in before) in
+    subst (λ (z : Names). Grown z (flat_map read_in (before ++ form ∷ [])) done) (sym names) (subst (λ (z : Names). Grown (flat_map named_in before) z done) (sym sources) g)
 
--- the task of this kind, or none where it is a source of lines
-sound_added : (names sources : List (List ℕ)) (tasks : List TaskDef) (name : List ℕ) (kind : Kind) → length tasks ≡ length names
-    → lacks_task names (reads kind) ≡ false → reads_again sources (reads kind) ≡ false → Sound names sources tasks → Sound names (sources ++ reads kind) (tasks ++ added names name kind)
-sound_added names sources tasks name lines_kind counted lacks again h = rw (append-nil sources, append-nil tasks) h
-sound_added names sources tasks name (count_kind number) counted lacks again h =
-    rw (append-nil sources) (sound_none names sources tasks (task_of names name (count_kind number) []) refl refl h)
-sound_added names sources tasks name (upper_kind from) counted lacks again h =
-    sound_task names sources tasks name (upper_kind from) counted refl h (found_one names sources (forest.reads tasks) from h.named h.once lacks again)
-sound_added names sources tasks name (number_kind from) counted lacks again h =
-    sound_task names sources tasks name (number_kind from) counted refl h (found_one names sources (forest.reads tasks) from h.named h.once lacks again)
-sound_added names sources tasks name (keep_kind prefix from) counted lacks again h =
-    sound_task names sources tasks name (keep_kind prefix from) counted refl h (found_one names sources (forest.reads tasks) from h.named h.once lacks again)
-sound_added names sources tasks name (drop_kind prefix from) counted lacks again h =
-    sound_task names sources tasks name (drop_kind prefix from) counted refl h (found_one names sources (forest.reads tasks) from h.named h.once lacks again)
-sound_added names sources tasks name (tally_kind from) counted lacks again h =
-    sound_task names sources tasks name (tally_kind from) counted refl h (found_one names sources (forest.reads tasks) from h.named h.once lacks again)
-sound_added names sources tasks name (pin_kind number from) counted lacks again h =
-    sound_task names sources tasks name (pin_kind number from) counted refl h (found_one names sources (forest.reads tasks) from h.named h.once lacks again)
-sound_added names sources tasks name (cat_kind first second) counted lacks again h =
-    sound_task names sources tasks name (cat_kind first second) counted refl h (found_two names sources (forest.reads tasks) first second h.named h.once lacks again)
-sound_added names sources tasks name (weave_kind first second) counted lacks again h =
-    sound_task names sources tasks name (weave_kind first second) counted refl h (found_two names sources (forest.reads tasks) first second h.named h.once lacks again)
+names-same : (before : List Form) (form : Form) → named_in form ≡ [] → flat_map named_in (before ++ form ∷ []) ≡ flat_map named_in before
+names-same before form none = flat_push named_in before form ∙ ap (λ (z : Names). flat_map named_in before ++ z) none ∙ append-nil (flat_map named_in before)
 
-sound_closed : (names sources : List (List ℕ)) (tasks : List TaskDef) (source : Option Source) → Sound names sources tasks
-    → Sound names sources (tasks ++ option_to_list (option_map source_task source))
-sound_closed names sources tasks None h = rw (append-nil tasks) h
-sound_closed names sources tasks (Some source) h = sound_none names sources tasks (source_task source) refl refl h
+-- what the tasks come to, with those of the later lines
+abbrev Ends : List Form → List TaskDef → List Form → Type 0
+Ends before done forms = IsForest (done ++ tasks_of (flat_map named_in before) forms)
 
--- ---- what the reader keeps
+passed : (before : List Form) (form : Form) (done : List TaskDef) (forms : List Form) → named_in form ≡ []
+    → tasks_of (flat_map named_in before) (form ∷ forms) ≡ tasks_of (flat_map named_in before) forms → Ends (before ++ form ∷ []) done forms → Ends before done (form ∷ forms)
+passed before form done forms none skips ends =
+    subst (λ (z : List TaskDef). IsForest (done ++ z)) (ap (λ (z : Names). tasks_of z forms) (names-same before form none) ∙ sym skips) ends
 
-record Grows (s : State) : Type 0 where
-  keeps : Keeps s
-  sound : Sound s.names s.sources s.tasks
+forest-on : (before : List Form) (done : List TaskDef) (lines : Names) (forms : List Form) → GrownAfter before done → AreFaultless before lines forms → Ends before done forms
+forest-on before done [] [] g all = subst (λ (z : List TaskDef). IsForest z) (sym (append-nil done)) g.forest
+forest-on before done [] (form ∷ forms) g all = absurd all
+forest-on before done (line ∷ lines) [] g all = absurd all
+forest-on before done (line ∷ lines) (skip_line ∷ forms) g all = passed before skip_line done forms refl refl (forest-on (before ++ skip_line ∷ []) done lines forms (grown-same before skip_line done refl refl g) all.1)
+forest-on before done (line ∷ lines) (cpus_line n ∷ forms) g all = passed before (cpus_line n) done forms refl refl (forest-on (before ++ cpus_line n ∷ []) done lines forms (grown-same before (cpus_line n) done refl refl g) all.1)
+forest-on before done (line ∷ lines) (caches_line n ∷ forms) g all = passed before (caches_line n) done forms refl refl (forest-on (before ++ caches_line n ∷ []) done lines forms (grown-same before (caches_line n) done refl refl g) all.1)
+forest-on before done (line ∷ lines) (room_line n ∷ forms) g all = passed before (room_line n) done forms refl refl (forest-on (before ++ room_line n ∷ []) done lines forms (grown-same before (room_line n) done refl refl g) all.1)
+forest-on before done (line ∷ lines) (text_line t ∷ forms) g all = passed before (text_line t) done forms refl refl (forest-on (before ++ text_line t ∷ []) done lines forms (grown-same before (text_line t) done refl refl g) all.1)
+forest-on before done (line ∷ lines) (end_line ∷ forms) g all = passed before end_line done forms refl refl (forest-on (before ++ end_line ∷ []) done lines forms (grown-same before end_line done refl refl g) all.1)
+forest-on before done (line ∷ lines) (task_line name kind ∷ forms) g all =
+    let names = flat_map named_in before in
+    let good = is_good (so_far before) (task_line name kind) (form_good (so_far before) line (task_line name kind) all.0.formed all.0.good) in
+    let d = task_of names name kind (texts_of forms) in
+    let grown : GrownAfter (before ++ task_line name kind ∷ []) (done ++ d ∷ []) =
+    subst (λ (z : Names). Grown z (flat_map read_in (before ++ task_line name kind ∷ [])) (done ++ d ∷ [])) (sym (flat_push named_in before (task_line name kind)))
+    (subst (λ (z : Names). Grown (names ++ name ∷ []) z (done ++ d ∷ [])) (sym (flat_push read_in before (task_line name kind)))
+    (grown-task names (flat_map read_in before) done name kind (texts_of forms) g good.found good.unread)) in
+    let ends = forest-on (before ++ task_line name kind ∷ []) (done ++ d ∷ []) lines forms grown all.1 in
+    subst (λ (z : List TaskDef). IsForest z) (append_assoc done (d ∷ []) (tasks_of (names ++ name ∷ []) forms))
+    (subst (λ (z : Names). IsForest ((done ++ d ∷ []) ++ tasks_of z forms)) (flat_push named_in before (task_line name kind)) ends)
 
-start_grows : Grows start
-unfolding IsDistinct
-start_grows = record { keeps = start_keeps; sound = record { inputs = tt; earlier = tt; named = tt; once = tt } }
+nothing : Grown [] [] []
+nothing = record {
+  forest = record { inputs = All-nil (λ (d : TaskDef). length d.from ≡ sides d.plan); earlier = λ t d l. absurd (omega arith); once = λ i j d l m. absurd (omega arith) };
+  counted = refl;
+  read = record { named = All-nil (IsReadName [] []); once = λ i j d l m. absurd (omega arith) };
+}
 
-next_grows : (s : State) (form : Form) → form_code (held s) (Some form) ≡ None → Grows s → Grows (next s form)
-next_grows s skip_line e g = g
-next_grows s (cpus_line number) e g = record { keeps = next_keeps s (cpus_line number) e g.keeps; sound = sound_closed s.names s.sources s.tasks s.source g.sound }
-next_grows s (caches_line number) e g = record { keeps = next_keeps s (caches_line number) e g.keeps; sound = sound_closed s.names s.sources s.tasks s.source g.sound }
-next_grows s (room_line number) e g = record { keeps = next_keeps s (room_line number) e g.keeps; sound = sound_closed s.names s.sources s.tasks s.source g.sound }
-next_grows s (task_line name kind) e g =
-    let good = is_good (held s) (task_line name kind) e in
-    record {
-      keeps = next_keeps s (task_line name kind) e g.keeps;
-      sound = sound_wider s.names (s.sources ++ reads kind) name (all_tasks s ++ added s.names name kind)
-          (sound_added s.names s.sources (all_tasks s) name kind g.keeps.counted good.found good.unread (sound_closed s.names s.sources s.tasks s.source g.sound));
-    }
-next_grows s (text_line text) e g = record { keeps = next_keeps s (text_line text) e g.keeps; sound = g.sound }
-next_grows s end_line e g = record { keeps = next_keeps s end_line e g.keeps; sound = sound_closed s.names s.sources s.tasks s.source g.sound }
-
-stepped_grows : (number : ℕ) (s : State) (line : List ℕ) → Grows s → (code : Option ℕ) (form : Option Form) → line_code (held s) line ≡ code → form_of line ≡ form → OnState Grows (stepped number s code form)
-stepped_grows number s line g (Some code) form e is = tt
-stepped_grows number s line g None None e is = g
-stepped_grows number s line g None (Some form) e is = next_grows s form (form_good (held s) line form is e) g
-
-step_grows : (number : ℕ) (s : State) (line : List ℕ) → Grows s → OnState Grows (step number s line)
-unfolding step
-step_grows number s line g = stepped_grows number s line g (line_code (held s) line) (form_of line) refl refl
-
-then_grows : (r : Result State ScriptFault) (more : State → Result State ScriptFault) → OnState Grows r → ((t : State) → Grows t → OnState Grows (more t)) → OnState Grows (and_then r more)
-then_grows (Err fault) more g again = tt
-then_grows (Ok t) more g again = again t g
-
-run_grows : (number : ℕ) (s : State) → Grows s → (lines : List (List ℕ)) → OnState Grows (run number s lines)
-run_grows number s g [] = g
-run_grows number s g (line ∷ lines) =
-    then_grows (step number s line) (λ t. run (number + 1) t lines) (step_grows number s line g) (λ t h. run_grows (number + 1) t h lines)
-
-ended_grows : (b : Bool) (t : State) (fault : ScriptFault) → Grows t → OnState Grows (cond b (Ok t) (Err fault))
-ended_grows true t fault g = g
-ended_grows false t fault g = tt
-
-judged_grows : (over : Bool) (lines : ℕ) (r : Result State ScriptFault) → OnState Grows r → OnState Grows (judged over lines r)
-judged_grows over lines (Err fault) g = tt
-judged_grows true lines (Ok t) g = tt
-judged_grows false lines (Ok t) g = ended_grows t.ended t (fault_at (lines + 1) 11) g
-
-verdict_grows : (bytes : List ℕ) (s : State) → verdict bytes ≡ Ok s → Grows s
-unfolding verdict
-verdict_grows bytes s e =
-    subst (OnState Grows) e (judged_grows (is_over bytes) (length (judged_lines bytes)) (run 1 start (judged_lines bytes)) (run_grows 1 start start_grows (judged_lines bytes)))
-
-pub is_forest : (bytes : List ℕ) (s : State) → verdict bytes ≡ Ok s → forest.IsForest s.tasks
-is_forest bytes s e =
-    let sound = (verdict_grows bytes s e).sound in
-    record {
-      inputs = all_at (λ (d : TaskDef). length d.from ≡ sides d.plan) s.tasks sound.inputs;
-      earlier = λ t d lt.
-          let e : 0 + t ≡ t = omega arith in
-          all_at (λ k. k < t) (get_or s.tasks t d).from (subst (λ (m : ℕ). AllByRecursion (λ k. k < m) (get_or s.tasks t d).from) e (earlier_at 0 s.tasks sound.earlier t d lt));
-      once = sound.once;
-    }
+-- the tasks of a script are a forest
+pub script-forest : (bytes : List ℕ) (script : Script) → IsScript bytes script → IsForest script.tasks
+script-forest bytes script is =
+    subst (λ (s : Script). IsForest s.tasks) (sym is.says) (forest-on [] [] _ is.forms nothing is.faultless)

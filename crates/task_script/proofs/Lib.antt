@@ -3,3 +3,4 @@ pub mod FormLaws
 pub mod SoFarLaws
 pub mod ScriptLaws
 pub mod ForestLaws
+pub mod NameLaws

@@ -156,7 +156,7 @@ passes_on number s before f (line ∷ front) (form ∷ forms) all =
 
 -- ---- what the reader keeps
 
-abbrev pub OnState : (State → Type 0) → Result State ScriptFault → Type 0
+abbrev OnState : (State → Type 0) → Result State ScriptFault → Type 0
 OnState P (Err fault) = ⊤
 OnState P (Ok t) = P t
 
@@ -166,7 +166,7 @@ pub record Keeps (s : State) : Type 0 where
   pub counted : length (all_tasks s) ≡ length s.names
   pub few : length s.names ≤ 200
 
-pub start_keeps : Keeps start
+start_keeps : Keeps start
 start_keeps = record { closed = λ e. refl; counted = refl; few = lit≤ tt }
 
 not_ended : (b : Bool) (o : Option ℕ) → cond (b && true) (Some 12) o ≡ None → b ≡ false
@@ -197,7 +197,7 @@ settled_keeps s t k none tasks names =
       few = rw names k.few;
     }
 
-pub next_keeps : (s : State) (form : Form) → form_code (held s) (Some form) ≡ None → Keeps s → Keeps (next s form)
+next_keeps : (s : State) (form : Form) → form_code (held s) (Some form) ≡ None → Keeps s → Keeps (next s form)
 next_keeps s skip_line e k = k
 next_keeps s (cpus_line number) e k = settled_keeps s (next s (cpus_line number)) k refl refl refl
 next_keeps s (caches_line number) e k = settled_keeps s (next s (caches_line number)) k refl refl refl

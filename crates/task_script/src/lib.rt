@@ -4,6 +4,7 @@
 mod form;
 mod law;
 mod lists;
+mod names;
 mod pieces;
 mod plan;
 mod reader;

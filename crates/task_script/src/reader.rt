@@ -12,6 +12,7 @@ ghost use Rattle.task_script.specs.Reading.{Gives, IsScriptOf, state_of, start, 
 
 use crate::form::{Form, Inputs, Kind, form_of, is_name, is_within, number_in, sources_of};
 use crate::lists::{Sources, Tasks};
+use crate::names::Names;
 use crate::pieces::next_line;
 use crate::plan::Plan;
 use crate::script::{Script, ScriptError, ScriptFault, TaskDef};
@@ -46,13 +47,13 @@ struct Source {
 
 // What the lines so far come to.
 #[derive(Drop)]
-struct Reader {
+struct Reader<'a> {
     cpus: Option<u32>,
     caches: Option<u32>,
     room: Option<u32>,
     // The names of the tasks, and those that stand after a `from`.
-    names: Vec<Line>,
-    sources: Vec<Line>,
+    names: Names<'a>,
+    sources: Names<'a>,
     ended: bool,
     // The tasks, apart from a source whose texts may still come.
     tasks: Vec<TaskDef>,
@@ -119,16 +120,16 @@ fn plan_of(alloc: Global, kind: Kind) -> Result<Plan, NoMemory>
     })
 }
 
-impl Reader {
-    fn new(alloc: Global) -> Reader
+impl<'a> Reader<'a> {
+    fn new(alloc: Global) -> Reader<'a>
         ensures { state_of result ≡ start }
     {
         Reader {
             cpus: None,
             caches: None,
             room: None,
-            names: Vec::new(alloc),
-            sources: Vec::new(alloc),
+            names: Names::new(alloc),
+            sources: Names::new(alloc),
             ended: false,
             tasks: Vec::new(alloc),
             source: None,
@@ -137,29 +138,21 @@ impl Reader {
 
     // The number of the task of this name, if there is one.
     fn number_of(&self, name: &[u8]) -> Option<usize>
-        ensures { result ≡ number_of self.now.names.items name.now }
+        ensures { result ≡ number_of self.now.names name.now }
     {
-        self.names.iter().position(
-            |other: &Line| -> bool
-                ensures { result ≡ bytes_eq other.now name.entry.now }
-            { other.as_slice() == name },
-        )
+        self.names.number_of(name)
     }
 
     // Whether this name stands after an earlier `from`.
     fn is_read(&self, name: &[u8]) -> bool
-        ensures { result ≡ list_any (λ other. bytes_eq other name.now) self.now.sources.items }
+        ensures { result ≡ list_any (λ other. bytes_eq other name.now) self.now.sources }
     {
-        self.sources.iter().any(
-            |other: &Line| -> bool
-                ensures { result ≡ bytes_eq other.now name.entry.now }
-            { other.as_slice() == name },
-        )
+        self.sources.contains(name)
     }
 
     // Whether a task of this kind reads a name that isn't a task's.
     fn lacks_task(&self, kind: Kind) -> bool
-        ensures { result ≡ lacks_task self.now.names.items (reads (kind_of kind.entry)) }
+        ensures { result ≡ lacks_task self.now.names (reads (kind_of kind.entry)) }
     {
         match sources_of(kind) {
             Inputs::Nothing => false,
@@ -172,7 +165,7 @@ impl Reader {
 
     // Whether a task of this kind reads a name that is read already.
     fn reads_again(&self, kind: Kind) -> bool
-        ensures { result ≡ reads_again self.now.sources.items (reads (kind_of kind.entry)) }
+        ensures { result ≡ reads_again self.now.sources (reads (kind_of kind.entry)) }
     {
         match sources_of(kind) {
             Inputs::Nothing => false,
@@ -302,8 +295,8 @@ impl Reader {
 
     // Adds the number of a task to those that a task reads.
     fn add_source(&self, from: &mut Vec<TaskNo>, name: &[u8]) -> Result<(), NoMemory>
-        requires { vec_len self.now.names < 200 }
-        ensures { OnOk result (from.new.items ≡ from.old.items ++ filter_map (number_of self.now.names.items) (name.now ∷ [])) }
+        requires { length self.now.names < 200 }
+        ensures { OnOk result (from.new.items ≡ from.old.items ++ filter_map (number_of self.now.names) (name.now ∷ [])) }
     {
         if let Some(number) = self.number_of(name) {
             from.push(number as TaskNo)?;
@@ -313,8 +306,8 @@ impl Reader {
 
     // The numbers of the tasks that a task of this kind reads.
     fn numbers_of(&self, alloc: Global, kind: Kind) -> Result<Sources, NoMemory>
-        requires { vec_len self.now.names < 200 }
-        ensures { IfOk result (λ from. from ≡ filter_map (number_of self.now.names.items) (reads (kind_of kind.entry))) }
+        requires { length self.now.names < 200 }
+        ensures { IfOk result (λ from. from ≡ filter_map (number_of self.now.names) (reads (kind_of kind.entry))) }
     {
         let mut from = Vec::new(alloc);
         match sources_of(kind) {
@@ -329,24 +322,23 @@ impl Reader {
     }
 
     // Keeps the names that a task of this kind reads.
-    fn keep_sources(&mut self, alloc: Global, kind: Kind) -> Result<(), NoMemory>
-        requires { HasLineSources (kind_of kind) }
-        ensures { OnOk result (state_of self.new ≡ record (state_of self.old) { sources = self.old.sources.items ++ reads (kind_of kind.entry) }) }
+    fn keep_sources(&mut self, kind: Kind<'a>) -> Result<(), NoMemory>
+        ensures { OnOk result (state_of self.new ≡ record (state_of self.old) { sources = self.old.sources ++ reads (kind_of kind.entry) }) }
     {
         match sources_of(kind) {
             Inputs::Nothing => {}
-            Inputs::One(source) => self.sources.push(line_of(alloc, source)?)?,
+            Inputs::One(source) => self.sources.push(source)?,
             Inputs::Two(first, second) => {
-                self.sources.push(line_of(alloc, first)?)?;
-                self.sources.push(line_of(alloc, second)?)?;
+                self.sources.push(first)?;
+                self.sources.push(second)?;
             }
         }
         Ok(())
     }
 
     // The next task, where no source is open.
-    fn add_task(&mut self, alloc: Global, name: &[u8], kind: Kind) -> Result<(), NoMemory>
-        requires few { vec_len self.old.names < 200 }
+    fn add_task(&mut self, alloc: Global, name: &'a [u8], kind: Kind<'a>) -> Result<(), NoMemory>
+        requires few { length self.old.names < 200 }
         requires named { IsLine name.now }
         requires prefix { HasLinePrefix (kind_of kind) }
         requires sources { HasLineSources (kind_of kind) }
@@ -354,8 +346,8 @@ impl Reader {
         ensures { OnOk result (state_of self.new ≡ settled (state_of self.old) (task_line name.now (kind_of kind.entry))) }
     {
         let from = self.numbers_of(alloc, kind)?;
-        self.keep_sources(alloc, kind)?;
-        self.names.push(line_of(alloc, name)?)?;
+        self.keep_sources(kind)?;
+        self.names.push(name)?;
         let name = line_of(alloc, name)?;
         match kind {
             Kind::Lines => {
@@ -371,7 +363,7 @@ impl Reader {
     }
 
     // A line of this form, where no source is open.
-    fn settle(&mut self, alloc: Global, form: Form) -> Result<(), NoMemory>
+    fn settle(&mut self, alloc: Global, form: Form<'a>) -> Result<(), NoMemory>
         requires fits { CanSettle (held (state_of self.old)) (form_seen form) }
         requires lines { HasLineText (form_seen form) }
         requires none { self.old.source ≡ None }
@@ -394,7 +386,7 @@ impl Reader {
     }
 
     // A line of this form.
-    fn accept(&mut self, alloc: Global, form: Form) -> Result<(), NoMemory>
+    fn accept(&mut self, alloc: Global, form: Form<'a>) -> Result<(), NoMemory>
         requires fits { CanSettle (held (state_of self.old)) (form_seen form) }
         requires lines { HasLineText (form_seen form) }
         ensures { OnOk result (state_of self.new ≡ next (state_of self.old) (form_seen form.entry)) }
@@ -411,7 +403,7 @@ impl Reader {
 
     // One line, with its number.
     #[tactic(auto, unfolding(crate::specs::Reading::step))]
-    fn take(&mut self, alloc: Global, number: u64, line: &[u8]) -> Result<(), ScriptError>
+    fn take(&mut self, alloc: Global, number: u64, line: &'a [u8]) -> Result<(), ScriptError>
         requires { IsLine line.now }
         ensures { Gives (λ _. state_of self.new) result (step number (state_of self.old) line.now) }
     {
@@ -431,7 +423,7 @@ impl Reader {
     // The script, behind its last line.
     fn into_script(self) -> Script
         requires { vec_len self.tasks ≤ 200 }
-        ensures { IsScriptOf (state_of self) result }
+        ensures { IsScriptOf (state_of self.entry) result }
     {
         let tasks = self.tasks.len() as u32;
         let cpus = self.cpus.unwrap_or(1);
@@ -458,7 +450,7 @@ fn fault_at(line: u64, code: u32) -> ScriptError
 }
 
 // All lines, and how many there are.
-fn read_lines(alloc: Global, bytes: &[u8]) -> Result<(Reader, u64), ScriptError>
+fn read_lines<'a>(alloc: Global, bytes: &'a [u8]) -> Result<(Reader<'a>, u64), ScriptError>
     ensures gives { Gives (λ read. state_of read.0) result (run 1 start (input_lines bytes.now)) }
     ensures count { IfOk result (λ read. read.1 ≡ length (input_lines bytes.now)) }
     ensures few { IfOk result (λ read. read.1 ≤ length bytes.now) }
@@ -488,7 +480,7 @@ fn judged_part(bytes: &[u8]) -> &[u8]
 
 // The whole input.
 #[tactic(auto, unfolding(crate::specs::Reading::verdict))]
-fn read_input(alloc: Global, bytes: &[u8]) -> Result<Reader, ScriptError>
+fn read_input<'a>(alloc: Global, bytes: &'a [u8]) -> Result<Reader<'a>, ScriptError>
     ensures { Gives (λ reader. state_of reader) result (verdict bytes.now) }
 {
     let (reader, lines) = read_lines(alloc, judged_part(bytes))?;

@@ -6,7 +6,7 @@ use Rattle.std.proofs.lemmas.List.{append-nil}
 use Rattle.task_script.specs.declared.script.Script.{Script}
 use Rattle.task_script.specs.Script.{IsScript}
 use Rattle.wk_run.specs.Input.{ReadsInput}
-use Rattle.wk_run.specs.Run.{ReadsNoScript}
+use Rattle.wk_run.specs.Run.{ReadsFault}
 use Rattle.wk_run.specs.declared.status.Status.{Status}
 use Rattle.wk_run.specs.declared.status.Status.TheVariants as status
 
@@ -20,8 +20,8 @@ read_all limit bytes read (Some rest) within input =
     whole ∙ ap (λ z. read ++ z) none ∙ append-nil read
 
 -- a source that tells a script isn't answered that it has none
-pub script-read : (bytes : List ℕ) (script : Script) (left : Option (List ℕ)) → IsScript bytes script → ReadsNoScript (Some bytes) left → ⊥
-script-read bytes script left is refused =
+pub script-read : (bytes : List ℕ) (script : Script) (left : Option (List ℕ)) (line code : ℕ) → IsScript bytes script → ReadsFault (Some bytes) left line code → ⊥
+script-read bytes script left line code is refused =
     let same : bytes ≡ refused.read = read_all _ bytes refused.read left is.within refused.input in
     refused.no_script script (subst (λ (b : List ℕ). IsScript b script) same is)
 

@@ -1,10 +1,11 @@
 -- What a run reads and writes.
-use Rattle.std.specs.Prelude.{ℕ, ◌-◌, List, [], length, map, slice_index_or, Option}
+use Rattle.std.specs.Prelude.{ℕ, List, map, Option}
+use Rattle.std.specs.List.{flat_map, zip}
 use Rattle.std.specs.Io.KnownBytes.{Appends, Consumes, IsAtEnd}
 use Rattle.task_script.specs.declared.script.Script.{Script}
 use Rattle.task_script.specs.declared.script.TaskDef.{TaskDef}
-use Rattle.task_script.specs.Script.{IsScript, NotScript}
-use Rattle.pipe_tasks.specs.Tasks.{chain_lines}
+use Rattle.task_script.specs.Script.{IsScript, NotScript, FirstFault}
+use Rattle.pipe_tasks.specs.Tasks.{forest_lines}
 use Rattle.wk_run.specs.Input.{ReadsInput, WritesPart}
 use Rattle.wk_run.specs.Named.{named_lines}
 
@@ -14,13 +15,13 @@ script_limit = 16777216
 
 -- ---- the report
 
--- the name of the last task; none where there is no task
-abbrev pub last_name : List TaskDef → List ℕ
-last_name tasks = slice_index_or (map (λ (task : TaskDef). task.name) tasks) (length tasks - 1) []
+-- the name of each task, and the lines that it has in the report: none where another task reads it
+abbrev pub reported : Script → List (List ℕ × List (List ℕ))
+reported script = zip (map (λ (task : TaskDef). task.name) script.tasks) (forest_lines script.tasks)
 
--- Each line of the one task that no other reads, which is the last of the chain, after that task's name.
+-- For each task that no other reads, in the order of the script, each of its lines after its name.
 abbrev pub report_of : Script → List ℕ
-report_of script = named_lines (last_name script.tasks) (chain_lines script.tasks)
+report_of script = flat_map (λ (task : List ℕ × List (List ℕ)). named_lines task.0 task.1) (reported script)
 
 -- ---- the answers, where `held` and `left` are what the source tells before and after, and `before` and `after` what
 -- the sink tells
@@ -44,8 +45,10 @@ pub record WritesReportPart (held left before after : Option (List ℕ)) : Type 
   pub reads : ReadsScript held left script
   pub writes : WritesPart before after (report_of script)
 
--- The source was read to its end or to one byte past the limit, and what was read is no script.
-pub record ReadsNoScript (held left : Option (List ℕ)) : Type 0 where
+-- The source was read to its end or to one byte past the limit, what was read is no script, and its first fault is on
+-- this line and has this code.
+pub record ReadsFault (held left : Option (List ℕ)) (line code : ℕ) : Type 0 where
   pub read : List ℕ
   pub input : ReadsInput script_limit held left read
+  pub fault : FirstFault read line code
   pub no_script : NotScript read

@@ -1,17 +1,19 @@
 // The command `run`.
-ghost use Rattle.std.specs.Prelude.{◌≡◌, ◌≢◌, ◌⊎◌, ◌≤◌, ℕ, Some, List, IfOk};
-ghost use Rattle.task_script.specs.Script.{IsScript, NotScript};
+ghost use Rattle.std.specs.Prelude.{◌≡◌, ◌≢◌, ℕ, map, Err, IfOk};
+ghost use Rattle.task_script.specs.Script.{IsScript, NotScript, FirstFault};
 ghost use Rattle.task_script.specs.declared.script.Script.{Script};
 ghost use Rattle.task_script.specs.declared.script.ScriptError.TheVariants.{Bad};
+ghost use Rattle.task_script.specs.declared.script.ScriptFault.{ScriptFault};
+ghost use Rattle.task_script.specs.declared.script.TaskDef.{TaskDef};
 ghost use Rattle.wk_run.specs.Ends.{Rose};
-ghost use Rattle.wk_run.specs.Run.{report_of, last_name, ReadsNoScript, WritesReport, WritesReportPart};
+ghost use Rattle.wk_run.specs.Run.{report_of, ReadsFault, WritesReport, WritesReportPart};
 
 use crate::ends::{Sink, Source};
-use crate::report::named_report;
+use crate::report::named_reports;
 use crate::status::Status;
 use crate::transfer::{ReadError, read_input, write_output};
 use handoff_data::{Line, NoMemory};
-use pipe_tasks::run_chain;
+use pipe_tasks::run_forest;
 use std::alloc::Global;
 use task_script::{SCRIPT_LIMIT, ScriptError, TaskDef, read_script};
 
@@ -20,7 +22,7 @@ pub(crate) fn run_cmd<S: Source, K: Sink>(alloc: Global, input: &mut S, out: &mu
     ensures read { result ≢ Status.Usage }
     ensures ok { result ≡ Status.Ok → WritesReport (S.remaining input.old) (S.remaining input.new) (K.taken out.old) (K.taken out.new) }
     ensures bad_script { (line code : ℕ) → result ≡ Status.BadScript line code
-        → (line ≡ 1) × (code ≡ 2) × ReadsNoScript (S.remaining input.old) (S.remaining input.new) }
+        → ReadsFault (S.remaining input.old) (S.remaining input.new) line code }
     ensures read_fault { result ≡ Status.ReadFault → Rose (S.faults input.old) (S.faults input.new) }
     ensures write_fault { result ≡ Status.WriteFault → Rose (K.faults out.old) (K.faults out.new)
         × WritesReportPart (S.remaining input.old) (S.remaining input.new) (K.taken out.old) (K.taken out.new) }
@@ -53,21 +55,23 @@ pub(crate) fn run_cmd<S: Source, K: Sink>(alloc: Global, input: &mut S, out: &mu
 fn script_report(alloc: Global, bytes: &[u8]) -> Result<Vec<u8>, ScriptError>
     ensures report { IfOk result (λ text.
         (script : Script) × IsScript bytes.now script × (text.items ≡ report_of script)) }
-    ensures bad { (line code : ℕ) → result ≡ Err (Bad (record { line = line; code = code }))
-        → (line ≡ 1) × (code ≡ 2) × NotScript bytes.now }
+    ensures bad { (fault : ScriptFault) → result ≡ Err (Bad fault)
+        → FirstFault bytes.now fault.line fault.code × NotScript bytes.now }
 {
     let script = read_script(alloc, bytes)?;
-    let name = copy_last_name(alloc, script.tasks.as_slice())?;
-    let lines = run_chain(alloc, script)?;
-    Ok(named_report(alloc, &name, lines)?)
+    let names = copy_names(alloc, script.tasks.as_slice())?;
+    let outputs = run_forest(alloc, script)?;
+    Ok(named_reports(alloc, names.as_slice(), outputs)?)
 }
 
-// A copy of the name of the last task; an empty line where there is no task.
-fn copy_last_name(alloc: Global, tasks: &[TaskDef]) -> Result<Line, NoMemory>
-    ensures { IfOk result (λ name. name ≡ last_name tasks.now) }
+// A copy of the name of each task.
+fn copy_names(alloc: Global, tasks: &[TaskDef]) -> Result<Vec<Line>, NoMemory>
+    ensures { IfOk result (λ names. names.items ≡ map (λ (task : TaskDef). task.name) tasks.now) }
 {
-    match tasks.last() {
-        Some(task) => Ok(Line::new(Vec::from_slice(alloc, task.name.as_slice())?)),
-        None => Ok(Line::new(Vec::new(alloc))),
+    let mut names = Vec::with_capacity(alloc, tasks.len())?;
+    for task in tasks {
+        let bytes = Vec::from_slice(alloc, task.name.as_slice())?;
+        names.push(Line::new(bytes))?;
     }
+    Ok(names)
 }

@@ -1,20 +1,41 @@
 // The report of a run.
-ghost use Rattle.std.specs.Prelude.{◌≡◌, ◌++◌, IfOk, OnOk};
+ghost use Rattle.std.specs.Prelude.{◌≡◌, ℕ, List, ◌++◌, IfOk, OnOk};
+ghost use Rattle.std.specs.List.{flat_map, zip};
 ghost use Rattle.wk_run.specs.Named.{named_line, named_lines};
 
 use handoff_data::{Line, Lines, NoMemory};
 use std::alloc::Global;
+use std::collections::VecDeque;
 
-// The lines of a task, each after the task's name. A line is let go as soon as it is written.
-pub(crate) fn named_report(alloc: Global, name: &Line, lines: Lines) -> Result<Vec<u8>, NoMemory>
-    ensures { IfOk result (λ text. text.items ≡ named_lines name.now lines) }
+// The lines of each task, each after the name of its task.
+pub(crate) fn named_reports(
+    alloc: Global,
+    names: &[Line],
+    outputs: Vec<Lines>,
+) -> Result<Vec<u8>, NoMemory>
+    ensures { IfOk result (λ text. text.items ≡ flat_map (λ (task : List ℕ × List (List ℕ)). named_lines task.0 task.1)
+        (zip names.now outputs.items)) }
 {
     let mut text = Vec::new(alloc);
-    let mut lines = lines;
-    while let Some(line) = lines.pop() {
-        push_named(&mut text, name, &line)?;
+    let mut outputs = VecDeque::from_vec(outputs);
+    for name in names {
+        let Some(lines) = outputs.pop_front() else {
+            return Ok(text);
+        };
+        push_named_lines(&mut text, name, lines)?;
     }
     Ok(text)
+}
+
+// Adds the lines of a task, each after the task's name. A line is let go as soon as it is written.
+fn push_named_lines(text: &mut Vec<u8>, name: &Line, lines: Lines) -> Result<(), NoMemory>
+    ensures { OnOk result (text.new.items ≡ text.old.items ++ named_lines name.now lines) }
+{
+    let mut lines = lines;
+    while let Some(line) = lines.pop() {
+        push_named(text, name, &line)?;
+    }
+    Ok(())
 }
 
 // Adds a line after the task's name.

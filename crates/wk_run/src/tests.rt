@@ -14,7 +14,7 @@ const HELLO: &str =
 
 const HELLO_REPORT: &str = "c: 1 HELLO\nc: 2 WORLD\n";
 
-const BAD: Status = Status::BadScript { line: 1, code: 2 };
+const BAD: Status = Status::BadScript { line: 1, code: 3 };
 
 fn words(alloc: Global, texts: &[&str]) -> Result<Vec<String>, AllocError> {
     let mut words = Vec::new(alloc);
@@ -50,6 +50,30 @@ fn scripts_give_their_reports(rt: HostRuntime) -> Result<(), Fail> {
         (HELLO, HELLO_REPORT),
         ("cpus 1\ntask a lines\nend", ""),
         ("cpus 1\ntask a lines\n|\n|  x \nend", "a: \na:  x \n"),
+        (
+            "cpus 2\ntask a count 2\ntask b lines\n| z\nend\n",
+            "a: 1\na: 2\nb: z\n",
+        ),
+        (
+            "cpus 2\ntask a lines\n| x\ntask b count 3\ntask w weave from a b\nend\n",
+            "w: x\nw: 1\nw: 2\nw: 3\n",
+        ),
+        (
+            "cpus 1\ntask a lines\ntask b count 2\ntask c cat from a b\nend\n",
+            "c: 1\nc: 2\n",
+        ),
+        (
+            "cpus 4\nroom 1\ntask a count 100000\ntask t tally from a\nend\n",
+            "t: 100000\n",
+        ),
+        (
+            "  cpus 02 \r\n# two\n\n\ttask a  count 03\r\r\ntask p pin 9 from a\nend\n# after\n",
+            "p: 1\np: 2\np: 3\n",
+        ),
+        (
+            "cpus 1\ntask a lines\n| ab\n| b\n|\ntask k keep a from a\ntask c count 11\ntask d drop 1 from c\nend\n",
+            "k: ab\nd: 2\nd: 3\nd: 4\nd: 5\nd: 6\nd: 7\nd: 8\nd: 9\n",
+        ),
     ];
     for (input, report) in cases {
         expect_run(&rt, &["run"], input, (&[], &[]), (Status::Ok, report))?;
@@ -76,8 +100,16 @@ fn each_answer_has_its_cause(rt: HostRuntime) -> Result<(), Fail> {
         expect_run(&rt, texts, HI, (&[0], &[0]), (Status::Usage, ""))?;
     }
 
-    for input in ["", "cpus 2\nend\n", "cpus 1\n", "cpus 1\nend\n\n"] {
-        expect_run(&rt, &["run"], input, (&[], &[0]), (BAD, ""))?;
+    let refusals = [
+        ("", 1, 11),
+        ("cpus 17\nend\n", 1, 3),
+        ("cpus 1\ntask a nosuch\nend\n", 2, 2),
+        ("cpus 1\ntask a lines\n", 3, 11),
+        ("cpus 1\nend\nend\n", 3, 12),
+    ];
+    for (input, line, code) in refusals {
+        let status = Status::BadScript { line, code };
+        expect_run(&rt, &["run"], input, (&[], &[0]), (status, ""))?;
         expect_run(&rt, &["run"], input, (&[0], &[0]), (Status::ReadFault, ""))?;
     }
     Ok(())
@@ -90,7 +122,7 @@ fn the_source_is_read_to_a_byte_past_the_limit(rt: HostRuntime) -> Result<(), Fa
     let mut sink = MemSink::new(rt.alloc(), Vec::new(rt.alloc()));
     let words = words(rt.alloc(), &["run"])?;
     let status = wakerun(rt.alloc(), words.as_slice(), &mut source, &mut sink);
-    assert_eq!(rt; status, BAD);
+    assert_eq!(rt; status, Status::BadScript { line: 1, code: 1 });
     let mut piece = [0u8; 64];
     assert_eq!(rt; source.read(&mut piece), Ok(5));
     Ok(())

@@ -3,7 +3,7 @@ ghost use Rattle.std.specs.Prelude.{◌≡◌, ◌≢◌, ◌⊎◌, ◌↔◌, 
 ghost use Rattle.task_script.specs.Script.{IsScript};
 ghost use Rattle.task_script.specs.declared.script.Script.{Script};
 ghost use Rattle.wk_run.specs.Ends.{Rose};
-ghost use Rattle.wk_run.specs.Run.{ReadsNoScript, WritesReport, WritesReportPart};
+ghost use Rattle.wk_run.specs.Run.{ReadsFault, WritesReport, WritesReportPart};
 ghost use Rattle.wk_run.specs.Words.{IsRun};
 
 use crate::command::run_cmd;
@@ -30,9 +30,10 @@ pub fn wakerun<S: Source, K: Sink>(
     // The source was read to its end, the bytes are a script, and the sink took exactly its report.
     ensures ok { result ≡ Status.Ok → WritesReport (S.remaining input.old) (S.remaining input.new) (K.taken out.old) (K.taken out.new) }
 
-    // The source was read to its end or to one byte past the limit, and the bytes are no script.
+    // The source was read to its end or to one byte past the limit, the bytes are no script, and this is their first
+    // fault.
     ensures bad_script { (line code : ℕ) → result ≡ Status.BadScript line code
-        → (line ≡ 1) × (code ≡ 2) × ReadsNoScript (S.remaining input.old) (S.remaining input.new) }
+        → ReadsFault (S.remaining input.old) (S.remaining input.new) line code }
 
     // A fault of an end is the cause of the answer that names it. What was taken is then the front of the report.
     ensures read_fault { result ≡ Status.ReadFault → Rose (S.faults input.old) (S.faults input.new) }

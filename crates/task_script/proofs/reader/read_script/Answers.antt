@@ -1,11 +1,9 @@
-use Rattle.std.proofs.Common.{◌≡◌, List, sym, subst, arith}
+use Rattle.std.proofs.Common.{◌≡◌, ◌≤◌, arith}
 use Rattle.std.proofs.lemmas.Result.{err_from_is_err_and}
 use Rattle.task_script.specs.declared.script.ScriptError.TheVariants as errors
-use Rattle.task_script.specs.declared.script.TaskDef.{TaskDef}
-use Rattle.task_script.specs.Forest.{IsForest}
 use Rattle.task_script.specs.Reading.{state_of, verdict}
 use Rattle.task_script.proofs.ScriptLaws.{script_found, fault_found, not_script, one_script, few_tasks, refused}
-use Rattle.task_script.proofs.ForestLaws.{is_forest}
+use Rattle.task_script.proofs.ForestLaws.{script-forest}
 use Rattle.task_script.proofs.reader.read_script.Goals as goal
 
 pub returns-in_err-reader-clause-bad : goal.returns-in_err-reader-clause-bad
@@ -30,4 +28,5 @@ returns-clause-only c = λ t a.
 
 pub returns-clause-forest : goal.returns-clause-forest
 returns-clause-forest c =
-    subst (λ (ts : List TaskDef). IsForest ts) (sym c.into_script.ensures.0) (is_forest c.args.bytes.now (state_of c.in_ok-reader.reader) c.in_ok-reader.ensures)
+    script-forest c.args.bytes.now c.into_script.result
+    (script_found c.args.bytes.now (state_of c.in_ok-reader.reader) c.into_script.result c.in_ok-reader.ensures c.into_script.ensures)
