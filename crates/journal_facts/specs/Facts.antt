@@ -1,14 +1,12 @@
 -- What entries tell.
-use Rattle.std.specs.Prelude.{◌≡◌, ◌+◌, ◌++◌, ℕ, suc, true, List, [], ◌∷◌, Option, Some, None}
+use Rattle.std.specs.Prelude.{◌≡◌, ◌+◌, ◌++◌, ℕ, suc, true, List, [], ◌∷◌, Option, Some, None, slice_get}
 use Rattle.std.specs.List.{flat_map}
 use Rattle.std.specs.Option.{option_map, option_to_list}
 use Rattle.std.specs.Ordering.{nat_cmp, ordering_then}
 use Rattle.std.specs.declared.cmp.Ordering.{Ordering}
 use Rattle.handoff_data.specs.declared.entry.Entry.{Entry}
 use Rattle.handoff_data.specs.declared.entry.Entry.TheVariants as entry
-use Rattle.handoff_data.specs.History.{History}
 use Rattle.handoff_data.specs.Numbers.{change_of, run_of}
-use Rattle.handoff_data.specs.Positions.{Stands}
 use Rattle.journal_facts.specs.declared.fact.Fact.{Fact}
 use Rattle.journal_facts.specs.declared.fact.Kind.{Kind}
 use Rattle.journal_facts.specs.declared.fact.Kind.TheVariants as kind
@@ -56,13 +54,16 @@ fact_at kind.Finished seat index _ = None
 fact_at kind.Stood seat index (entry.Stood t r m at) = Some (here kind.Stood 0 0 (t, r))
 fact_at kind.Stood seat index _ = None
 
--- some entry tells the fact
-pub record IsTold (j : History) (f : Fact) : Type 0 where
+-- some entry of these journals tells the fact
+pub record IsTold (journals : List (List Entry)) (f : Fact) : Type 0 where
   pub seat : ℕ
+  pub journal : List Entry
+  pub in_journals : slice_get journals seat ≡ Some journal
   pub index : ℕ
   pub entry : Entry
-  pub stands : Stands j seat index entry
-  pub tells : fact_at f.kind seat index entry ≡ Some f
+  pub in_journal : slice_get journal index ≡ Some entry
+  pub kind : Kind
+  pub tells : fact_at kind seat index entry ≡ Some f
 
 -- each kind
 abbrev pub kinds : List Kind

@@ -1,6 +1,7 @@
-ghost use Rattle.std.specs.Prelude.{◌≡◌, ◌<◌, ◌^◌, ◌++◌, length, IfOk, OnOk, IsPermutation, IsSorted};
+ghost use Rattle.std.specs.Prelude.{◌≡◌, ◌<◌, ◌^◌, ◌++◌, length, IfOk, OnOk, Contains, ◌↔◌, IsPermutation, IsSorted};
 ghost use Rattle.std.specs.Option.{option_to_list};
-ghost use Rattle.journal_facts.specs.Facts.{fact_at, told_of, told_by, told_in, told_from, fact_cmp};
+ghost use Rattle.journal_facts.specs.declared.fact.Fact.{Fact};
+ghost use Rattle.journal_facts.specs.Facts.{IsTold, fact_at, told_of, told_by, told_in, told_from, fact_cmp};
 
 use crate::fact::{Fact, Kind};
 use handoff_data::{Entry, Journal, NoMemory, SeatNo};
@@ -132,7 +133,8 @@ fn push_journal(facts: &mut Vec<Fact>, seat: SeatNo, entries: &[Entry]) -> Resul
 /// What the journals of all seats tell, in order.
 pub fn facts_of(alloc: Global, seats: &[Journal]) -> Result<Vec<Fact>, NoMemory>
     requires { length seats.now < 2 ^ 32 }
-    ensures told { IfOk result (λ facts. IsPermutation (told_from 0 seats.now) facts.items) }
+    ensures told { IfOk result (λ facts. (f : Fact) → Contains facts.items f ↔ IsTold seats.now f) }
+    ensures each { IfOk result (λ facts. IsPermutation (told_from 0 seats.now) facts.items) }
     ensures sorted { IfOk result (λ facts. IsSorted fact_cmp facts.items) }
 {
     let mut facts = Vec::new(alloc);

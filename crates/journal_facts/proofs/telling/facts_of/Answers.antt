@@ -1,11 +1,15 @@
-use Rattle.std.proofs.Common.{◌≡◌, ◌+◌, refl, ap, ◌∙◌, sym, get_or}
+use Rattle.std.proofs.Common.{ℕ, ◌≡◌, ◌≤◌, ◌++◌, arith, subst, List, [], length, drop, length-drop, ◌+◌, refl, ap, ◌∙◌, sym, get_or}
 use Rattle.std.specs.Ordering.{nat_cmp, ordering_then, is_lt}
-use Rattle.journal_facts.specs.Facts.{fact_cmp, kind_number}
+use Rattle.journal_facts.specs.Facts.{fact_cmp, kind_number, told_from}
 use Rattle.journal_facts.specs.declared.fact.Fact.{Fact}
 use Rattle.journal_facts.specs.declared.fact.Kind.{Kind}
 use Rattle.journal_facts.specs.declared.fact.Kind.TheVariants as kind
 use Rattle.journal_facts.specs.contracts.fact.FactOrd.TheImpl as by_fact
 use Rattle.journal_facts.specs.contracts.fact.KindOrd.TheImpl as by_kind
+use Rattle.std.specs.Prelude.{Contains, IsPermutation}
+use Rattle.std.proofs.lemmas.List.{append-nil, nil_from_length}
+use Rattle.std.proofs.lemmas.List.Sorted.{Contains-permutation, IsPermutation-sym}
+use Rattle.journal_facts.proofs.Told.{told_is}
 use Rattle.journal_facts.proofs.telling.facts_of.Goals as goal
 
 -- the derived order of the kinds is that of their numbers
@@ -31,6 +35,23 @@ fact_same : (a b : Fact) → by_fact.ghosts.cmp a b ≡ fact_cmp a b
 fact_same a b =
     ap (λ o. ordering_then o (ordering_then (nat_cmp a.subject b.subject) (ordering_then (nat_cmp a.number b.number)
     (ordering_then (nat_cmp a.cpu b.cpu) (ordering_then (nat_cmp a.seat b.seat) (nat_cmp a.index b.index)))))) (kind_same a.kind b.kind)
+
+nothing_left : {A : Type 0} (xs : List A) (i : ℕ) → length xs ≤ i → drop i xs ≡ []
+nothing_left xs i past = nil_from_length (drop i xs) (omega (arith, length-drop i xs))
+
+pub returns-clause-told : goal.returns-clause-told
+returns-clause-told c = λ f.
+    let seats = c.args.seats.now in
+    let old = c.loop-i.facts.items in
+    let new = c.sort_unstable.new.self.items in
+    let past : drop c.loop-i.i seats ≡ [] = nothing_left seats c.loop-i.i (omega arith) in
+    let listed : old ≡ told_from 0 seats
+    = sym (append-nil old) ∙ ap (λ rest. old ++ told_from c.loop-i.i rest) (sym past) ∙ c.loop-i.invariant in
+    let perm : IsPermutation old new = c.sort_unstable.ensures.permutation in
+    let told = told_is seats f in (
+      λ has. told.0 (subst (λ (xs : List Fact). Contains xs f) listed (Contains-permutation new old f (IsPermutation-sym old new perm) has)),
+      λ t. Contains-permutation old new f perm (subst (λ (xs : List Fact). Contains xs f) (sym listed) (told.1 t)),
+    )
 
 pub returns-clause-sorted : goal.returns-clause-sorted
 returns-clause-sorted c = λ k d lo hi.
