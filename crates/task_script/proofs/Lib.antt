@@ -1,0 +1,4 @@
+pub mod LineLaws
+pub mod TaskLaws
+pub mod ScriptLaws
+pub mod ChainLaws

@@ -1,0 +1,78 @@
+use crate::lists::{Sources, Tasks};
+use crate::plan::Plan;
+use handoff_data::{Line, NoMemory, Shape};
+use std::alloc::{AllocError, AllocFailed};
+
+/// A task of a script.
+#[derive(Drop)]
+pub struct TaskDef {
+    /// A letter `a` to `z` and at most 15 letters or digits.
+    pub name: Line,
+    /// The task's plan as it begins.
+    pub plan: Plan,
+    /// The earlier tasks that it reads, by side.
+    pub from: Sources,
+}
+
+/// A script: a machine, and the tasks that run on it.
+#[derive(Drop)]
+pub struct Script {
+    /// Its processors, tasks and conditions. Each task has two conditions: what it has put out, and what was taken
+    /// from it.
+    pub shape: Shape,
+    /// How many items a ring between two tasks has room for.
+    pub room: u32,
+    /// The tasks, in the order of the script.
+    pub tasks: Tasks,
+}
+
+/// Where bytes fail to be a script.
+#[derive(Clone, Copy, Debug, PartialEq, Eq)]
+pub struct ScriptFault {
+    /// The number of the faulty line, from 1.
+    pub line: u64,
+    /// The code of the fault.
+    pub code: u32,
+}
+
+/// Why no script was read.
+#[derive(Clone, Copy, Debug, PartialEq, Eq)]
+pub enum ScriptError {
+    /// The bytes aren't a script.
+    Bad(ScriptFault),
+    /// Memory was refused.
+    NoMemory,
+}
+
+impl From<AllocError> for ScriptError {
+    ghost use Rattle.std.specs.Prelude.{◌≡◌};
+    ghost use Rattle.task_script.specs.declared.script.ScriptError.TheVariants as errors;
+
+    ghost from_gives = { λ _ e. e ≡ errors.NoMemory };
+
+    fn from(_refused: AllocError) -> ScriptError {
+        ScriptError::NoMemory
+    }
+}
+
+impl<T: Drop> From<AllocFailed<T>> for ScriptError {
+    ghost use Rattle.std.specs.Prelude.{◌≡◌};
+    ghost use Rattle.task_script.specs.declared.script.ScriptError.TheVariants as errors;
+
+    ghost from_gives = { λ _ e. e ≡ errors.NoMemory };
+
+    fn from(_refused: AllocFailed<T>) -> ScriptError {
+        ScriptError::NoMemory
+    }
+}
+
+impl From<NoMemory> for ScriptError {
+    ghost use Rattle.std.specs.Prelude.{◌≡◌};
+    ghost use Rattle.task_script.specs.declared.script.ScriptError.TheVariants as errors;
+
+    ghost from_gives = { λ _ e. e ≡ errors.NoMemory };
+
+    fn from(_refused: NoMemory) -> ScriptError {
+        ScriptError::NoMemory
+    }
+}

@@ -1,0 +1,9 @@
+-- Which words of the command line have a reading.
+use Rattle.std.specs.Prelude.{◌≡◌, List, [], ◌∷◌, map, codes}
+use Rattle.std.specs.String.{string_bytes}
+use Rattle.std.specs.declared.string.String.{String}
+use Rattle.std.specs.declared.alloc.Global.{Global}
+
+-- the one word `run`
+abbrev pub IsRun : List (String Global) → Type 0
+IsRun words = map string_bytes words ≡ codes "run" ∷ []

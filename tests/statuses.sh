@@ -1,0 +1,66 @@
+#!/bin/sh
+# What the built program prints to standard error and with what status it ends, for each answer that a command can show;
+# and the report of each script in examples/.
+# Run it after `rt ci`, which leaves the program in crates/wakerun/out.
+top=$(CDPATH='' cd -- "$(dirname -- "$0")/.." && pwd) || exit 1
+program=$top/crates/wakerun/out/wakerun
+work=$(mktemp -d) || exit 1
+trap 'rm -rf "$work"' EXIT
+passed=0
+failed=0
+
+# expect NAME STATUS LINE: the last run ended so, and printed just this line, or nothing, to standard error.
+expect() {
+    printf '%s' "${3:+$3
+}" >"$work/wanted"
+    if [ "$status" = "$2" ] && cmp -s "$work/wanted" "$work/err"; then
+        passed=$((passed + 1))
+    else
+        failed=$((failed + 1))
+        echo "$1: ended with $status, and printed: $(cat "$work/err")"
+    fi
+}
+
+# run INPUT OUTPUT WORD..
+run() {
+    input=$1
+    output=$2
+    shift 2
+    "$program" "$@" <"$input" >"$output" 2>"$work/err"
+    status=$?
+}
+
+printf 'cpus 1\ntask a lines\n| hi\nend\n' >"$work/hi"
+printf 'cpus 1\ntask a nosuch\nend\n' >"$work/bad"
+
+run "$work/hi" "$work/out" run
+expect 'a script' 0 ''
+printf 'a: hi\n' | cmp -s - "$work/out" || { failed=$((failed + 1)); echo 'a script: wrong report'; }
+
+for script in "$top"/examples/*.wake; do
+    run "$script" "$work/out" run
+    expect "$script" 0 ''
+    cmp -s "${script%.wake}.report" "$work/out" || { failed=$((failed + 1)); echo "$script: wrong report"; }
+done
+
+run "$work/bad" "$work/out" run
+expect 'no script' 1 'wakerun: line 1: 2 UnknownWord'
+[ ! -s "$work/out" ] || { failed=$((failed + 1)); echo 'no script: something was written'; }
+
+usage='wakerun: usage: run, plan, check or gen N SEED'
+run "$work/hi" "$work/out"
+expect 'no words' 2 "$usage"
+run "$work/hi" "$work/out" run run
+expect 'two words' 2 "$usage"
+run "$work/hi" "$work/out" "$(printf 'run\377')"
+expect 'a word that is no text' 2 "$usage"
+
+run "$work" "$work/out" run
+expect 'a folder as standard input' 3 'wakerun: read fault'
+run "$work/hi" /dev/full run
+expect 'a full device' 4 'wakerun: write fault'
+run "$work/bad" /dev/full run
+expect 'no script, and a full device' 1 'wakerun: line 1: 2 UnknownWord'
+
+echo "statuses: $passed passed, $failed failed"
+[ "$failed" = 0 ]
