@@ -1,5 +1,10 @@
 pub mod Digits
+pub mod EntryBack
 pub mod FieldLaws
+pub mod LineBack
+pub mod MaskBack
 pub mod Masks
 pub mod Parts
+pub mod Readback
+pub mod TextBack
 pub mod Texts

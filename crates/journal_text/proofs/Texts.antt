@@ -23,7 +23,7 @@ on_with line room p text more =
     if nat_le room (length text) then Err line
     else then_on line (line_after p text) (λ q. parts_from (line + 1) (room - (length text + 1)) q (slice_split is_feed more))
 
-on_parts : (line room : ℕ) (p : Progress) (text : List ℕ) (xs : List (List ℕ)) → xs ≢ []
+pub on_parts : (line room : ℕ) (p : Progress) (text : List ℕ) (xs : List (List ℕ)) → xs ≢ []
     → lines_from line room p text xs
     ≡ (if nat_le room (length text) then Err line
     else then_on line (line_after p text) (λ q. parts_from (line + 1) (room - (length text + 1)) q xs))
@@ -54,7 +54,7 @@ pub on_refused : (line room : ℕ) (p : Progress) (text more : List ℕ) → lin
 on_refused line room p text more none =
     rw none (same_fault (nat_le room (length text)) line)
 
-not_full : (room n : ℕ) → n < room → nat_le room n ≡ false
+pub not_full : (room n : ℕ) → n < room → nat_le room n ≡ false
 not_full room n less = grind (arith, nat_tests)
 
 pub on_taken : (line room : ℕ) (p q : Progress) (text more : List ℕ) → length text < room → line_after p text ≡ Some q

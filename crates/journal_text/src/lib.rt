@@ -6,8 +6,13 @@ mod entries;
 mod fields;
 mod heading;
 mod keyword;
+mod law;
 mod reading;
 mod writing;
 
+pub use law::written_is_read;
 pub use reading::{JournalError, TEXT_LIMIT, read_journal};
 pub use writing::write_journal;
+
+#[cfg(test)]
+mod tests;

@@ -1,0 +1,8 @@
+//! What entries of journals tell, as a sorted list of facts: whether one was told is one binary search.
+#![tactic(auto)]
+
+mod fact;
+mod telling;
+
+pub use fact::{Fact, Kind};
+pub use telling::{fact_of, facts_of};

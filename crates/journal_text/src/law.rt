@@ -1,0 +1,13 @@
+//! What is written is read.
+
+ghost use Rattle.std.specs.Prelude.{◌≡◌, ◌≤◌, Ok, length};
+ghost use Rattle.handoff_data.specs.History.{History};
+ghost use Rattle.journal_text.specs.Readable.{AreReadable, text_of};
+ghost use Rattle.journal_text.specs.Spelling.{spelling};
+ghost use Rattle.journal_text.specs.Text.{byte_limit, reading};
+
+/// Reading what was written gives the journals back, where they are in the reader's ranges and the text is within
+/// its limit.
+pub fn written_is_read()
+    ensures { (j : History) → AreReadable j → length (text_of (spelling j)) ≤ byte_limit → reading (text_of (spelling j)) ≡ Ok j }
+{}
