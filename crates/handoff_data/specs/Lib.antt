@@ -1,2 +1,10 @@
+pub mod History
+pub mod Legal
 pub mod Line
+pub mod Mask
+pub mod Moves
+pub mod Numbers
+pub mod Positions
+pub mod Rules
 pub mod Shape
+pub mod State

@@ -2,17 +2,25 @@
 //! of a machine, lines of text, and the one error of a call that takes memory.
 #![tactic(auto)]
 
+mod entry;
 mod line;
 mod lines;
+mod mask;
 mod no_memory;
 mod numbers;
+mod place;
 mod shape;
+mod state;
 
+pub use entry::{Entry, Journal, Journals};
 pub use line::{Line, is_line};
 pub use lines::Lines;
+pub use mask::CpuMask;
 pub use no_memory::NoMemory;
 pub use numbers::{CondNo, CpuNo, SeatNo, TaskNo};
+pub use place::{Place, Q};
 pub use shape::Shape;
+pub use state::{State, matches};
 
 #[cfg(test)]
 mod tests;
