@@ -12,10 +12,11 @@ ghost use Rattle.core_kinds.specs.Locks.{MayTakeTask, take_task, MayGiveTask, gi
 use crate::common::is_of_shape;
 use core_data::{Act, Core, TaskReads, TaskVal, TaskWords, WorksVal};
 use core_stores::{
-    conds, cpus, has_queue, has_wait, has_works, hold_queue, hold_task, hold_wait, hold_works, note, put_lock,
-    put_queue_lock, put_seen, put_val, put_wait_lock, put_works, put_works_lock, queue_lock, release_task,
-    release_works, seats, set_reads, take_queue as take_queue_val, take_wait as take_wait_val,
-    take_works as take_works_val, task_out, task_words, wait_lock, works_lock,
+    conds, cpus, has_queue, has_wait, has_works, hold_queue, hold_task, hold_wait, hold_works,
+    note, put_lock, put_queue_lock, put_seen, put_val, put_wait_lock, put_works, put_works_lock,
+    queue_lock, release_task, release_works, seats, set_reads, take_queue as take_queue_val,
+    take_wait as take_wait_val, take_works as take_works_val, task_out, task_words, wait_lock,
+    works_lock,
 };
 use handoff_data::{CondNo, CpuNo, NoMemory, SeatNo, State, TaskNo};
 
@@ -72,14 +73,24 @@ pub fn take_task(core: &mut Core, s: SeatNo, t: TaskNo) -> Result<(), NoMemory>
 }
 
 /// Whether seat s may give the lock of task t with this value.
-pub fn may_give_task(core: &Core, s: SeatNo, t: TaskNo, val: TaskVal, stood: bool, done: bool) -> bool
+pub fn may_give_task(
+    core: &Core,
+    s: SeatNo,
+    t: TaskNo,
+    val: TaskVal,
+    stood: bool,
+    done: bool,
+) -> bool
     ensures { IsTrue result ↔ MayGiveTask (table core.now) s t val stood done }
 {
     if !is_of_shape(core, s, t) || stood || done {
         return false;
     }
     let words = task_words(core, t);
-    words.lock == Some(s) && is_settled(words) && is_fresh_if_new(words) && is_given_as_taken(core, s, t, val)
+    words.lock == Some(s)
+        && is_settled(words)
+        && is_fresh_if_new(words)
+        && is_given_as_taken(core, s, t, val)
         && (val.wake_cpu as usize) < cpus(core)
         && (val.dest as usize) < cpus(core)
 }
@@ -172,7 +183,7 @@ pub fn may_take_wait(core: &Core, s: SeatNo, k: CondNo) -> bool
 }
 
 /// Forgets the state that was read under the lock of the own queue.
-fn unsee(core: &mut Core, s: SeatNo, c: CpuNo)
+pub fn unsee(core: &mut Core, s: SeatNo, c: CpuNo)
     requires { s < (table core.old).seats }
     ensures { table core.new ≡ unseen (table core.old) s c }
 {

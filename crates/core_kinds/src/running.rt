@@ -12,8 +12,9 @@ ghost use Rattle.core_kinds.specs.Running.{store_rq, IsReady, MayQueue, queue_en
 use crate::common::{END, is_of_shape, is_runnable, is_sleep, renew};
 use core_data::{Act, Core, QueueVal, TaskReads, TaskWords};
 use core_stores::{
-    body_out as body_out_of, clear, cpus, current, forget_sleep, idle, log, note, put_body, put_body_out, put_busy, put_current,
-    put_rq, put_seen, put_to_clear, queue_lock, reads, seen, set_reads, take_body, task_words, to_clear,
+    body_out as body_out_of, clear, cpus, current, forget_sleep, idle, log, note, put_body,
+    put_body_out, put_busy, put_current, put_rq, put_seen, put_to_clear, queue_lock, reads, seen,
+    set_reads, take_body, task_words, to_clear,
 };
 use handoff_data::{CpuNo, Entry, NoMemory, SeatNo, State, TaskNo};
 
@@ -55,7 +56,9 @@ fn store_rq(core: &mut Core, s: SeatNo, t: TaskNo, on: u8, entry: Entry) -> Resu
 fn is_ready(words: TaskWords, is_clear: bool) -> bool
     ensures { IsTrue result ↔ ((words.changes ≡ 0) ⊎ (((words.on_rq ≡ 0) × (words.state ≡ waking) × (is_clear ≡ true)) ⊎ (words.on_rq ≡ 2))) }
 {
-    words.changes == 0 || (words.on_rq == 0 && words.state == State::TASK_WAKING && is_clear) || words.on_rq == 2
+    words.changes == 0
+        || (words.on_rq == 0 && words.state == State::TASK_WAKING && is_clear)
+        || words.on_rq == 2
 }
 
 /// Whether seat s may store 1 in `on_rq` of task t, on the queue of processor c.
@@ -119,7 +122,11 @@ pub fn may_dequeue(core: &Core, s: SeatNo, c: CpuNo, t: TaskNo) -> bool
     }
     let words = task_words(core, t);
     let leaves = may_leave(seen(core, s), words.count);
-    current(core, s) == Some(t) && words.on_rq == 1 && words.cpu == c && leaves && words.changes < END
+    current(core, s) == Some(t)
+        && words.on_rq == 1
+        && words.cpu == c
+        && leaves
+        && words.changes < END
 }
 
 fn dequeue_entry(state: Option<State>, changes: u64, t: TaskNo, c: CpuNo) -> Entry
@@ -160,11 +167,22 @@ pub fn may_move(core: &Core, s: SeatNo, c: CpuNo, t: TaskNo, val: &QueueVal) -> 
     let words = task_words(core, t);
     let runnable = is_runnable(words.state);
     let free = current(core, s) != Some(t) && idle(core, s, c, t);
-    words.lock == Some(s) && words.on_rq == 1 && words.cpu == c && runnable && free && words.changes < END
+    words.lock == Some(s)
+        && words.on_rq == 1
+        && words.cpu == c
+        && runnable
+        && free
+        && words.changes < END
 }
 
 /// Takes task t off its queue, to be moved.
-pub fn move_task(core: &mut Core, s: SeatNo, c: CpuNo, t: TaskNo, val: &QueueVal) -> Result<(), NoMemory>
+pub fn move_task(
+    core: &mut Core,
+    s: SeatNo,
+    c: CpuNo,
+    t: TaskNo,
+    val: &QueueVal,
+) -> Result<(), NoMemory>
     requires { MayMove (table core.old) s c t val.now }
     ensures { OnOk result (table core.new ≡ move_task (table core.old) s c t) }
 {
@@ -184,7 +202,13 @@ pub fn may_set_busy(core: &Core, s: SeatNo, c: CpuNo, t: TaskNo, val: &QueueVal)
     let words = task_words(core, t);
     let runnable = is_runnable(words.state);
     let free = current(core, s).is_none() && to_clear(core, s).is_none();
-    val.cur == Some(t) && words.on_rq == 1 && words.cpu == c && runnable && !words.on_cpu && free && words.runs < END
+    val.cur == Some(t)
+        && words.on_rq == 1
+        && words.cpu == c
+        && runnable
+        && !words.on_cpu
+        && free
+        && words.runs < END
 }
 
 /// Whether seat s may clear the busy word of task t, which it has just given up.
@@ -268,7 +292,9 @@ pub fn may_body_home(core: &Core, s: SeatNo, t: TaskNo, ended: bool) -> bool
     if !is_of_shape(core, s, t) {
         return false;
     }
-    current(core, s) == Some(t) && body_out_of(core, s) == Some(t) && (ended || !task_words(core, t).ended)
+    current(core, s) == Some(t)
+        && body_out_of(core, s) == Some(t)
+        && (ended || !task_words(core, t).ended)
 }
 
 /// Puts the body of task t home.
