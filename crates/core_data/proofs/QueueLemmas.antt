@@ -1,5 +1,5 @@
 -- No task waits twice in a queue.
-use Rattle.std.proofs.Common.{◌≡◌, ℕ, ◌+◌, ◌≤◌, ◌==◌, ◌++◌, ◌∷◌, [], List, Bool, true, false, Option, Some, None, refl, sym, ap, subst, ◌∙◌, nat_eq, arith}
+use Rattle.std.proofs.Common.{◌≡◌, ℕ, ◌+◌, ◌≤◌, ◌==◌, ◌++◌, ◌∷◌, [], List, Bool, true, false, Option, Some, None, refl, sym, ap, subst, ◌∙◌, nat_eq, length, length-append, arith}
 use Rattle.std.specs.Prelude.{if◌then◌else◌, count_by, IsTrue, ◌↔◌, ◌<◌}
 use Rattle.std.specs.Option.{option_to_list}
 use Rattle.std.specs.List.{filter, list_any}
@@ -41,3 +41,17 @@ pub found_once : (xs : List ℕ) (t : ℕ) (b : Bool) → IsOnce xs → b ≡ li
 found_once xs t b once is =
     let a = any-times xs t in let o = once.at_most t in
     (λ h. let p = a.0 (subst (λ c. IsTrue c) is h) in omega (arith, o, p), λ h. subst (λ c. IsTrue c) (sym is) (a.1 (omega (arith, h))))
+
+pub length-pop : (o : Option ℕ) (old new : List ℕ) → old ≡ option_to_list o ++ new → length old ≤ 200 → length new ≤ 200
+length-pop None old new h few = subst (λ xs. length xs ≤ 200) h few
+length-pop (Some x) old new h few = let e = subst (λ xs. length xs ≤ 200) h few in omega (arith, e)
+
+length-kept : (t : ℕ) (xs : List ℕ) → length (filter (is_other t) xs) ≤ length xs
+length-kept t [] = omega arith
+length-kept t (x ∷ xs) = let r = length-kept t xs in grind (arith, nat_tests, r)
+
+pub length-drop_task : (t : ℕ) (xs : List ℕ) → length xs ≤ 200 → length (filter (is_other t) xs) ≤ 200
+length-drop_task t xs few = let r = length-kept t xs in omega (arith, r, few)
+
+pub length-push : (xs : List ℕ) (x : ℕ) → length xs < 200 → length (xs ++ x ∷ []) ≤ 200
+length-push xs x few = let e = length-append xs (x ∷ []) in omega (arith, e, few)

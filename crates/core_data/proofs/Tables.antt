@@ -2,7 +2,7 @@
 use Rattle.std.proofs.Common.{◌≡◌, List}
 use Rattle.handoff_data.specs.declared.shape.Shape.{Shape}
 use Rattle.core_data.specs.Table.{Table, table, table_of}
-use Rattle.core_data.specs.declared.core.Core.{Core}
+use Rattle.core_data.specs.declared.machine.Core.{Core}
 use Rattle.core_data.specs.declared.seat.SeatCore.{SeatCore}
 use Rattle.core_data.specs.declared.words.TaskWords.{TaskWords}
 use Rattle.core_data.specs.declared.words.CpuWords.{CpuWords}

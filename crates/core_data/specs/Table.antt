@@ -9,7 +9,7 @@ use Rattle.core_data.specs.Holding.{Holding}
 use Rattle.core_data.specs.Position.{Position}
 use Rattle.core_data.specs.Queue.{Queue}
 use Rattle.core_data.specs.declared.act.Act.TheVariants.{TookTask, Renewed, Matched, SawOff, Claimed, SawClear, SawRest, SawRestOff, SawRestIdle, StoredWord, TookQueue, Queued, Dequeued, Picked, TookWait, OwnStored, Slept, Passed, Bumped, Walked}
-use Rattle.core_data.specs.declared.core.Core.{Core}
+use Rattle.core_data.specs.declared.machine.Core.{Core}
 use Rattle.core_data.specs.declared.held.HeldTask.{HeldTask}
 use Rattle.core_data.specs.declared.held.HeldQueue.{HeldQueue}
 use Rattle.core_data.specs.declared.held.HeldList.{HeldList}

@@ -3,8 +3,8 @@
 ghost use Rattle.std.specs.Prelude.{◌≡◌, IfOk};
 ghost use Rattle.core_data.specs.Table.{Table, table};
 
-use crate::core::Core;
 use crate::held::{Held, HeldList, HeldQueue, HeldWait, HeldWorks};
+use crate::machine::Core;
 use crate::pos::Pos;
 use crate::queue::QueueVal;
 use crate::seat::SeatCore;

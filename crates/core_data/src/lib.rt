@@ -6,8 +6,8 @@
 
 mod act;
 mod copies;
-mod core;
 mod held;
+mod machine;
 mod opening;
 mod pos;
 mod queue;
@@ -17,8 +17,8 @@ mod words;
 
 pub use act::{Act, is_since, note_act};
 pub use copies::copy_core;
-pub use core::Core;
 pub use held::{Held, HeldList, HeldQueue, HeldTask, HeldWait, HeldWorks};
+pub use machine::Core;
 pub use pos::{
     ActiveRead, Asleep, Completing, CountRead, Due, MarkRead, PhaseRead, PhaseTurns, Pos, Rq,
     Served, TaskReads, Test, Ticket, has_entry, is_gone,

@@ -3,8 +3,8 @@
 ghost use Rattle.std.specs.Prelude.{◌≡◌, IfOk, OnOk, replicate, [], None};
 ghost use Rattle.core_data.specs.Opening.{first_task, first_cpu, first_cond, first_seat, no_holding, no_position};
 
-use crate::core::Core;
 use crate::held::Held;
+use crate::machine::Core;
 use crate::pos::{Pos, Served};
 use crate::queue::QueueVal;
 use crate::seat::SeatCore;

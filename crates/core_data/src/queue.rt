@@ -1,4 +1,4 @@
-ghost use Rattle.std.specs.Prelude.{◌≡◌, ◌≤◌, ◌↔◌, IsTrue, IfOk};
+ghost use Rattle.std.specs.Prelude.{◌≡◌, ◌≤◌, ◌↔◌, IsTrue, IfOk, length};
 ghost use Rattle.std.specs.VecDeque.{deque_capacity};
 ghost use Rattle.std.specs.List.{filter};
 ghost use Rattle.core_data.specs.Queue.{times_in, is_other, IsOnce};
@@ -20,7 +20,7 @@ pub struct QueueVal {
 }
 
 impl Model for QueueVal {
-    ghost use Rattle.std.specs.Prelude.{◌≤◌};
+    ghost use Rattle.std.specs.Prelude.{◌≤◌, length};
     ghost use Rattle.std.specs.VecDeque.{deque_capacity};
     ghost use Rattle.core_data.specs.Queue.{Queue, IsOnce};
 
@@ -28,7 +28,16 @@ impl Model for QueueVal {
 
     ghost view = { λ q. record { waiting = q.waiting.items; cur = q.cur; left = q.left } };
 
-    ghost invariant = { λ q. (200 ≤ deque_capacity q.waiting) × IsOnce q.waiting.items };
+    ghost invariant = { λ q. (200 ≤ deque_capacity q.waiting) × IsOnce q.waiting.items × (length q.waiting.items ≤ 200) };
+}
+
+/// How many tasks wait.
+fn count_of(waiting: &VecDeque<TaskNo>) -> u32
+    requires { length waiting.now.items ≤ 200 }
+    ensures count { result ≡ length waiting.now.items }
+    ensures few { result ≤ 200 }
+{
+    waiting.len() as u32
 }
 
 /// Whether a list that has no task twice has this one.
@@ -129,17 +138,17 @@ impl QueueVal {
 
     /// Whether a task waits there.
     pub fn contains(&self, t: TaskNo) -> bool
-        ensures { IsTrue result ↔ (times_in self.now.waiting t ≡ 1) }
+        ensures found { IsTrue result ↔ (times_in self.now.waiting t ≡ 1) }
+        ensures once { IsOnce self.now.waiting }
     {
         is_among(&self.waiting, t)
     }
 
     /// The number of runnable tasks: those that wait, and the one that runs.
     pub fn len(&self) -> u32
-        requires { length self.now.waiting < 2 ^ 31 }
         ensures { result ≡ runnable_count self.now }
     {
         let runs = if self.cur.is_some() { 1 } else { 0 };
-        self.waiting.len() as u32 + runs
+        count_of(&self.waiting) + runs
     }
 }

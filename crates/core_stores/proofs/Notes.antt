@@ -10,7 +10,7 @@ use Rattle.core_data.specs.Rows.{with_seat}
 use Rattle.core_data.specs.Table.{Table, table, put, matched_of, unstored_of, saw_off_of, claimed_of, clear_of, stored_of, rest_state_of, rest_off_of, rest_idle_of, slept_of, requeued_of, idle_of, added_of, dropped_of, passed_of, own_stored_of, slept_in_of, owes_of, retaken_of}
 use Rattle.core_data.specs.declared.act.Act.{Act}
 use Rattle.core_data.specs.declared.act.Act.TheVariants.{TookTask, Renewed, StoredWord, Matched, SawOff, Claimed, SawClear, SawRest, SawRestOff, SawRestIdle, TookQueue, Queued, Dequeued, Picked, TookWait, OwnStored, Slept, Passed, Bumped, Walked}
-use Rattle.core_data.specs.declared.core.Core.{Core}
+use Rattle.core_data.specs.declared.machine.Core.{Core}
 use Rattle.core_data.specs.declared.seat.SeatCore.{SeatCore}
 use Rattle.core_data.proofs.ActLemmas.{since-with}
 use Rattle.core_stores.proofs.Writes.{table-seat, same-seat, get-matched, get-unstored, get-saw_off, get-claimed, get-clear, get-stored, get-rest_state, get-rest_off, get-rest_idle, get-slept, get-requeued, get-idle, get-added, get-dropped, get-passed, get-own_stored, get-slept_in, get-owes, get-retaken}

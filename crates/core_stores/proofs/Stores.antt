@@ -10,7 +10,7 @@ use Rattle.core_data.specs.Noted.{given_asleep}
 use Rattle.core_data.specs.Position.{Position, is_other_test, is_test_of_other, is_sleep_of_other, is_reads_of_other, stays_asleep, newly_asleep}
 use Rattle.core_data.specs.Queue.{Queue}
 use Rattle.core_data.specs.Table.{Table, table, put, put_at}
-use Rattle.core_data.specs.declared.core.Core.{Core}
+use Rattle.core_data.specs.declared.machine.Core.{Core}
 use Rattle.core_data.specs.declared.pos.TaskReads.{TaskReads}
 use Rattle.core_data.specs.declared.pos.Test.{Test}
 use Rattle.core_data.specs.declared.seat.SeatCore.{SeatCore}

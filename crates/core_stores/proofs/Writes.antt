@@ -7,7 +7,7 @@ use Rattle.core_data.specs.Table.{Table, table, put, column, unserved, mark_of, 
 use Rattle.core_data.specs.Found.{no_reads}
 use Rattle.core_data.specs.Rows.{task_words_of, with_task, with_cpu, with_cond, with_seat}
 use Rattle.core_stores.proofs.Columns.{column-set, column-get, column-put}
-use Rattle.core_data.specs.declared.core.Core.{Core}
+use Rattle.core_data.specs.declared.machine.Core.{Core}
 use Rattle.core_data.specs.declared.seat.SeatCore.{SeatCore}
 use Rattle.core_data.specs.declared.words.TaskWords.{TaskWords}
 use Rattle.core_data.specs.declared.words.CpuWords.{CpuWords}

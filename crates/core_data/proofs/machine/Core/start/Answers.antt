@@ -1,6 +1,6 @@
 use Rattle.std.proofs.Common.{refl}
 use Rattle.core_data.proofs.Tables.{table_rows}
-use Rattle.core_data.proofs.core.Core.start.Goals as goal
+use Rattle.core_data.proofs.machine.Core.start.Goals as goal
 
 pub returns : goal.returns
 returns c =
