@@ -1,0 +1,5 @@
+pub mod ActLemmas
+pub mod EntryLemmas
+pub mod FoundLemmas
+pub mod QueueLemmas
+pub mod Tables

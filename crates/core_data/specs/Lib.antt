@@ -1,0 +1,10 @@
+pub mod Acts
+pub mod Entries
+pub mod Found
+pub mod Holding
+pub mod Noted
+pub mod Opening
+pub mod Position
+pub mod Queue
+pub mod Rows
+pub mod Table

@@ -1,0 +1,28 @@
+use Rattle.std.proofs.Common.{◌∙◌, ap, ◌+◌, ◌++◌, ◌∷◌, ◌==◌, [], Some, None, true, false, ℕ, Option, Bool}
+use Rattle.std.specs.Prelude.{if◌then◌else◌}
+use Rattle.core_data.specs.Found.{no_reads}
+use Rattle.core_data.specs.Noted.{noted}
+use Rattle.core_data.specs.Table.{Table, table, put, put_at}
+use Rattle.core_data.specs.declared.act.Act.TheVariants.{TookTask, Renewed, StoredWord, Queued, Dequeued, Picked}
+use Rattle.core_data.specs.declared.pos.TaskReads.{TaskReads}
+use Rattle.core_data.specs.declared.words.TaskWords.{TaskWords}
+use Rattle.core_kinds.specs.Steps.{kept_reads, numbered_reads, stored_word}
+use Rattle.core_kinds.specs.Waking.{slept_if, ran_if, claim, cpu_read, load_this, load_rq_so, load_busy_so, noted_if, is_own_read}
+use Rattle.core_kinds.specs.Steps.{waking}
+use Rattle.core_data.specs.declared.act.Act.TheVariants.{Claimed, Passed, OwnStored, Slept, SawOff, SawRestOff, SawClear, SawRestIdle}
+use Rattle.handoff_data.specs.declared.entry.Entry.TheVariants.{Wake}
+use Rattle.core_kinds.specs.Running.{store_rq, queue_entry, dequeue_entry}
+use Rattle.handoff_data.specs.declared.entry.Entry.{Entry}
+use Rattle.handoff_data.specs.declared.entry.Entry.TheVariants.{Pick, Finish, Out}
+use Rattle.handoff_data.specs.declared.state.State.{State}
+use Rattle.core_kinds.proofs.waking.own_state.Goals as goal
+
+pub returns : goal.returns
+returns c =
+    let core = table c.args.core.now in
+    let s = c.args.s in
+    let t = c.args.t in
+    let stored = noted (stored_word (record core { state = put core.state t c.args.state; seen = put core.seen s None }) s t) s (OwnStored t) in
+    c.in_ok-run_if.ensures ∙ ap (λ (x : Table). ran_if (c.args.state.0 == 0) x s t) (c.in_ok-sleep_if.ensures
+    ∙ ap (λ (x : Table). slept_if c.is_sleep.result x s t) c.in_ok-store_own.ensures
+    ∙ ap (λ (b : Bool). slept_if b stored s t) c.is_sleep.ensures)

@@ -1,0 +1,4 @@
+pub mod Locks
+pub mod Running
+pub mod Steps
+pub mod Waking

@@ -1,0 +1,84 @@
+//! What a seat notes where a test holds.
+
+ghost use Rattle.std.specs.Prelude.{◌≡◌, ◌<◌, OnOk, true};
+ghost use Rattle.core_data.specs.Table.{Table, table};
+ghost use Rattle.core_kinds.specs.Waking.{noted_if, logged_if, seen_if, slept_if, ran_if, tested_if};
+
+use core_data::{Act, Core, Test};
+use core_stores::{forget_sleep, log, note, put_seen, set_test};
+use handoff_data::{CondNo, Entry, NoMemory, SeatNo, State, TaskNo};
+
+pub fn note_if(core: &mut Core, s: SeatNo, act: Act, on: bool) -> Result<(), NoMemory>
+    requires { s < (table core.old).seats }
+    ensures { OnOk result (table core.new ≡ noted_if on (table core.old) s act) }
+{
+    if on {
+        note(core, s, act)?;
+    }
+    Ok(())
+}
+
+pub fn log_if(core: &mut Core, s: SeatNo, entry: Entry, on: bool) -> Result<(), NoMemory>
+    requires { s < (table core.old).seats }
+    ensures { OnOk result (table core.new ≡ logged_if on (table core.old) s entry) }
+{
+    if on {
+        log(core, s, entry)?;
+    }
+    Ok(())
+}
+
+pub fn see_if(core: &mut Core, s: SeatNo, state: State, on: bool)
+    requires { s < (table core.old).seats }
+    ensures { table core.new ≡ seen_if on (table core.old) s state }
+{
+    if on {
+        put_seen(core, s, Some(state));
+    }
+}
+
+fn sleep(core: &mut Core, s: SeatNo, t: TaskNo) -> Result<(), NoMemory>
+    requires { s < (table core.old).seats }
+    ensures { OnOk result (table core.new ≡ slept_if true (table core.old) s t) }
+{
+    forget_sleep(core, s, t);
+    note(core, s, Act::Slept { t })?;
+    Ok(())
+}
+
+pub fn sleep_if(core: &mut Core, s: SeatNo, t: TaskNo, on: bool) -> Result<(), NoMemory>
+    requires { s < (table core.old).seats }
+    ensures { OnOk result (table core.new ≡ slept_if on (table core.old) s t) }
+{
+    if on {
+        sleep(core, s, t)?;
+    }
+    Ok(())
+}
+
+pub fn run_if(core: &mut Core, s: SeatNo, t: TaskNo, on: bool) -> Result<(), NoMemory>
+    requires { s < (table core.old).seats }
+    ensures { OnOk result (table core.new ≡ ran_if on (table core.old) s t) }
+{
+    if on {
+        note(core, s, Act::Passed { t })?;
+    }
+    Ok(())
+}
+
+pub fn test_if(
+    core: &mut Core,
+    s: SeatNo,
+    t: TaskNo,
+    k: CondNo,
+    v: u64,
+    on: bool,
+) -> Result<(), NoMemory>
+    requires { s < (table core.old).seats }
+    ensures { OnOk result (table core.new ≡ tested_if on (table core.old) s t k v) }
+{
+    if on {
+        set_test(core, s, Test { t, k, v })?;
+    }
+    Ok(())
+}

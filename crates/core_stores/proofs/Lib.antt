@@ -1,0 +1,5 @@
+pub mod Columns
+pub mod FoundLemmas
+pub mod Notes
+pub mod Stores
+pub mod Writes
