@@ -44,7 +44,7 @@ for script in "$top"/examples/*.wake; do
 done
 
 run "$work/bad" "$work/out" run
-expect 'no script' 1 'wakerun: line 1: 2 UnknownWord'
+expect 'no script' 1 'wakerun: line 2: 2 UnknownWord'
 [ ! -s "$work/out" ] || { failed=$((failed + 1)); echo 'no script: something was written'; }
 
 usage='wakerun: usage: run, plan, check or gen N SEED'
@@ -60,7 +60,7 @@ expect 'a folder as standard input' 3 'wakerun: read fault'
 run "$work/hi" /dev/full run
 expect 'a full device' 4 'wakerun: write fault'
 run "$work/bad" /dev/full run
-expect 'no script, and a full device' 1 'wakerun: line 1: 2 UnknownWord'
+expect 'no script, and a full device' 1 'wakerun: line 2: 2 UnknownWord'
 
 echo "statuses: $passed passed, $failed failed"
 [ "$failed" = 0 ]

@@ -17,9 +17,9 @@ use Rattle.task_script.specs.declared.script.TaskDef.{TaskDef}
 use Rattle.task_script.specs.declared.script.Script.{Script}
 use Rattle.task_script.specs.Plan.{sides}
 use Rattle.task_script.specs.Forest.{IsForest, reads as read_tasks}
-use Rattle.task_script.specs.Forms.{Kind, lines_kind, count_kind, upper_kind, number_kind, keep_kind, drop_kind, tally_kind, pin_kind, cat_kind, weave_kind, reads, Form, skip_line, cpus_line, caches_line, room_line, task_line, text_line, end_line, form_of}
-use Rattle.task_script.specs.Script.{number_of, plan_of, task_of, tasks_of, texts_of, named_in, read_in, so_far, lacks_task, reads_again, IsFaultless, AreFaultless, IsScript}
-use Rattle.task_script.proofs.FormLaws.{IsGood, is_good}
+use Rattle.task_script.specs.Forms.{Kind, lines_kind, count_kind, upper_kind, number_kind, keep_kind, drop_kind, tally_kind, pin_kind, cat_kind, weave_kind, reads, Form, skip_line, cpus_line, caches_line, room_line, task_line, text_line, end_line}
+use Rattle.task_script.specs.Script.{number_of, plan_of, task_of, tasks_of, texts_of, named_in, read_in, so_far, lacks_task, reads_again, AreFaultless, IsScript}
+use Rattle.task_script.proofs.FormLaws.{is_good}
 use Rattle.task_script.proofs.ScriptLaws.{form_good}
 use Rattle.task_script.proofs.NameLaws.{by_position, last_some}
 

@@ -1,5 +1,5 @@
 -- What a form's texts and words are, and what a form without fault can be kept as.
-use Rattle.std.proofs.Common.{◌≡◌, ◌≢◌, ℕ, zero, suc, ◌+◌, ◌-◌, ◌<◌, ◌≤◌, ◌^◌, ◌==◌, Bool, true, false, cond, ◌&&◌, ◌||◌, not, List, [], ◌∷◌, ◌++◌, length, Option, Some, None, refl, sym, ap, subst, ◌∙◌, arith}
+use Rattle.std.proofs.Common.{◌≡◌, ◌≢◌, ℕ, zero, suc, ◌≤◌, ◌==◌, Bool, true, false, cond, ◌&&◌, ◌||◌, List, [], ◌∷◌, length, Option, Some, None, refl, subst, arith}
 use Rattle.std.specs.List.{slice_split, onto_first, filter}
 use Rattle.std.specs.Option.{IsSomeAnd, is_some, is_none}
 use Rattle.std.specs.Prelude.{codes, nat_le}
@@ -7,7 +7,7 @@ use Rattle.std.specs.Str.{bytes_eq}
 use Rattle.std.proofs.lemmas.Bool.{and_parts, or_parts, not-false, leb-true, leb-false}
 use Rattle.handoff_data.specs.Line.{IsLine}
 use Rattle.task_script.specs.Lines.{before_returns, without_returns, is_blank, skip_blanks, has_bytes, words}
-use Rattle.task_script.specs.Forms.{AreLines, HasLineText, HasLinePrefix, HasLineSources, value_of, is_number, is_within, is_name, Kind, lines_kind, count_kind, upper_kind, number_kind, keep_kind, drop_kind, tally_kind, pin_kind, cat_kind, weave_kind, reads, Form, skip_line, cpus_line, caches_line, room_line, task_line, text_line, end_line, setting_form, reader_form, joining_form, choosing_form, long_form, worded_form, text_of, bare_form, form_of}
+use Rattle.task_script.specs.Forms.{AreLines, HasLineText, value_of, is_number, is_within, lines_kind, count_kind, upper_kind, number_kind, keep_kind, drop_kind, tally_kind, pin_kind, cat_kind, weave_kind, Form, skip_line, cpus_line, caches_line, room_line, task_line, text_line, end_line, setting_form, reader_form, joining_form, choosing_form, long_form, worded_form, text_of, bare_form, form_of}
 use Rattle.task_script.specs.Script.{SoFar, faults, lowest, form_code, is_bad_group, is_kept, has_tasks, bad_number, bad_name, name_twice, no_such_task, already_read, too_many, bad_order, text_without_task}
 use Rattle.task_script.specs.Reading.{CanSettle}
 

@@ -1,18 +1,14 @@
 -- Where lines and words end, and what bytes a line has.
-use Rattle.std.proofs.Common.{◌≡◌, ◌≢◌, ℕ, zero, suc, ◌+◌, ◌-◌, ◌<◌, ◌≤◌, ◌==◌, Bool, true, false, cond, List, [], ◌∷◌, ◌++◌, length, get_or, take, drop, Option, Some, None, refl, sym, ap, subst, ◌∙◌, arith}
-use Rattle.std.specs.List.{slice_split, onto_first, filter, All, list_all}
-use Rattle.std.specs.Prelude.{codes}
-use Rattle.std.specs.Str.{bytes_eq}
+use Rattle.std.proofs.Common.{◌≡◌, ◌≢◌, ℕ, zero, suc, ◌+◌, ◌-◌, ◌<◌, ◌≤◌, ◌==◌, Bool, true, false, cond, List, [], ◌∷◌, ◌++◌, length, get_or, take, drop, refl, sym, ap, subst, ◌∙◌, arith}
+use Rattle.std.specs.List.{filter, All, list_all}
 use Rattle.std.specs.Char.{is_ascii_lowercase}
-use Rattle.std.specs.Option.{MatchOption, is_some}
-use denote.Ref.{Bor}
 use Rattle.std.proofs.lemmas.Bool.{eqb-true, eqb-false, eq-eqb, ne_eqb, le-leb, false_from_ne_true, false≢true}
 use Rattle.std.proofs.lemmas.List.{take-append-drop, drop_more, get_or-take, get_or_default, length-take, take_rest, drop_all, nil_from_length, length-append, get_or_append_left}
 use Rattle.std.proofs.lemmas.List.Splits.{slice_split_at, slice_split_none}
 use Rattle.memchr.specs.Find.{Nowhere, NoneBefore, Passes, is_byte, is_byte2}
 use Rattle.handoff_data.specs.Line.{IsLine}
 use Rattle.task_script.specs.Lines.{input_lines, before_returns, without_returns, is_blank, skip_blanks, has_bytes, words}
-use Rattle.task_script.specs.Forms.{decimal, is_name, is_name_byte}
+use Rattle.task_script.specs.Forms.{is_name, is_name_byte}
 
 -- the first line ends at the first line feed
 pub line_ends : (line bytes : List ℕ) → All (λ b. b ≢ 10) line → input_lines (line ++ 10 ∷ bytes) ≡ line ∷ input_lines bytes

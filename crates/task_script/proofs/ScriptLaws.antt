@@ -1,9 +1,9 @@
 -- What the reader answers is a script or the first fault.
-use Rattle.std.proofs.Common.{◌≡◌, ◌≢◌, ℕ, zero, suc, ◌+◌, ◌-◌, ◌<◌, ◌≤◌, ◌==◌, Bool, true, false, cond, ◌&&◌, List, [], ◌∷◌, ◌++◌, length, take, Option, Some, None, Result, Ok, Err, refl, sym, ap, subst, ◌∙◌, append_assoc, inl, inr, ◌⊎◌, lit≤, arith}
+use Rattle.std.proofs.Common.{◌≡◌, ℕ, suc, ◌+◌, ◌<◌, ◌≤◌, ◌==◌, Bool, true, false, cond, ◌&&◌, List, [], ◌∷◌, ◌++◌, length, take, Option, Some, None, Result, Ok, Err, refl, sym, ap, subst, ◌∙◌, append_assoc, inl, inr, ◌⊎◌, lit≤, arith}
 use Rattle.std.specs.Prelude.{unwrap_or, nat_lt, ⊤}
 use Rattle.std.specs.List.{onto_first, list_any}
 use Rattle.std.specs.Option.{option_map, option_to_list}
-use Rattle.std.proofs.lemmas.Bool.{ltb-true, ltb-false, lt-ltb, le-ltb, leb-false, false≢true, true≢false}
+use Rattle.std.proofs.lemmas.Bool.{ltb-true, ltb-false, le-ltb, leb-false, true≢false}
 use Rattle.std.proofs.lemmas.List.{append-nil, length-append, length-take, take_all}
 use Rattle.task_script.specs.declared.script.TaskDef.{TaskDef}
 use Rattle.task_script.specs.declared.script.Script.{Script}
@@ -15,7 +15,7 @@ use Rattle.task_script.specs.Lines.{input_lines}
 use Rattle.task_script.specs.Forms.{Kind, lines_kind, count_kind, upper_kind, number_kind, keep_kind, drop_kind, tally_kind, pin_kind, cat_kind, weave_kind, Form, skip_line, cpus_line, caches_line, room_line, task_line, text_line, end_line, form_of}
 use Rattle.task_script.specs.Script.{shape_of, script_of, given, cpus_in, tasks_of, is_end, SoFar, so_far, faults, lowest, form_code, line_code, code_of, IsFaultless, AreFaultless, IsScript, NotScript, judged_lines, is_over, IsFaulty, faulty_line, no_end, FirstFault}
 use Rattle.task_script.specs.Reading.{State, held, start, source_task, all_tasks, opened, added, with_text, next, fault_at, stepped, step, and_then, run, judged, verdict, IsScriptOf, Fails}
-use Rattle.task_script.proofs.FormLaws.{IsGood, is_good}
+use Rattle.task_script.proofs.FormLaws.{is_good}
 use Rattle.task_script.proofs.SoFarLaws.{held_next, said, said_next, closed_said}
 
 -- ---- a line

@@ -1,8 +1,8 @@
 -- What lines come to with one line more.
-use Rattle.std.proofs.Common.{◌≡◌, ◌≢◌, ℕ, zero, suc, ◌+◌, ◌-◌, ◌<◌, ◌≤◌, ◌==◌, Bool, true, false, cond, ◌&&◌, ◌||◌, not, List, [], ◌∷◌, ◌++◌, length, map, Option, Some, None, refl, sym, ap, subst, ◌∙◌, append_assoc, arith}
+use Rattle.std.proofs.Common.{◌≡◌, ℕ, Bool, true, false, ◌||◌, List, [], ◌∷◌, ◌++◌, Option, Some, None, refl, sym, ap, ◌∙◌, append_assoc}
 use Rattle.std.specs.List.{last_or, filter, filter_map, flat_map, list_any}
 use Rattle.std.specs.Option.{is_some, option_map, option_to_list}
-use Rattle.std.proofs.lemmas.Bool.{not-false, false≢true}
+use Rattle.std.proofs.lemmas.Bool.{not-false}
 use Rattle.std.proofs.lemmas.List.{append-nil}
 use Rattle.std.proofs.lemmas.List.Elements.{filter-append, filter_map-append}
 use Rattle.std.proofs.lemmas.List.Folds.{list_any-append}
@@ -10,9 +10,9 @@ use Rattle.std.proofs.lemmas.Grind.{flat_map-append}
 use Rattle.task_script.specs.declared.reader.Source.{Source}
 use Rattle.task_script.specs.declared.script.TaskDef.{TaskDef}
 use Rattle.task_script.specs.Forms.{Kind, lines_kind, count_kind, upper_kind, number_kind, keep_kind, drop_kind, tally_kind, pin_kind, cat_kind, weave_kind, reads, value_of, Form, skip_line, cpus_line, caches_line, room_line, task_line, text_line, end_line}
-use Rattle.task_script.specs.Script.{task_of, tasks_of, texts_of, given, cpus_in, caches_in, room_in, named_in, read_in, is_kept, is_end, takes_text, SoFar, so_far, faults, lowest, form_code}
-use Rattle.task_script.specs.Reading.{State, held, source_task, all_tasks, closed, opened, added, settled, with_text, next}
-use Rattle.task_script.proofs.FormLaws.{IsGood, is_good}
+use Rattle.task_script.specs.Script.{task_of, tasks_of, texts_of, given, cpus_in, caches_in, room_in, named_in, read_in, is_kept, is_end, takes_text, SoFar, so_far, form_code}
+use Rattle.task_script.specs.Reading.{State, held, source_task, all_tasks, opened, added, with_text, next}
+use Rattle.task_script.proofs.FormLaws.{is_good}
 
 last_push : {A : Type 0} (o : Option A) (xs : List A) (x : A) → last_or o (xs ++ x ∷ []) ≡ Some x
 last_push o [] x = refl

@@ -1,14 +1,14 @@
 -- Which bytes are a script, which script they are, and else the first fault.
-use Rattle.std.specs.Prelude.{◌≡◌, ℕ, zero, suc, ◌+◌, ◌*◌, ◌<◌, ◌≤◌, Bool, true, false, ◌&&◌, ◌||◌, not, ◌==◌, if◌then◌else◌, nat_lt, nat_le, List, [], ◌∷◌, ◌++◌, length, take, filter, Option, Some, None, unwrap_or, ◌⊎◌, ⊤}
+use Rattle.std.specs.Prelude.{◌≡◌, ℕ, ◌+◌, ◌*◌, ◌≤◌, Bool, true, false, ◌&&◌, ◌||◌, not, ◌==◌, if◌then◌else◌, nat_lt, nat_le, List, [], ◌∷◌, ◌++◌, length, take, filter, Option, Some, None, unwrap_or, ⊤}
 use Rattle.std.specs.List.{last_or, position, filter_map, flat_map, list_any}
-use Rattle.std.specs.Option.{is_some, is_none, option_or}
+use Rattle.std.specs.Option.{is_some, is_none}
 use Rattle.std.specs.Str.{bytes_eq}
 use Rattle.handoff_data.specs.declared.shape.Shape.{Shape}
 use Rattle.task_script.specs.declared.plan.Plan.{Plan}
 use Rattle.task_script.specs.declared.plan.Plan.TheVariants as plan
 use Rattle.task_script.specs.declared.script.TaskDef.{TaskDef}
 use Rattle.task_script.specs.declared.script.Script.{Script}
-use Rattle.task_script.specs.Lines.{input_lines, has_bytes}
+use Rattle.task_script.specs.Lines.{input_lines}
 use Rattle.task_script.specs.Forms.{is_number, value_of, is_within, is_name, Kind, lines_kind, count_kind, upper_kind, number_kind, keep_kind, drop_kind, tally_kind, pin_kind, cat_kind, weave_kind, reads, Form, skip_line, cpus_line, caches_line, room_line, task_line, text_line, end_line, form_of}
 
 -- ---- what lines of these forms say

@@ -74,10 +74,42 @@ fn scripts_give_their_reports(rt: HostRuntime) -> Result<(), Fail> {
             "cpus 1\ntask a lines\n| ab\n| b\n|\ntask k keep a from a\ntask c count 11\ntask d drop 1 from c\nend\n",
             "k: ab\nd: 2\nd: 3\nd: 4\nd: 5\nd: 6\nd: 7\nd: 8\nd: 9\n",
         ),
+        (
+            "cpus 1\ntask a count 3\ntask b lines\n| x\ntask w weave from a b\nend\n",
+            "w: 1\nw: x\nw: 2\nw: 3\n",
+        ),
+        (
+            "cpus 1\ntask a lines\ntask b lines\ntask w weave from a b\ntask c lines\ntask d lines\ntask e cat from d c\nend\n",
+            "",
+        ),
+        (
+            "cpus 1\ntask a lines\n|# no comment\r\r\n||\n|\ntask k keep |long from a\ntask b count 2\ntask p pin 1 from b\nend\n",
+            "p: 1\np: 2\n",
+        ),
     ];
     for (input, report) in cases {
         expect_run(&rt, &["run"], input, (&[], &[]), (Status::Ok, report))?;
     }
+    Ok(())
+}
+
+#[test]
+fn a_long_forest_joins_tasks_that_are_far_apart(rt: HostRuntime) -> Result<(), Fail> {
+    let mut script = String::from_str(rt.alloc(), "cpus 1\ntask s count 1\ntask t0 count 2\n")?;
+    for task in 1..198u32 {
+        let before = task - 1;
+        let line = format!(in rt.alloc(); "task t{task} upper from t{before}\n")?;
+        script.push_str(line.as_str())?;
+    }
+    script.push_str("task z cat from s t197\nend\n")?;
+    let report = "z: 1\nz: 1\nz: 2\n";
+    expect_run(
+        &rt,
+        &["run"],
+        script.as_str(),
+        (&[], &[]),
+        (Status::Ok, report),
+    )?;
     Ok(())
 }
 

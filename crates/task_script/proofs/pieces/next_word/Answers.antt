@@ -1,4 +1,4 @@
-use Rattle.std.proofs.Common.{sym, rules}
+use Rattle.std.proofs.Common.{sym}
 use Rattle.task_script.proofs.LineLaws.{no_words, word_found, last_word}
 use Rattle.task_script.proofs.pieces.next_word.Goals as goal
 

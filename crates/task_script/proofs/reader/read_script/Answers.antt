@@ -1,4 +1,4 @@
-use Rattle.std.proofs.Common.{◌≡◌, ◌≤◌, arith}
+use Rattle.std.proofs.Common.{◌≡◌, arith}
 use Rattle.std.proofs.lemmas.Result.{err_from_is_err_and}
 use Rattle.task_script.specs.declared.script.ScriptError.TheVariants as errors
 use Rattle.task_script.specs.Reading.{state_of, verdict}

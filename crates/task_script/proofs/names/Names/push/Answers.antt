@@ -1,6 +1,6 @@
 -- The map has the number of the first place of one more name.
 use Rattle.std.proofs.Common.{◌≡◌, ℕ, true, false, length, refl, sym, ap, ◌∙◌}
-use Rattle.std.specs.Prelude.{Option, None, is_some}
+use Rattle.std.specs.Prelude.{Option, is_some}
 use Rattle.task_script.specs.Script.{number_of}
 use Rattle.task_script.specs.Names.{texts}
 use Rattle.task_script.proofs.NameLaws.{numbered-more, numbered-again, not_some}
