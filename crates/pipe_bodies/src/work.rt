@@ -27,21 +27,22 @@ pub trait Work: Send + Drop {
         ensures { (sides (meaning self.now) ≡ 1) × (is_pin (meaning self.now) ≡ false) };
 }
 
-/// No work: a body of a script without boxed works has this parameter.
+/// The work of a script that has none: it takes every line and puts out none, as `drop` does with an empty prefix.
 #[derive(Drop)]
-pub enum NoWork {}
+pub struct NoWork;
 
 impl Work for NoWork {
-    ghost use Rattle.task_script.specs.declared.plan.Plan.TheVariants.{Upper};
+    ghost use Rattle.std.specs.Prelude.{[]};
+    ghost use Rattle.task_script.specs.declared.plan.Plan.TheVariants as plan;
 
-    ghost meaning = { λ _. Upper };
+    ghost meaning = { λ _. plan.Drop [] };
 
     fn eat(&mut self, _line: &Line, _out: &mut Lines) -> Result<(), NoMemory> {
-        match *self {}
+        Ok(())
     }
 
     fn end(&mut self, _out: &mut Lines) -> Result<(), NoMemory> {
-        match *self {}
+        Ok(())
     }
 
     fn has_one_side(&self) {}
