@@ -5,6 +5,6 @@ use Rattle.handoff_data.proofs.mask.CpuMask.limit.Goals as goal
 
 pub returns : goal.returns
 returns c = λ k h. elim (cases_lt k 128) [
-    | inl below ↦ below
-    | inr above ↦ absurd (none_above c.args.self.now.bits k (omega arith) above h.bit)
-  ]
+  | inl below ↦ below
+  | inr above ↦ absurd (none_above c.args.self.now.bits k (omega arith) above h.bit)
+]
