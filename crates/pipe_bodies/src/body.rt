@@ -5,6 +5,7 @@ use crate::verdict::Verdict;
 use crate::work::Work;
 use boxcar::tag::{Names, Tag};
 use handoff_data::{Lines, NoMemory, TaskNo};
+use pipe_tasks::feeding_gives_lines;
 use rtrb::{Consumer, Producer};
 use std::alloc::Global;
 use std::collections::VecDeque;
@@ -49,9 +50,9 @@ impl<W: Work> Body<W> {
     ghost use Rattle.pipe_bodies.specs.Courses.{plan_in};
     ghost use Rattle.pipe_bodies.specs.Rings.{in_ring, ring_out, got};
     ghost use Rattle.pipe_bodies.specs.Bodies.{lasting_by, joined_by, fresh_seen};
-    ghost use Rattle.pipe_bodies.specs.Turns.{Turns, Sound};
+    ghost use Rattle.pipe_bodies.specs.Turns.{Turns, Sound, WaitsFor};
     ghost use Rattle.pipe_bodies.specs.declared.verdict.Then.TheVariants.{Exit};
-    ghost use Rattle.pipe_bodies.specs.Parts.{seen, rings, IsJoined};
+    ghost use Rattle.pipe_bodies.specs.Parts.{seen, rings, IsJoined, KeepsNone};
 
     // A body that has done nothing, and that nobody reads yet.
     pub(crate) fn new(
@@ -73,6 +74,7 @@ impl<W: Work> Body<W> {
             right,
             output: None,
             kept: Lines::new(alloc),
+            said: Lines::new(alloc),
             held: VecDeque::new(alloc),
             plan: Some(course),
             ended: false,
@@ -101,6 +103,7 @@ impl<W: Work> Body<W> {
     #[tactic(auto, using(crate::proofs::BodyLaws::body_laws))]
     pub fn turn(&mut self) -> Result<Verdict, NoMemory>
         ensures turns { IfOk result (λ v. Turns self.old.seen self.new.seen v) }
+        ensures waits { IfOk result (λ v. WaitsFor v.then self.new.known) }
         ensures exit { IfOk result (λ v. v.then ≡ Exit → self.new.seen.ended ≡ true) }
         ensures lasting { self.new.lasting ≡ self.old.lasting }
         ensures ended { self.old.seen.ended ≡ true → self.new.seen.ended ≡ true }
@@ -110,6 +113,7 @@ impl<W: Work> Body<W> {
         if self.broken {
             return Err(NoMemory);
         }
+        feeding_gives_lines();
         match self.parts.turn(self.alloc) {
             Ok(verdict) => Ok(verdict),
             Err(_) => {
@@ -125,6 +129,7 @@ impl<W: Work> Body<W> {
         ensures rings { rings result ≡ self.lasting.rings }
         ensures kept { result.kept ≡ self.kept }
         ensures sound { self.seen.ended ≡ true → Sound self.lasting.begun self.seen }
+        ensures bare { KeepsNone self.lasting.rings.output self.kept }
     {
         let Body {
             task: _,

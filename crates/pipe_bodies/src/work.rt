@@ -27,6 +27,23 @@ pub trait Work: Send + Drop {
         ensures { (sides (meaning self.now) ≡ 1) × (is_pin (meaning self.now) ≡ false) };
 }
 
+/// A work in a box.
+impl Work for Box<dyn Work + Send + Drop> {
+    ghost meaning = { λ b. (Work-box b).meaning b.value };
+
+    fn eat(&mut self, line: &Line, out: &mut Lines) -> Result<(), NoMemory> {
+        (**self).eat(line, out)
+    }
+
+    fn end(&mut self, out: &mut Lines) -> Result<(), NoMemory> {
+        (**self).end(out)
+    }
+
+    fn has_one_side(&self) {
+        (**self).has_one_side()
+    }
+}
+
 /// The work of a script that has none: it takes every line and puts out none, as `drop` does with an empty prefix.
 #[derive(Drop)]
 pub struct NoWork;
