@@ -6,7 +6,7 @@ use Rattle.pipe_bodies.specs.Parts.{Rings, Stands, IsJoined, KeepsNone, IsClear}
 use Rattle.task_script.specs.declared.plan.Plan.{Plan}
 use Rattle.pipe_bodies.specs.declared.verdict.Verdict.{Verdict}
 use Rattle.pipe_bodies.specs.declared.verdict.Then.TheVariants.{Exit}
-use Rattle.pipe_bodies.proofs.TurnLaws.{Sound-turn, IsJoined-turn, ended-turn, exit-turn}
+use Rattle.pipe_bodies.proofs.TurnLaws.{Sound-turn, IsJoined-turn, ended-turn, over-turn, exit-turn}
 use Rattle.std.proofs.Common.{ℕ, List}
 use Rattle.std.specs.Prelude.{Option, Some, None, [], ◌∷◌}
 use Rattle.rtrb.specs.declared.producer.Producer.{Producer}
@@ -35,6 +35,9 @@ Stands-broken begun b s e = record {
 pub Stands-ended : (begun : Plan) (a b : Seen) (r : Rings) (v : Verdict) → Stands begun a r false → Turns a b v → a.ended ≡ true → b.ended ≡ true
 Stands-ended begun a b r v k t e = ap (λ z. z.ended) (ended-turn a b v e (k.sound refl).ordered t) ∙ e
 
+pub Stands-over : (begun : Plan) (a b : Seen) (r : Rings) (v : Verdict) → Stands begun a r false → Turns a b v → a.ended ≡ true → v.then ≡ Exit
+Stands-over begun a b r v k t e = over-turn a b v e (k.sound refl).ordered t
+
 pub Stands-exit : (begun : Plan) (a b : Seen) (r : Rings) (v : Verdict) → Stands begun a r false → Turns a b v → v.then ≡ Exit → b.ended ≡ true
 Stands-exit begun a b r v k t e = exit-turn a b v e (k.sound refl).ordered t
 
@@ -46,7 +49,7 @@ pub clear-still : (b : Bool) (said : List Line) → b ≡ false → said ≡ [] 
 clear-still true said e k = cc
 clear-still false said e k = k
 
-pub ruleset body_laws = (Stands-turn, Stands-broken, Stands-ended, Stands-exit, clear-open, clear-still)
+pub ruleset body_laws = (Stands-turn, Stands-broken, Stands-ended, Stands-over, Stands-exit, clear-open, clear-still)
 
 -- what a body that has ended is known to be
 sound_by : (begun : Plan) (a : Seen) (r : Rings) (b : Bool) → Stands begun a r b → a.ended ≡ true → Sound begun a

@@ -206,7 +206,7 @@ pub built-step : (ds : List TaskDef) (d : TaskDef) (reads : List ℕ) (b0 b1 b2 
     → Built (ds ++ d ∷ []) (reads_on d.from reads) (map part_of (b2 ++ n ∷ [])) (map output_of (b2 ++ n ∷ [])) (map seen_of (b2 ++ n ∷ []))
 built-step ds d reads b0 b1 b2 n t l r b s k p q pe se le te u =
     let part : part_of n ≡ record { task = length ds; begun = d.plan; left = l; right = r } = ap (λ (z : Lasting). let p : Part = record { task = z.task; begun = z.begun; left = z.rings.left; right = z.rings.right } in p) le
-        ∙ ap (λ z. let p : Part = record { task = z; begun = d.plan; left = l; right = r } in p) te in
+    ∙ ap (λ z. let p : Part = record { task = z; begun = d.plan; left = l; right = r } in p) te in
     let out : output_of n ≡ None = ap (λ (z : Lasting). z.rings.output) le in
     rw (map-append part_of b2 (n ∷ []), map-append output_of b2 (n ∷ []), map-append seen_of b2 (n ∷ []), part, out, pe, se)
     (Built-one ds d reads (map part_of b0) (map output_of b0) (map output_of b1) (map output_of b2) (map seen_of b0) l r n.seen u b s k p q)

@@ -11,7 +11,10 @@ use Rattle.task_script.specs.declared.script.TaskDef.{TaskDef}
 pub some_script : (bytes : List ℕ) (s : Script) → IsScript bytes s → (b : List ℕ) × IsScript b s
 some_script bytes s i = (bytes, i)
 
-alone : AllPairs (λ s t. s ≢ t) (0 ∷ [])
+abbrev Differ : ℕ → ℕ → Type 0
+Differ s t = s ≢ t
+
+alone : AllPairs Differ (0 ∷ [])
 alone i j d l m = absurd (omega arith)
 
 -- a source, and a task that reads it
@@ -20,7 +23,7 @@ one_reader a b from none reads_it one = record {
   inputs = All-cons (λ (d : TaskDef). length d.from ≡ sides d.plan) a (b ∷ []) (ap length from ∙ sym none)
       (All-cons (λ (d : TaskDef). length d.from ≡ sides d.plan) b [] (ap length reads_it ∙ sym one) (All-nil (λ (d : TaskDef). length d.from ≡ sides d.plan)));
   earlier = before;
-  once = subst (λ z. AllPairs (λ s t. s ≢ t) (z ++ (b.from ++ []))) (sym from) (subst (λ z. AllPairs (λ s t. s ≢ t) (z ++ [])) (sym reads_it) alone);
+  once = subst (λ z. AllPairs Differ (z ++ (b.from ++ []))) (sym from) (subst (λ z. AllPairs Differ (z ++ [])) (sym reads_it) alone);
 } where
   before : (t : ℕ) (d : TaskDef) → t < length (a ∷ b ∷ []) → All (λ s. s < t) (slice_index_or (a ∷ b ∷ []) t d).from
   before zero d l = subst (λ z. All (λ s. s < 0) z) (sym from) (All-nil (λ s. s < 0))

@@ -218,6 +218,17 @@ module _ (a b : Seen) (v : Verdict) (ended : a.ended ≡ true) (ordered : Ordere
   pub ended-turn : Turns a b v → b ≡ a
   ended-turn t = ended_held a.held refl t
 
+  over_plan : (q : Option Plan) → a.plan ≡ q → GoesOn q a b v → v.then ≡ Exit
+  over_plan None e t = t.3
+  over_plan (Some p) e t = let o : Ordered true (Some p) a.held = subst (λ z. Ordered true z a.held) e (subst (λ z. Ordered z a.plan a.held) ended ordered) in absurd o
+
+  over_held : (h : List Item) → a.held ≡ h → TurnsBy h a b v → v.then ≡ Exit
+  over_held [] e t = over_plan a.plan refl t
+  over_held (i ∷ h) e t = absurd (ended_nil a.plan i h (subst (λ z. Ordered true a.plan z) e (subst (λ z. Ordered z a.plan a.held) ended ordered)))
+
+  pub over-turn : Turns a b v → v.then ≡ Exit
+  over-turn t = over_held a.held refl t
+
 -- ---- an exit comes only once the end was put out
 
 module _ (a b : Seen) (v : Verdict) (exit : v.then ≡ Exit) (ordered : Ordered a.ended a.plan a.held) where

@@ -98,13 +98,15 @@ impl<W: Work> Body<W> {
         self.parts.output = Some(producer);
     }
 
-    /// One turn: the oldest held item is put out; else the task is done where its end was put out; else a source makes its
-    /// next item; else an item is taken from the side that the plan wants.
+    /// One turn, which does the first of these that applies: the oldest held item is put out; the task is done where
+    /// its end was put out; a source makes its next item; an item is taken from the side that the plan wants. What the
+    /// plan says for it is held. After a refusal every turn is one.
     #[tactic(auto, using(crate::proofs::BodyLaws::body_laws))]
     pub fn turn(&mut self) -> Result<Verdict, NoMemory>
         ensures turns { IfOk result (λ v. Turns self.old.seen self.new.seen v) }
         ensures waits { IfOk result (λ v. WaitsFor v.then self.new.known) }
         ensures exit { IfOk result (λ v. v.then ≡ Exit → self.new.seen.ended ≡ true) }
+        ensures over { self.old.seen.ended ≡ true → IfOk result (λ v. v.then ≡ Exit) }
         ensures lasting { self.new.lasting ≡ self.old.lasting }
         ensures ended { self.old.seen.ended ≡ true → self.new.seen.ended ≡ true }
         ensures broken { self.old.broken ≡ true → IsErr result }

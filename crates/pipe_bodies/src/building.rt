@@ -4,7 +4,8 @@ ghost use Rattle.task_script.specs.Plan.{sides};
 ghost use Rattle.task_script.specs.Forest.{IsForest};
 ghost use Rattle.pipe_bodies.specs.Courses.{plan_in};
 ghost use Rattle.pipe_bodies.specs.Rings.{in_ring, got};
-ghost use Rattle.pipe_bodies.specs.Nets.{IsNet, IsReading, IsFree, Links, Built, plan_for, part_of, output_of, seen_of, lasting_of, reads_on, IsUnused};
+ghost use Rattle.pipe_bodies.specs.Nets.{IsNet, IsReading, IsFree, IsUnused, Links, Built, reads_on};
+ghost use Rattle.pipe_bodies.specs.Nets.{plan_for, part_of, output_of, seen_of, lasting_of};
 
 use crate::body::Body;
 use crate::copies::copy_plan;
@@ -25,8 +26,10 @@ fn link<W: Work>(
     bodies: &mut Vec<Body<W>>,
 ) -> Result<Option<Consumer<Item>>, NoMemory>
     requires free { IsFree from.now (map output_of bodies.old.items) }
-    requires unused { (k : ℕ) (a : _) → k < length bodies.old.items → IsUnused (slice_index_or (map seen_of bodies.old.items) k a) }
-    ensures links { IfOk result (λ c. Links from.now (map output_of bodies.old.items) (map output_of bodies.new.items) (in_ring c)) }
+    requires unused { (k : ℕ) (a : _) → k < length bodies.old.items → IsUnused (slice_index_or
+        (map seen_of bodies.old.items) k a) }
+    ensures links { IfOk result (λ c. Links from.now (map output_of bodies.old.items)
+        (map output_of bodies.new.items) (in_ring c)) }
     ensures got { IfOk result (λ c. got c ≡ []) }
     ensures parts { OnOk result (map part_of bodies.new.items ≡ map part_of bodies.old.items) }
     ensures seens { OnOk result (map seen_of bodies.new.items ≡ map seen_of bodies.old.items) }
@@ -54,8 +57,13 @@ fn build_one<W: Work>(
 ) -> Result<(), NoMemory>
     requires plan { (plan_in course ≡ task.now.plan) × (length task.now.from ≡ sides task.now.plan) }
     requires number { number ≡ length bodies.old.items }
-    requires built { (ds : List TaskDef) × (reads : List ℕ) × IsReading (length ds) reads task.now.from × Built ds reads (map part_of bodies.old.items) (map output_of bodies.old.items) (map seen_of bodies.old.items) }
-    ensures built { (ds : List TaskDef) (reads : List ℕ) → IsReading (length ds) reads task.now.from → Built ds reads (map part_of bodies.old.items) (map output_of bodies.old.items) (map seen_of bodies.old.items) → OnOk result (Built (ds ++ task.now ∷ []) (reads_on task.now.from reads) (map part_of bodies.new.items) (map output_of bodies.new.items) (map seen_of bodies.new.items)) }
+    requires built { (ds : List TaskDef) × (reads : List ℕ) × IsReading (length ds) reads task.now.from
+        × Built ds reads (map part_of bodies.old.items) (map output_of bodies.old.items)
+        (map seen_of bodies.old.items) }
+    ensures built { (ds : List TaskDef) (reads : List ℕ) → IsReading (length ds) reads task.now.from
+        → Built ds reads (map part_of bodies.old.items) (map output_of bodies.old.items)
+        (map seen_of bodies.old.items) → OnOk result (Built (ds ++ task.now ∷ []) (reads_on task.now.from reads)
+        (map part_of bodies.new.items) (map output_of bodies.new.items) (map seen_of bodies.new.items)) }
     ensures count { OnOk result (length bodies.new.items ≡ length bodies.old.items + 1) }
 {
     let from = task.from.as_slice();

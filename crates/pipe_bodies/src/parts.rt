@@ -60,7 +60,8 @@ fn hear_plan(
 ) -> Result<Option<Plan>, NoMemory>
     requires wanted { wants plan ≡ Some side }
     requires said { said.old ≡ [] }
-    ensures heard { IfOk result (λ p. (p ≡ after plan side item) × (held.new.items ≡ held.old.items ++ heard plan side item)) }
+    ensures heard { IfOk result (λ p. (p ≡ after plan side item) × (held.new.items ≡ held.old.items
+        ++ heard plan side item)) }
     ensures said { OnOk result (said.new ≡ []) }
 {
     let mut plan = plan;
@@ -101,7 +102,8 @@ fn hear_work<W: Work>(
     held: &mut VecDeque<Item>,
 ) -> Result<Option<Custom<W>>, NoMemory>
     requires said { said.old ≡ [] }
-    ensures heard { IfOk result (λ p. (p ≡ after work 0 item) × (held.new.items ≡ held.old.items ++ heard work 0 item)) }
+    ensures heard { IfOk result (λ p. (p ≡ after work 0 item) × (held.new.items ≡ held.old.items
+        ++ heard work 0 item)) }
     ensures said { OnOk result (said.new ≡ []) }
 {
     let mut work = work;
@@ -132,7 +134,8 @@ fn hear<W: Work>(
     requires wanted { wants (plan_in course) ≡ Some side }
     requires said { said.old ≡ [] }
     ensures said { OnOk result (said.new ≡ []) }
-    ensures heard { IfOk result (λ p. (plan_on p ≡ after (plan_in course) side item) × (held.new.items ≡ held.old.items ++ heard (plan_in course) side item)) }
+    ensures heard { IfOk result (λ p. (plan_on p ≡ after (plan_in course) side item)
+        × (held.new.items ≡ held.old.items ++ heard (plan_in course) side item)) }
 {
     match course {
         Course::Own(plan) => match hear_plan(alloc, plan, side, item, said, held)? {
@@ -153,7 +156,8 @@ fn make<W: Work>(
     held: &mut VecDeque<Item>,
 ) -> Result<Option<Course<W>>, NoMemory>
     requires { wants (plan_in course) ≡ None }
-    ensures { IfOk result (λ p. (plan_on p ≡ more (plan_in course)) × (held.new.items ≡ held.old.items ++ makes (plan_in course))) }
+    ensures { IfOk result (λ p. (plan_on p ≡ more (plan_in course)) × (held.new.items ≡ held.old.items
+        ++ makes (plan_in course))) }
 {
     match course {
         Course::Own(plan) => match make_plan(alloc, plan, held)? {
@@ -209,8 +213,10 @@ fn put(
     item: Item,
 ) -> Result<PutResult, NoMemory>
     ensures ring { out_ring output.new ≡ out_ring output.old }
-    ensures done { result ≡ Ok Done → out_of output.new kept.new (is_end item) ≡ out_of output.old kept.old false ++ item ∷ [] }
-    ensures back { (i : _) → result ≡ Ok (Back i) → (i ≡ item) × (out_of output.new kept.new false ≡ out_of output.old kept.old false) }
+    ensures done { result ≡ Ok Done → out_of output.new kept.new (is_end item) ≡ out_of output.old kept.old false
+        ++ item ∷ [] }
+    ensures back { (i : _) → result ≡ Ok (Back i) → (i ≡ item) × (out_of output.new kept.new false
+        ≡ out_of output.old kept.old false) }
     ensures full { (i : _) → result ≡ Ok (Back i) → free_slots output.new ≡ 0 }
     ensures bare { KeepsNone (out_ring output.old) kept.old → KeepsNone (out_ring output.new) kept.new }
 {
@@ -241,7 +247,8 @@ impl<W: Work> Parts<W> {
         ensures turns { IfOk result (λ v. Turns (seen self.old) (seen self.new) v) }
         ensures waits { IfOk result (λ v. WaitsFor v.then (knows self.new)) }
         ensures rings { rings self.new ≡ rings self.old }
-        ensures bare { KeepsNone (rings self.old).output self.old.kept → KeepsNone (rings self.new).output self.new.kept }
+        ensures bare { KeepsNone (rings self.old).output self.old.kept
+            → KeepsNone (rings self.new).output self.new.kept }
         ensures said { self.new.said ≡ self.old.said }
         ensures err { OnErr result (self.new.ended ≡ false) }
     {
@@ -274,7 +281,8 @@ impl<W: Work> Parts<W> {
         ensures turns { IfOk result (λ v. Turns (seen self.old) (seen self.new) v) }
         ensures waits { IfOk result (λ v. WaitsFor v.then (knows self.new)) }
         ensures rings { rings self.new ≡ rings self.old }
-        ensures bare { KeepsNone (rings self.old).output self.old.kept → KeepsNone (rings self.new).output self.new.kept }
+        ensures bare { KeepsNone (rings self.old).output self.old.kept
+            → KeepsNone (rings self.new).output self.new.kept }
         ensures said { OnOk result (self.new.said ≡ []) }
         ensures ended { self.new.ended ≡ self.old.ended }
     {
@@ -309,7 +317,8 @@ impl<W: Work> Parts<W> {
         ensures turns { IfOk result (λ v. Turns (seen self.old) (seen self.new) v) }
         ensures waits { IfOk result (λ v. WaitsFor v.then (knows self.new)) }
         ensures rings { rings self.new ≡ rings self.old }
-        ensures bare { KeepsNone (rings self.old).output self.old.kept → KeepsNone (rings self.new).output self.new.kept }
+        ensures bare { KeepsNone (rings self.old).output self.old.kept
+            → KeepsNone (rings self.new).output self.new.kept }
         ensures said { OnOk result (self.new.said ≡ []) }
         ensures err { OnErr result ((self.old.ended ≡ false) × (self.new.ended ≡ false)) }
     {

@@ -63,7 +63,7 @@ pub fn run_bodies<W: Work>(
     Ok(None)
 }
 
-/// Gives bodies a turn in a random order, which the seed tells, until all have ended, for at most so many turns. Answers
+/// Gives bodies turns in a random order, which the seed tells, until all have ended, for at most so many turns. Answers
 /// what each kept, which is what the plain run of the tasks gives, or none where the turns weren't enough.
 pub fn run_shuffled<W: Work>(
     alloc: Global,

@@ -59,9 +59,13 @@ fn settle_one<W: Work>(
 ) -> Result<(), NoMemory>
     requires ended { HasEnded body }
     requires joint { IsJoint task.now body.lasting (map out_ring outputs.old.items) }
-    ensures rings { OnOk result (map out_ring outputs.new.items ≡ map out_ring outputs.old.items ++ output_of body ∷ []) }
+    ensures rings { OnOk result (map out_ring outputs.new.items ≡ map out_ring outputs.old.items
+        ++ output_of body ∷ []) }
     ensures kept { OnOk result (kept.new.items ≡ kept.old.items ++ kept_of body ∷ []) }
-    ensures lines { (done : List (List Line)) → AllPutOut (map out_ring outputs.old.items) (map sent_by outputs.old.items) kept.old.items done → OnOk result (AllPutOut (map out_ring outputs.new.items) (map sent_by outputs.new.items) kept.new.items (done ++ task_lines task.now done ∷ [])) }
+    ensures lines { (done : List (List Line)) → AllPutOut (map out_ring outputs.old.items)
+        (map sent_by outputs.old.items) kept.old.items done → OnOk result (AllPutOut
+        (map out_ring outputs.new.items) (map sent_by outputs.new.items) kept.new.items (done
+        ++ task_lines task.now done ∷ [])) }
 {
     let mut parts = body.apart();
     look_at(&mut parts.left, outputs, task.from.as_slice());
@@ -92,8 +96,8 @@ use crate::work::Work;
 use handoff_data::{Lines, NoMemory, TaskNo};
 use task_script::TaskDef;
 
-/// Takes apart bodies that have all ended, and answers what each of them kept: the lines of each task that no other reads,
-/// and none in the place of a task that is read. It is what the plain run of the tasks gives.
+/// Takes apart bodies that have all ended, and answers what each of them kept: the lines of each task that no other
+/// reads, and none in the place of a task that is read. It is what the plain run of the tasks gives.
 pub fn settle<W: Work>(
     alloc: Global,
     tasks: &[TaskDef],

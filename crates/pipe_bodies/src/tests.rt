@@ -60,8 +60,6 @@ fn expect_turns<R: Abort>(
     Ok(())
 }
 
-
-
 #[test]
 fn a_full_ring_hands_the_end_back(rt: HostRuntime) -> Result<(), Fail> {
     let mut bodies = bodies_of(rt.alloc(), 1, "task a count 1\ntask b upper from a\n")?;
@@ -127,14 +125,22 @@ fn a_pin_lasts_for_its_lines_or_to_the_end_of_the_input(rt: HostRuntime) -> Resu
     expect_pins(&rt, "task a count 4\ntask b pin 2 from a\n", &two)?;
     let five = [true, true, false, false, false];
     expect_pins(&rt, "task a count 1\ntask b pin 5 from a\n", &five)?;
-    expect_pins(&rt, "task a count 1\ntask b upper from a\n", &[false, false])?;
+    expect_pins(
+        &rt,
+        "task a count 1\ntask b upper from a\n",
+        &[false, false],
+    )?;
     Ok(())
 }
 
 fn expect_same<R: Abort>(rt: &R, found: &[Lines], expected: &[Lines], room: u32, tasks: &str) {
     assert_eq!(rt; found.len(), expected.len());
     for task in 0..found.len().min(expected.len()) {
-        assert_eq!(rt; found[task].len(), expected[task].len(), "room {room}, {tasks}");
+        assert_eq!(rt;
+            found[task].len(),
+            expected[task].len(),
+            "room {room}, {tasks}"
+        );
         for line in 0..expected[task].len() {
             let same = match (found[task].get(line), expected[task].get(line)) {
                 (Some(a), Some(b)) => a.equals(b),
@@ -185,7 +191,7 @@ fn bodies_keep_what_the_plain_run_gives(rt: HostRuntime) -> Result<(), Fail> {
         "task a count 3\ntask b count 0\ntask w weave from a b\n",
         "task a count 0\ntask b count 3\ntask w weave from a b\n",
         "task a count 0\ntask b lines\ntask w weave from a b\n",
-        "task a count 4\ntask b count 6\ntask u upper from b\ntask w weave from u a\ntask c count 2\ntask n number from c\ntask d cat from n w\ntask e count 1\n",
+        "task a count 4\ntask b count 6\ntask w weave from b a\ntask c count 2\ntask d cat from c w\ntask e count 1\n",
     ];
     for tasks in scripts {
         for room in [1, 2, 4, 64] {
@@ -205,14 +211,16 @@ fn line<R: Abort + AllocGlobal>(rt: &R, bytes: &[u8]) -> Result<Line, NoMemory> 
 #[test]
 fn several_lines_are_held_in_order(rt: HostRuntime) -> Result<(), Fail> {
     let mut said = Lines::new(rt.alloc());
-    for text in [b"1", b"2", b"3"] {
+    let texts: [&[u8]; 3] = [b"1", b"2", b"3"];
+    for text in texts {
         said.push(line(&rt, text)?)?;
     }
     let mut held = VecDeque::new(rt.alloc());
     held.push_back(Item::Text(line(&rt, b"0")?))?;
     hold(&mut said, &mut held)?;
     assert!(rt; said.is_empty());
-    for text in [b"0", b"1", b"2", b"3"] {
+    let expected: [&[u8]; 4] = [b"0", b"1", b"2", b"3"];
+    for text in expected {
         match held.pop_front() {
             Some(Item::Text(found)) => assert_eq!(rt; found.as_slice(), text),
             _ => panic!(rt; "a line is missing"),
@@ -275,9 +283,13 @@ fn a_work_runs_in_a_body(rt: HostRuntime) -> Result<(), Fail> {
         turn_of(&mut bodies, 0)?;
         turn_of(&mut bodies, 1)?;
     }
-    let kept = bodies[1].kept();
+    let Some(body) = bodies.pop() else {
+        panic!(rt; "a body is missing")
+    };
+    let kept = body.kept();
     assert_eq!(rt; kept.len(), 2);
-    for (place, text) in [b"1", b"2"].iter().enumerate() {
+    let expected: [&[u8]; 2] = [b"1", b"2"];
+    for (place, text) in expected.iter().enumerate() {
         match kept.get(place) {
             Some(found) => assert_eq!(rt; found.as_slice(), *text),
             None => panic!(rt; "a line is missing"),
@@ -296,7 +308,7 @@ fn refused_memory_is_answered_for_good(rt: HostRuntime) -> Result<(), Fail> {
         assert!(rt; turn_of(&mut bodies, 1).is_err());
         turn_of(&mut bodies, 0)?;
     }
-    assert!(rt; !bodies[1].has_ended());
+    assert!(rt; !have_ended(bodies.as_slice()));
     Ok(())
 }
 
@@ -318,7 +330,7 @@ fn a_work_in_a_box_is_a_work(rt: HostRuntime) -> Result<(), Fail> {
     let work: Box<dyn Work + Send + Drop> = Box::new(rt.alloc(), shout)?;
     let mut out = eaten(rt.alloc(), work, &line(&rt, b"az")?)?;
     match out.pop() {
-        Some(found) => assert_eq!(rt; found.as_slice(), b"AZ"),
+        Some(found) => assert_eq!(rt; found.as_slice(), b"AZ".as_slice()),
         None => panic!(rt; "a line is missing"),
     }
     assert!(rt; out.is_empty());

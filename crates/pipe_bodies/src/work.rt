@@ -14,7 +14,8 @@ pub trait Work: Send + Drop {
 
     /// Puts out what the plan says for a line, and moves to the next plan.
     fn eat(&mut self, line: &Line, out: &mut Lines) -> Result<(), NoMemory>
-        ensures ok { OnOk result ((out.new ≡ out.old ++ says (meaning self.old) 0 line.now) × (meaning self.new ≡ next (meaning self.old) 0 line.now)) }
+        ensures ok { OnOk result ((out.new ≡ out.old ++ says (meaning self.old) 0 line.now)
+            × (meaning self.new ≡ next (meaning self.old) 0 line.now)) }
         ensures err { OnErr result ((out.new ≡ out.old) × (meaning self.new ≡ meaning self.old)) };
 
     /// Puts out the plan's last lines.
@@ -108,7 +109,8 @@ impl<W: Work> Custom<W> {
     }
 
     pub fn eat(&mut self, line: &Line, out: &mut Lines) -> Result<(), NoMemory>
-        ensures { OnOk result ((out.new ≡ out.old ++ says self.old 0 line.now) × (self.new ≡ next self.old 0 line.now)) }
+        ensures { OnOk result ((out.new ≡ out.old ++ says self.old 0 line.now)
+            × (self.new ≡ next self.old 0 line.now)) }
     {
         self.work.eat(line, out)
     }
