@@ -14,7 +14,7 @@ use Rattle.pipe_bodies.specs.Rings.{Ring}
 use Rattle.pipe_bodies.specs.Turns.{Seen}
 use Rattle.pipe_bodies.specs.Parts.{IsJoined}
 use Rattle.pipe_bodies.specs.Bodies.{Lasting, BodyView}
-use Rattle.pipe_bodies.specs.Nets.{others, IsSide, IsNetAfter, IsNet, lasting_of, output_of, NotIn, IsReading, reads_on, Part, part_of, seen_of, IsUnused, IsFree, Links, SideIn, JointIn, Built}
+use Rattle.pipe_bodies.specs.Nets.{others, IsSide, IsNetAfter, lasting_of, output_in, output_of, NotIn, IsReading, reads_on, Part, part_of, seen_of, IsUnused, IsFree, Links, SideIn, JointIn, Built}
 use Rattle.task_script.specs.declared.plan.Plan.{Plan}
 use Rattle.task_script.specs.declared.plan.Plan.TheVariants.{Lines, Count, Upper, Number, Keep, Drop, Tally, Cat, Weave, Pin}
 use Rattle.task_script.specs.declared.script.TaskDef.{TaskDef}
@@ -38,6 +38,8 @@ module _ (ds : List TaskDef) (reads : List ℕ) (parts : List Part) (outs : List
     outputs_length = length-set outs x v ∙ b.outputs_length;
     unused = b.unused;
     joints = λ k d p l. let j = b.joints k d p l in record {
+      number = j.number;
+      inputs = j.inputs;
       plan = j.plan;
       left = SideIn-set _ _ k outs x v (b.unread x free) j.left;
       right = SideIn-set _ _ k outs x v (b.unread x free) j.right;
@@ -62,7 +64,7 @@ SideIn-push [] r n outs s = s
 SideIn-push (x ∷ from) r n outs s = (s.0, s.1, s.2 ∙ sym (get-none outs x))
 
 JointIn-push : (d : TaskDef) (p : Part) (n : ℕ) (outs : List (Option Ring)) → JointIn d p n outs → JointIn d p n (outs ++ None ∷ [])
-JointIn-push d p n outs j = record { plan = j.plan; left = SideIn-push _ _ n outs j.left; right = SideIn-push _ _ n outs j.right }
+JointIn-push d p n outs j = record { number = j.number; inputs = j.inputs; plan = j.plan; left = SideIn-push _ _ n outs j.left; right = SideIn-push _ _ n outs j.right }
 
 length-push : {X : Type 0} (xs : List X) (x : X) → length (xs ++ x ∷ []) ≡ length xs + 1
 length-push xs x = length-append xs (x ∷ [])
@@ -80,33 +82,33 @@ module _ (ds : List TaskDef) (reads : List ℕ) (parts : List Part) (outs : List
     unread = λ x n. get-none outs x ∙ b.unread x n;
   }
 
-most-sides : (p : Plan) → sides p ≤ 2
-most-sides (Lines l) = omega arith
-most-sides (Count n l) = omega arith
-most-sides Upper = omega arith
-most-sides (Number n) = omega arith
-most-sides (Keep f) = omega arith
-most-sides (Drop f) = omega arith
-most-sides (Tally n) = omega arith
-most-sides (Cat turn) = omega arith
-most-sides (Weave turn ended) = omega arith
-most-sides (Pin n on) = omega arith
+pub most_sides : (p : Plan) → sides p ≤ 2
+most_sides (Lines l) = omega arith
+most_sides (Count n l) = omega arith
+most_sides Upper = omega arith
+most_sides (Number n) = omega arith
+most_sides (Keep f) = omega arith
+most_sides (Drop f) = omega arith
+most_sides (Tally n) = omega arith
+most_sides (Cat turn) = omega arith
+most_sides (Weave turn ended) = omega arith
+most_sides (Pin n on) = omega arith
 
 linked : (x : ℕ) (n : ℕ) (a c : List (Option Ring)) (r : Option Ring) → x < n → length a ≡ n → IsSome r → c ≡ slice_set a x r → (x < n) × IsSome r × (r ≡ slice_index_or c x None)
 linked x n a c r l e s q = (l, s, sym (ap (λ z. slice_index_or z x None) q ∙ get_or-set_same a x r None (subst (λ z. x < z) (sym e) l)))
 
-module _ (ds : List TaskDef) (d : TaskDef) (reads : List ℕ) (parts : List Part) (o0 o1 o2 : List (Option Ring)) (seens : List Seen) (l r : Option Ring) (a : Seen) (u : IsUnused a) (b : Built ds reads parts o0 seens) where
+module _ (ds : List TaskDef) (d : TaskDef) (reads : List ℕ) (parts : List Part) (o0 o1 o2 : List (Option Ring)) (seens : List Seen) (l r : Option Ring) (a : Seen) (u : IsUnused a) (b : Built ds reads parts o0 seens) (n : length d.from ≡ sides d.plan) where
   by_from : (from : List ℕ) → d.from ≡ from → length from ≤ 2 → IsReading (length ds) reads from → Links from o0 o1 l → Links (others from) o1 o2 r
-      → Built (ds ++ d ∷ []) (reads_on from reads) (parts ++ record { begun = d.plan; left = l; right = r } ∷ []) (o2 ++ None ∷ []) (seens ++ a ∷ [])
+      → Built (ds ++ d ∷ []) (reads_on from reads) (parts ++ record { task = length ds; begun = d.plan; left = l; right = r } ∷ []) (o2 ++ None ∷ []) (seens ++ a ∷ [])
   by_from [] e m k p q =
       let same : o2 ≡ o0 = q.0 ∙ p.0 in
-      subst (λ z. Built (ds ++ d ∷ []) reads (parts ++ record { begun = d.plan; left = l; right = r } ∷ []) (z ++ None ∷ []) (seens ++ a ∷ [])) (sym same)
-      (Built-push ds reads parts o0 seens b d _ a u (record { plan = refl; left = rw e p.1; right = rw e q.1 }))
+      subst (λ z. Built (ds ++ d ∷ []) reads (parts ++ record { task = length ds; begun = d.plan; left = l; right = r } ∷ []) (z ++ None ∷ []) (seens ++ a ∷ [])) (sym same)
+      (Built-push ds reads parts o0 seens b d _ a u (record { number = refl; inputs = n; plan = refl; left = rw e p.1; right = rw e q.1 }))
   by_from (x ∷ []) e m k p q =
       let c : Built ds (x ∷ reads) parts (slice_set o0 x l) seens = Built-link ds reads parts o0 seens b x l k.1 in
       let c1 : Built ds (x ∷ reads) parts o1 seens = subst (λ z. Built ds (x ∷ reads) parts z seens) (sym p.1) c in
       let c2 : Built ds (x ∷ reads) parts o2 seens = subst (λ z. Built ds (x ∷ reads) parts z seens) (sym q.0) c1 in
-      Built-push ds (x ∷ reads) parts o2 seens c2 d _ a u (record { plan = refl; left = rw e (linked x (length ds) o0 o2 l k.0 b.outputs_length p.0 (q.0 ∙ p.1)); right = rw e q.1 })
+      Built-push ds (x ∷ reads) parts o2 seens c2 d _ a u (record { number = refl; inputs = n; plan = refl; left = rw e (linked x (length ds) o0 o2 l k.0 b.outputs_length p.0 (q.0 ∙ p.1)); right = rw e q.1 })
   by_from (x ∷ y ∷ []) e m k p q =
       let c : Built ds (x ∷ reads) parts (slice_set o0 x l) seens = Built-link ds reads parts o0 seens b x l k.1 in
       let c1 : Built ds (x ∷ reads) parts o1 seens = subst (λ z. Built ds (x ∷ reads) parts z seens) (sym p.1) c in
@@ -114,12 +116,12 @@ module _ (ds : List TaskDef) (d : TaskDef) (reads : List ℕ) (parts : List Part
       let c2 : Built ds (y ∷ x ∷ reads) parts o2 seens = subst (λ z. Built ds (y ∷ x ∷ reads) parts z seens) (sym q.1) f in
       let left1 : SideIn (x ∷ y ∷ []) l (length ds) o1 = linked x (length ds) o0 o1 l k.0 b.outputs_length p.0 p.1 in
       let left2 : SideIn (x ∷ y ∷ []) l (length ds) o2 = subst (λ z. SideIn (x ∷ y ∷ []) l (length ds) z) (sym q.1) (SideIn-set (x ∷ y ∷ []) l (length ds) o1 y r (c1.unread y k.2.1) left1) in
-      Built-push ds (y ∷ x ∷ reads) parts o2 seens c2 d _ a u (record { plan = refl; left = rw e left2; right = rw e (linked y (length ds) o1 o2 r k.2.0 c1.outputs_length q.0 q.1) })
+      Built-push ds (y ∷ x ∷ reads) parts o2 seens c2 d _ a u (record { number = refl; inputs = n; plan = refl; left = rw e left2; right = rw e (linked y (length ds) o1 o2 r k.2.0 c1.outputs_length q.0 q.1) })
   by_from (x ∷ y ∷ z ∷ from) e m k p q = absurd (omega arith)
 
-  pub Built-one : length d.from ≡ sides d.plan → IsReading (length ds) reads d.from → Links d.from o0 o1 l → Links (others d.from) o1 o2 r
-      → Built (ds ++ d ∷ []) (reads_on d.from reads) (parts ++ record { begun = d.plan; left = l; right = r } ∷ []) (o2 ++ None ∷ []) (seens ++ a ∷ [])
-  Built-one s k p q = let most = most-sides d.plan in by_from d.from refl (omega arith) k p q
+  pub Built-one : IsReading (length ds) reads d.from → Links d.from o0 o1 l → Links (others d.from) o1 o2 r
+      → Built (ds ++ d ∷ []) (reads_on d.from reads) (parts ++ record { task = length ds; begun = d.plan; left = l; right = r } ∷ []) (o2 ++ None ∷ []) (seens ++ a ∷ [])
+  Built-one k p q = let most = most_sides d.plan in by_from d.from refl (omega arith) k p q
 
   -- the second side is free once the first is joined
   free_by : (from : List ℕ) → IsReading (length ds) reads from → Links from o0 o1 l → IsFree (others from) o1
@@ -150,7 +152,7 @@ net-by po (d ∷ ds) (b ∷ bs) e j =
     let first : JointIn d (part_of b) (length po + 0) (po ++ output_of b ∷ map output_of bs) = j 0 d (part_of b) (omega arith) in
     let zero_more : length po + 0 ≡ length po = omega arith in
     let here : JointIn d (part_of b) (length po) (po ++ output_of b ∷ map output_of bs) = subst (λ z. JointIn d (part_of b) z (po ++ output_of b ∷ map output_of bs)) zero_more first in (
-      record { plan = here.plan; left = IsSide-take _ _ po _ here.left; right = IsSide-take _ _ po _ here.right },
+      record { number = here.number; inputs = here.inputs; plan = here.plan; left = IsSide-take _ _ po _ here.left; right = IsSide-take _ _ po _ here.right },
       net-by (po ++ output_of b ∷ []) ds bs (omega arith)
           (λ k q p l.
           let more : length po + suc k ≡ length (po ++ output_of b ∷ []) + k = (let f = length-append po (output_of b ∷ []) in omega arith) in
@@ -158,8 +160,12 @@ net-by po (d ∷ ds) (b ∷ bs) e j =
           rw (append_assoc po (output_of b ∷ []) (map output_of bs), ← more) tail),
     )
 
-pub net-built : (ds : List TaskDef) (bs : List BodyView) (reads : List ℕ) (seens : List Seen) → length bs ≡ length ds → Built ds reads (map part_of bs) (map output_of bs) seens → IsNet ds (map lasting_of bs)
+pub net-built : (ds : List TaskDef) (bs : List BodyView) (reads : List ℕ) (seens : List Seen) → length bs ≡ length ds → Built ds reads (map part_of bs) (map output_of bs) seens → IsNetAfter [] ds (map lasting_of bs)
 net-built ds bs reads seens e b = net-by [] ds bs e (λ k d p l. let none : 0 + k ≡ k = omega arith in rw none (b.joints k d p l))
+
+pub outputs_in : (bs : List BodyView) → map output_in (map lasting_of bs) ≡ map output_of bs
+outputs_in [] = refl
+outputs_in (b ∷ bs) = ap (λ z. output_of b ∷ z) (outputs_in bs)
 
 pub Built-none : Built [] [] [] [] []
 Built-none = record { parts_length = refl; outputs_length = refl; unused = λ k a l. absurd (omega arith); joints = λ k d p l. absurd (omega arith); unread = λ x n. refl }
@@ -168,7 +174,7 @@ Built-none = record { parts_length = refl; outputs_length = refl; unused = λ k 
 
 module _ (bs : List BodyView) (x : ℕ) (b b' : BodyView) (ring : Ring) (at : b ≡ get_or bs x b) (l : b'.lasting ≡ joined_by b.lasting ring) (s : b'.seen ≡ b.seen) where
   pub parts-joined : map part_of (set bs x b') ≡ map part_of bs
-  parts-joined = map-set_same part_of bs x b' b (ap (λ (z : Lasting). let p : Part = record { begun = z.begun; left = z.rings.left; right = z.rings.right } in p) l ∙ ap part_of at)
+  parts-joined = map-set_same part_of bs x b' b (ap (λ (z : Lasting). let p : Part = record { task = z.task; begun = z.begun; left = z.rings.left; right = z.rings.right } in p) l ∙ ap part_of at)
 
   pub seens-joined : map seen_of (set bs x b') ≡ map seen_of bs
   seens-joined = map-set_same seen_of bs x b' b (s ∙ ap seen_of at)
@@ -196,10 +202,11 @@ module _ {T A P : Type 0} where
 pub built-step : (ds : List TaskDef) (d : TaskDef) (reads : List ℕ) (b0 b1 b2 : List BodyView) (n : BodyView) (t : ℕ) (l r : Option Ring)
     → Built ds reads (map part_of b0) (map output_of b0) (map seen_of b0) → length d.from ≡ sides d.plan → IsReading (length ds) reads d.from
     → Links d.from (map output_of b0) (map output_of b1) l → Links (others d.from) (map output_of b1) (map output_of b2) r
-    → map part_of b2 ≡ map part_of b0 → map seen_of b2 ≡ map seen_of b0 → n.lasting ≡ lasting_by t d.plan l r → IsUnused n.seen
+    → map part_of b2 ≡ map part_of b0 → map seen_of b2 ≡ map seen_of b0 → n.lasting ≡ lasting_by t d.plan l r → t ≡ length ds → IsUnused n.seen
     → Built (ds ++ d ∷ []) (reads_on d.from reads) (map part_of (b2 ++ n ∷ [])) (map output_of (b2 ++ n ∷ [])) (map seen_of (b2 ++ n ∷ []))
-built-step ds d reads b0 b1 b2 n t l r b s k p q pe se le u =
-    let part : part_of n ≡ record { begun = d.plan; left = l; right = r } = ap (λ (z : Lasting). let p : Part = record { begun = z.begun; left = z.rings.left; right = z.rings.right } in p) le in
+built-step ds d reads b0 b1 b2 n t l r b s k p q pe se le te u =
+    let part : part_of n ≡ record { task = length ds; begun = d.plan; left = l; right = r } = ap (λ (z : Lasting). let p : Part = record { task = z.task; begun = z.begun; left = z.rings.left; right = z.rings.right } in p) le
+    ∙ ap (λ z. let p : Part = record { task = z; begun = d.plan; left = l; right = r } in p) te in
     let out : output_of n ≡ None = ap (λ (z : Lasting). z.rings.output) le in
     rw (map-append part_of b2 (n ∷ []), map-append output_of b2 (n ∷ []), map-append seen_of b2 (n ∷ []), part, out, pe, se)
     (Built-one ds d reads (map part_of b0) (map output_of b0) (map output_of b1) (map output_of b2) (map seen_of b0) l r n.seen u b s k p q)

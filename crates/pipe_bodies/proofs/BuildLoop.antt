@@ -5,24 +5,25 @@ use Rattle.std.specs.Prelude.{None, slice_index_or}
 use Rattle.task_script.specs.Plan.{sides}
 use Rattle.pipe_bodies.specs.Courses.{plan_in}
 use Rattle.pipe_bodies.specs.Bodies.{BodyView}
-use Rattle.pipe_bodies.specs.Nets.{IsNet, lasting_of, output_of, part_of, seen_of, IsReading, reads_on, IsScriptAfter, IsScript, NotIn, reads_after, plan_for, Built}
+use Rattle.pipe_bodies.specs.Nets.{IsNet, lasting_of, output_of, part_of, seen_of, IsReading, reads_on, CanBeJoinedAfter, CanBeJoined, NotIn, reads_after, plan_for, Built}
 use Rattle.pipe_bodies.specs.declared.parts.Course.{Course}
 use Rattle.task_script.specs.declared.script.TaskDef.{TaskDef}
-use Rattle.pipe_bodies.proofs.BuildLaws.{Built-none, net-built}
+use Rattle.pipe_bodies.proofs.BuildLaws.{Built-none, net-built, outputs_in}
+use Rattle.pipe_bodies.proofs.ForestScripts.{not_read}
 
 module _ {W : Type 0} where
   pub record Building (tasks ds : List TaskDef) (rest : List (Course W)) (bodies : List BodyView) (i : ℕ) : Type 0 where
     pub before : List TaskDef
     pub reads : List ℕ
     pub all : before ++ ds ≡ tasks
-    pub script : IsScriptAfter (length before) reads ds
+    pub script : CanBeJoinedAfter (length before) reads ds
     pub built : Built before reads (map part_of bodies) (map output_of bodies) (map seen_of bodies)
     pub courses : map plan_in rest ≡ map plan_for ds
     pub count : length bodies ≡ length before
     pub place : length before ≡ i
     pub read : reads_after reads ds ≡ reads_after [] tasks
 
-  pub building-starts : (tasks : List TaskDef) (rest : List (Course W)) → IsScript tasks → map plan_in rest ≡ map plan_for tasks → Building tasks tasks rest [] 0
+  pub building-starts : (tasks : List TaskDef) (rest : List (Course W)) → CanBeJoined tasks → map plan_in rest ≡ map plan_for tasks → Building tasks tasks rest [] 0
   building-starts tasks rest s e = record { before = []; reads = []; all = refl; script = s; built = Built-none; courses = e; count = refl; place = refl; read = refl }
 
   no_course : (d : TaskDef) (ds : List TaskDef) (rest : List (Course W)) → length rest ≡ 0 → map plan_in rest ≡ map plan_for (d ∷ ds) → ⊥
@@ -36,6 +37,9 @@ module _ {W : Type 0} where
 
       pub building-none : length rest ≡ 0 → ⊥
       building-none n = no_course d (drop (i + 1) tasks) rest n at_task.courses
+
+      pub building-number : length bodies ≡ i
+      building-number = at_task.count ∙ at_task.place
 
       pub building-sides : length d.from ≡ sides d.plan
       building-sides = at_task.script.0
@@ -71,9 +75,7 @@ module _ {W : Type 0} where
     building-end rest l s =
         let done : Building tasks [] rest bodies i = subst (λ z. Building tasks z rest bodies i) (drop_all i tasks l) s in
         let whole : done.before ≡ tasks = sym (append-nil done.before) ∙ done.all in
-        net-built tasks bodies done.reads (map seen_of bodies) (done.count ∙ ap length whole) (subst (λ z. Built z done.reads (map part_of bodies) (map output_of bodies) (map seen_of bodies)) whole done.built)
-
-    pub building-unread : (rest : List (Course W)) → length tasks ≤ i → Building tasks (drop i tasks) rest bodies i → (t : ℕ) → NotIn (reads_after [] tasks) t → slice_index_or (map output_of bodies) t None ≡ None
-    building-unread rest l s t n =
-        let done : Building tasks [] rest bodies i = subst (λ z. Building tasks z rest bodies i) (drop_all i tasks l) s in
-        done.built.unread t (subst (λ z. NotIn z t) (sym done.read) n)
+        record {
+          joined = net-built tasks bodies done.reads (map seen_of bodies) (done.count ∙ ap length whole) (subst (λ z. Built z done.reads (map part_of bodies) (map output_of bodies) (map seen_of bodies)) whole done.built);
+          unread = λ t e. ap (λ z. slice_index_or z t None) (outputs_in bodies) ∙ done.built.unread t (subst (λ z. NotIn z t) (sym done.read) (not_read tasks [] t e tt));
+        }

@@ -11,7 +11,8 @@ use Rattle.std.proofs.Math.Seq.{get_or-append_seam}
 use Rattle.task_script.specs.Plan.{sides}
 use Rattle.task_script.specs.Forest.{IsForest, reads}
 use Rattle.task_script.specs.declared.script.TaskDef.{TaskDef}
-use Rattle.pipe_bodies.specs.Nets.{NotIn, IsReading, reads_on, IsScriptAfter, IsScript}
+use Rattle.pipe_tasks.specs.Tasks.{is_among}
+use Rattle.pipe_bodies.specs.Nets.{NotIn, IsReading, reads_on, reads_after, CanBeJoinedAfter, CanBeJoined}
 
 abbrev Differ : ℕ → ℕ → Type 0
 Differ s t = s ≢ t
@@ -60,8 +61,19 @@ module _ (n : ℕ) (rest : List ℕ) where
         others = λ x e. after.others x (subst (λ z. is_in z x ≡ false) (sym (append_assoc seen (t ∷ []) from)) e);
       }
 
+-- a task that nobody reads is in no list of tasks that were read
+not_from : (from acc : List ℕ) (t : ℕ) → is_in from t ≡ false → NotIn acc t → NotIn (reads_on from acc) t
+not_from [] acc t e n = n
+not_from (x ∷ from) acc t e n = not_from from (x ∷ acc) t (not-right (nat_eq x t) (is_in from t) e) (differs-back x t (not-left (nat_eq x t) (is_in from t) e), n)
+
+pub not_read : (ds : List TaskDef) (acc : List ℕ) (t : ℕ) → is_among (reads ds) t ≡ false → NotIn acc t → NotIn (reads_after acc ds) t
+not_read [] acc t e n = n
+not_read (d ∷ ds) acc t e n =
+    let both : (is_in d.from t || is_in (reads ds) t) ≡ false = sym (list_any-append (λ s. nat_eq s t) d.from (reads ds)) ∙ e in
+    not_read ds (reads_on d.from acc) t (not-right (is_in d.from t) (is_in (reads ds) t) both) (not_from d.from acc t (not-left (is_in d.from t) (is_in (reads ds) t) both) n)
+
 module _ (tasks : List TaskDef) (forest : IsForest tasks) where
-  script_after : (ds done : List TaskDef) (acc : List ℕ) → done ++ ds ≡ tasks → ((x : ℕ) → is_in (reads done) x ≡ false → NotIn acc x) → IsScriptAfter (length done) acc ds
+  script_after : (ds done : List TaskDef) (acc : List ℕ) → done ++ ds ≡ tasks → ((x : ℕ) → is_in (reads done) x ≡ false → NotIn acc x) → CanBeJoinedAfter (length done) acc ds
   script_after [] done acc e known = tt
   script_after (d ∷ ds) done acc e known =
       let whole = ap length e in
@@ -77,9 +89,9 @@ module _ (tasks : List TaskDef) (forest : IsForest tasks) where
       let read : reads (done ++ d ∷ []) ≡ reads done ++ d.from = flat_map-append (λ (t : TaskDef). t.from) done (d ∷ []) ∙ ap (λ z. reads done ++ z) (append-nil d.from) in (
         inputs,
         one.reading,
-        subst (λ n. IsScriptAfter n (reads_on d.from acc) ds) longer
+        subst (λ n. CanBeJoinedAfter n (reads_on d.from acc) ds) longer
             (script_after ds (done ++ d ∷ []) (reads_on d.from acc) (append_assoc done (d ∷ []) ds ∙ e) (λ x h. one.others x (subst (λ z. is_in z x ≡ false) read h))),
       )
 
-  pub IsScript-forest : IsScript tasks
-  IsScript-forest = script_after tasks [] [] refl (λ x e. tt)
+  pub forest_joined : CanBeJoined tasks
+  forest_joined = script_after tasks [] [] refl (λ x e. tt)

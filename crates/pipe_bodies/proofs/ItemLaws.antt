@@ -5,7 +5,8 @@ use Rattle.task_script.specs.declared.plan.Plan.{Plan}
 use Rattle.task_script.specs.declared.plan.Plan.TheVariants.{Lines, Count, Upper, Number, Keep, Drop, Tally, Cat, Weave, Pin}
 use Rattle.pipe_tasks.specs.Words.{Line}
 use Rattle.pipe_tasks.specs.Plans.{wants, says, next, last, closed, made, lines_of}
-use Rattle.pipe_tasks.proofs.PlanLaws.{lines_of-first, lines_of-second, lines_of-first_end, lines_of-first_ends, lines_of-second_end, lines_of-second_ends, lines_of-made, own_lines}
+use Rattle.pipe_tasks.specs.Feeds.{FeedingGivesLines}
+use Rattle.pipe_bodies.proofs.FeedLaws.{lines_of-first, lines_of-second, lines_of-first_end, lines_of-first_ends, lines_of-second_end, lines_of-second_ends, lines_of-made, own_lines}
 use Rattle.pipe_bodies.specs.Items.{texts, items, as_texts, outputs, ending, heard, after, makes, more, item_made, plan_made}
 use Rattle.pipe_bodies.specs.declared.item.Item.{Item}
 use Rattle.pipe_bodies.specs.declared.item.Item.TheVariants.{Text, End}
@@ -57,25 +58,25 @@ second_over (Pin left on) q x y w e = cc
 
 -- ---- an item
 
-module _ (p : Plan) (s t : List Item) where
+module _ (law : FeedingGivesLines) (p : Plan) (s t : List Item) where
   first_ended : (c : Option Plan) → wants p ≡ Some 0 → closed p 0 ≡ c → items (lines_of p [] (texts t)) ≡ (as_texts (last p 0) ++ ending c) ++ outputs c s t
-  first_ended None w e = ap items (lines_of-first_ends p (texts t) w e) ∙ items-ended (last p 0)
+  first_ended None w e = ap items (lines_of-first_ends law p (texts t) w e) ∙ items-ended (last p 0)
   first_ended (Some q) w e =
-      ap items (lines_of-first_end p q (texts t) w e) ∙ items-append (last p 0) (lines_of q [] (texts t))
+      ap items (lines_of-first_end law p q (texts t) w e) ∙ items-append (last p 0) (lines_of q [] (texts t))
       ∙ ap (λ z. as_texts (last p 0) ++ items z) (first_over p q (texts s) (texts t) w e) ∙ ap (λ z. z ++ outputs (Some q) s t) (sym (append-nil (as_texts (last p 0))))
 
   second_ended : (c : Option Plan) → wants p ≡ Some 1 → closed p 1 ≡ c → items (lines_of p (texts s) []) ≡ (as_texts (last p 1) ++ ending c) ++ outputs c s t
-  second_ended None w e = ap items (lines_of-second_ends p (texts s) w e) ∙ items-ended (last p 1)
+  second_ended None w e = ap items (lines_of-second_ends law p (texts s) w e) ∙ items-ended (last p 1)
   second_ended (Some q) w e =
-      ap items (lines_of-second_end p q (texts s) w e) ∙ items-append (last p 1) (lines_of q (texts s) [])
+      ap items (lines_of-second_end law p q (texts s) w e) ∙ items-append (last p 1) (lines_of q (texts s) [])
       ∙ ap (λ z. as_texts (last p 1) ++ items z) (second_over p q (texts s) (texts t) w e) ∙ ap (λ z. z ++ outputs (Some q) s t) (sym (append-nil (as_texts (last p 1))))
 
   pub item-left : (i : Item) → wants p ≡ Some 0 → outputs (Some p) (i ∷ s) t ≡ heard p 0 i ++ outputs (after p 0 i) s t
-  item-left (Text a) w = ap items (lines_of-first p a (texts s) (texts t) w) ∙ items-append (says p 0 a) (lines_of (next p 0 a) (texts s) (texts t))
+  item-left (Text a) w = ap items (lines_of-first law p a (texts s) (texts t) w) ∙ items-append (says p 0 a) (lines_of (next p 0 a) (texts s) (texts t))
   item-left End w = first_ended (closed p 0) w refl
 
   pub item-right : (i : Item) → wants p ≡ Some 1 → outputs (Some p) s (i ∷ t) ≡ heard p 1 i ++ outputs (after p 1 i) s t
-  item-right (Text a) w = ap items (lines_of-second p a (texts s) (texts t) w) ∙ items-append (says p 1 a) (lines_of (next p 1 a) (texts s) (texts t))
+  item-right (Text a) w = ap items (lines_of-second law p a (texts s) (texts t) w) ∙ items-append (says p 1 a) (lines_of (next p 1 a) (texts s) (texts t))
   item-right End w = second_ended (closed p 1) w refl
 
   made_items : (o : Option (Line × Plan)) → items (own_lines o (texts s) (texts t)) ≡ item_made o ++ outputs (plan_made o) s t
@@ -83,7 +84,7 @@ module _ (p : Plan) (s t : List Item) where
   made_items (Some (line, q)) = refl
 
   pub source : wants p ≡ None → outputs (Some p) s t ≡ makes p ++ outputs (more p) s t
-  source w = ap items (lines_of-made p (texts s) (texts t) w) ∙ made_items (made p)
+  source w = ap items (lines_of-made law p (texts s) (texts t) w) ∙ made_items (made p)
 
 -- a plan wants side 0 or 1
 pub side-below : (p : Plan) (k : ℕ) → wants p ≡ Some (suc k) → k ≡ 0

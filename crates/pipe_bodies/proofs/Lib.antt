@@ -1,3 +1,4 @@
+pub mod FeedLaws
 pub mod ItemLaws
 pub mod CodeLaws
 pub mod TurnLaws
@@ -7,3 +8,5 @@ pub mod SettleLaws
 pub mod BuildLaws
 pub mod BuildLoop
 pub mod ForestScripts
+pub mod CopyLaws
+pub mod TestScripts

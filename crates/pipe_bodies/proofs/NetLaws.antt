@@ -10,14 +10,14 @@ use Rattle.pipe_bodies.specs.Rings.{Ring, out_ring, out_of, end_if}
 use Rattle.pipe_bodies.specs.Turns.{Seen, Ordered, Sound}
 use Rattle.pipe_bodies.specs.Bodies.{Lasting}
 use Rattle.pipe_bodies.specs.Nets.{others, IsSide, IsJoint, PutOut, AllPutOut, input_past, sent_by}
+use Rattle.pipe_bodies.specs.Parts.{KeepsNone}
 use Rattle.std.proofs.lemmas.List.{map-append}
 use Rattle.std.proofs.Common.{Global}
 use Rattle.rtrb.specs.declared.AnyItems.{AnyItems}
 use Rattle.rtrb.specs.declared.consumer.Consumer.{Consumer}
 use Rattle.pipe_bodies.specs.declared.parts.Parts.{Parts}
 use Rattle.pipe_bodies.specs.Parts.{seen}
-use Rattle.pipe_bodies.specs.Nets.{known}
-use Rattle.pipe_bodies.specs.Rings.{got}
+use Rattle.pipe_bodies.specs.Rings.{got, known}
 use Rattle.rtrb.specs.declared.producer.Producer.{Producer}
 use Rattle.task_script.specs.declared.plan.Plan.{Plan}
 use Rattle.pipe_bodies.specs.declared.item.Item.{Item}
@@ -79,12 +79,14 @@ texts-kept [] = refl
 texts-kept (a ∷ x) = ap (λ z. a ∷ z) (texts-kept x)
 
 module _ {A P : Type 0} where
-  pub PutOut-of : (o : Option (Producer Item A P)) (kept lines : List Line) → out_of o kept true ≡ items lines → PutOut (out_ring o) (sent_by o) kept lines
-  PutOut-of None kept lines e = record {
+  pub PutOut-of : (o : Option (Producer Item A P)) (kept lines : List Line) → KeepsNone (out_ring o) kept → out_of o kept true ≡ items lines → PutOut (out_ring o) (sent_by o) kept lines
+  PutOut-of None kept lines k e = record {
+    none = tt;
     on_ring = λ (s : IsSome {T = Ring} None). cc;
     in_kept = λ _. sym (texts-kept kept) ∙ ap texts e ∙ texts-items lines;
   }
-  PutOut-of (Some p) kept lines e = record {
+  PutOut-of (Some p) kept lines k e = record {
+    none = k;
     on_ring = λ _. e;
     in_kept = λ (n : Some (Rattle.pipe_bodies.specs.Rings.ring_out p) ≡ None). cc;
   }
@@ -92,15 +94,15 @@ module _ {A P : Type 0} where
 -- ---- the parts of one more body
 
 pub settled : {W : Type 0} (d : TaskDef) (l : Lasting) (a : Seen) (p : Parts W) (left right : Option (Consumer Item Global AnyItems)) (before between after : List (Option (Producer Item Global AnyItems))) (kept done : List (List Line))
-    → Sound l.begun a → a.ended ≡ true → IsJoint d l (map out_ring before) → AllPutOut (map out_ring before) (map sent_by before) kept done
+    → Sound l.begun a → a.ended ≡ true → KeepsNone (out_ring p.output) p.kept → IsJoint d l (map out_ring before) → AllPutOut (map out_ring before) (map sent_by before) kept done
     → seen p ≡ a → got left ≡ got p.left → got right ≡ got p.right
     → map sent_by between ≡ map sent_by before → map out_ring after ≡ map out_ring before → map sent_by after ≡ map sent_by before
     → got left ++ known left ≡ input_past d.from (map sent_by before) → got right ++ known right ≡ input_past (others d.from) (map sent_by between)
     → AllPutOut (map out_ring (after ++ p.output ∷ [])) (map sent_by (after ++ p.output ∷ [])) (kept ++ p.kept ∷ []) (done ++ task_lines d done ∷ [])
-settled d l a p left right before between after kept done k e j all s gl gr pb ra pa fl fr =
+settled d l a p left right before between after kept done k e n j all s gl gr pb ra pa fl fr =
     let out : a.out ≡ items (task_lines d done) = task-out (map out_ring before) (map sent_by before) kept done all d l a (known left) (known right) k e j
     (ap (λ z. z ++ known left) (ap (λ z. z.got_left) (sym s) ∙ sym gl) ∙ fl) (ap (λ z. z ++ known right) (ap (λ z. z.got_right) (sym s) ∙ sym gr) ∙ fr ∙ ap (λ z. input_past (others d.from) z) pb) in
     let ended : p.ended ≡ true = ap (λ z. z.ended) s ∙ e in
     let mine : out_of p.output p.kept true ≡ items (task_lines d done) = ap (λ z. out_of p.output p.kept z) (sym ended) ∙ ap (λ z. z.out) s ∙ out in
     rw (map-append out_ring after (p.output ∷ []), map-append sent_by after (p.output ∷ []), ra, pa)
-    (AllPutOut-push (map out_ring before) (map sent_by before) kept done all (out_ring p.output) (sent_by p.output) p.kept (task_lines d done) (PutOut-of p.output p.kept (task_lines d done) mine))
+    (AllPutOut-push (map out_ring before) (map sent_by before) kept done all (out_ring p.output) (sent_by p.output) p.kept (task_lines d done) (PutOut-of p.output p.kept (task_lines d done) n mine))

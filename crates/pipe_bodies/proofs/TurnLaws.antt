@@ -4,6 +4,7 @@ use Rattle.std.specs.Prelude.{Option, Some, None, nat_lt, nat_le, if◌then◌el
 use Rattle.std.specs.Fmt.{decimal}
 use Rattle.pipe_tasks.specs.Words.{Line}
 use Rattle.pipe_tasks.specs.Plans.{wants, says, last, closed, made}
+use Rattle.pipe_tasks.specs.Feeds.{FeedingGivesLines}
 use Rattle.pipe_bodies.specs.Items.{as_texts, outputs, ending, heard, after, makes, more, item_made, plan_made}
 use Rattle.pipe_bodies.specs.Rings.{Ring}
 use Rattle.pipe_bodies.specs.Turns.{Seen, is_end, PutsOut, TakesFrom, Goes, GoesOn, TurnsBy, Turns, NoEnd, OneEnd, Ordered, Sound}
@@ -56,7 +57,7 @@ going_on false p h o = refl
 
 -- ---- the meaning
 
-module _ (begun : Plan) (a : Seen) (known : Sound begun a) where
+module _ (law : FeedingGivesLines) (begun : Plan) (a : Seen) (known : Sound begun a) where
   keeps-put : (i : Item) (h : List Item) → a.held ≡ i ∷ h → Sound begun (record a { out = a.out ++ i ∷ []; held = h; ended = is_end i })
   keeps-put i h e = record {
     faithful = λ s t. known.faithful s t ∙ ap (λ z. z ++ outputs a.plan s t) (ap (λ z. a.out ++ z) e ∙ sym (append_assoc a.out (i ∷ []) h));
@@ -72,13 +73,13 @@ module _ (begun : Plan) (a : Seen) (known : Sound begun a) where
 
     keeps-left : (i : Item) → wants p ≡ Some 0 → Sound begun (record a { got_left = a.got_left ++ i ∷ []; held = heard p 0 i; plan = after p 0 i })
     keeps-left i w = record {
-      faithful = λ s t. ap (λ z. outputs (Some begun) z (a.got_right ++ t)) (append_assoc a.got_left (i ∷ []) s) ∙ before (i ∷ s) t ∙ ap (λ z. a.out ++ z) (item-left p s t i w) ∙ sym (append_assoc a.out (heard p 0 i) (outputs (after p 0 i) s t));
+      faithful = λ s t. ap (λ z. outputs (Some begun) z (a.got_right ++ t)) (append_assoc a.got_left (i ∷ []) s) ∙ before (i ∷ s) t ∙ ap (λ z. a.out ++ z) (item-left law p s t i w) ∙ sym (append_assoc a.out (heard p 0 i) (outputs (after p 0 i) s t));
       ordered = rw is_open (heard-ordered p 0 i);
     }
 
     keeps-second : (i : Item) → wants p ≡ Some 1 → Sound begun (record a { got_right = a.got_right ++ i ∷ []; held = heard p 1 i; plan = after p 1 i })
     keeps-second i w = record {
-      faithful = λ s t. ap (λ z. outputs (Some begun) (a.got_left ++ s) z) (append_assoc a.got_right (i ∷ []) t) ∙ before s (i ∷ t) ∙ ap (λ z. a.out ++ z) (item-right p s t i w) ∙ sym (append_assoc a.out (heard p 1 i) (outputs (after p 1 i) s t));
+      faithful = λ s t. ap (λ z. outputs (Some begun) (a.got_left ++ s) z) (append_assoc a.got_right (i ∷ []) t) ∙ before s (i ∷ t) ∙ ap (λ z. a.out ++ z) (item-right law p s t i w) ∙ sym (append_assoc a.out (heard p 1 i) (outputs (after p 1 i) s t));
       ordered = rw is_open (heard-ordered p 1 i);
     }
 
@@ -89,7 +90,7 @@ module _ (begun : Plan) (a : Seen) (known : Sound begun a) where
 
     keeps-source : wants p ≡ None → Sound begun (record a { held = makes p; plan = more p })
     keeps-source w = record {
-      faithful = λ s t. before s t ∙ ap (λ z. a.out ++ z) (source p s t w) ∙ sym (append_assoc a.out (makes p) (outputs (more p) s t));
+      faithful = λ s t. before s t ∙ ap (λ z. a.out ++ z) (source law p s t w) ∙ sym (append_assoc a.out (makes p) (outputs (more p) s t));
       ordered = rw is_open (made-ordered (made p));
     }
 
@@ -216,6 +217,17 @@ module _ (a b : Seen) (v : Verdict) (ended : a.ended ≡ true) (ordered : Ordere
 
   pub ended-turn : Turns a b v → b ≡ a
   ended-turn t = ended_held a.held refl t
+
+  over_plan : (q : Option Plan) → a.plan ≡ q → GoesOn q a b v → v.then ≡ Exit
+  over_plan None e t = t.3
+  over_plan (Some p) e t = let o : Ordered true (Some p) a.held = subst (λ z. Ordered true z a.held) e (subst (λ z. Ordered z a.plan a.held) ended ordered) in absurd o
+
+  over_held : (h : List Item) → a.held ≡ h → TurnsBy h a b v → v.then ≡ Exit
+  over_held [] e t = over_plan a.plan refl t
+  over_held (i ∷ h) e t = absurd (ended_nil a.plan i h (subst (λ z. Ordered true a.plan z) e (subst (λ z. Ordered z a.plan a.held) ended ordered)))
+
+  pub over-turn : Turns a b v → v.then ≡ Exit
+  over-turn t = over_held a.held refl t
 
 -- ---- an exit comes only once the end was put out
 

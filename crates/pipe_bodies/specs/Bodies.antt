@@ -2,7 +2,7 @@
 use Rattle.std.specs.Prelude.{ℕ, List, [], Bool, false, Option, Some, None}
 use Rattle.pipe_bodies.specs.Rings.{Ring}
 use Rattle.pipe_tasks.specs.Words.{Line}
-use Rattle.pipe_bodies.specs.Turns.{Seen}
+use Rattle.pipe_bodies.specs.Turns.{Seen, Known}
 use Rattle.pipe_bodies.specs.Parts.{Rings}
 use Rattle.task_script.specs.declared.plan.Plan.{Plan}
 
@@ -15,6 +15,7 @@ pub record Lasting : Type 0 where
 pub record BodyView : Type 0 where
   pub lasting : Lasting
   pub seen : Seen
+  pub known : Known
   pub kept : List Line
   pub broken : Bool
 

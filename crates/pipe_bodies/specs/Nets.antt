@@ -1,14 +1,16 @@
 -- Tasks that read earlier tasks, and the lines of each.
-use Rattle.std.specs.Prelude.{◌≡◌, ◌≢◌, ◌<◌, ◌+◌, ℕ, List, [], ◌∷◌, ◌++◌, length, slice_index_or, slice_set, true, false, Option, Some, None, IsSome}
-use Rattle.rtrb.specs.Ring.{sent, known_items}
-use Rattle.rtrb.specs.declared.consumer.Consumer.{Consumer}
+use Rattle.std.specs.Prelude.{◌≡◌, ◌≢◌, ◌<◌, ◌+◌, ℕ, List, [], ◌∷◌, ◌++◌, length, map, slice_index_or, slice_set, true, false, Option, Some, None, IsSome}
+use Rattle.rtrb.specs.Ring.{sent}
 use Rattle.rtrb.specs.declared.producer.Producer.{Producer}
 use Rattle.task_script.specs.Plan.{sides}
+use Rattle.task_script.specs.Forest.{reads}
+use Rattle.pipe_tasks.specs.Tasks.{is_among}
 use Rattle.pipe_tasks.specs.Words.{Line}
 use Rattle.pipe_bodies.specs.Items.{items}
 use Rattle.task_script.specs.declared.plan.Plan.{Plan}
 use Rattle.pipe_bodies.specs.Rings.{Ring}
 use Rattle.pipe_bodies.specs.Turns.{Seen}
+use Rattle.pipe_bodies.specs.Parts.{KeepsNone}
 use Rattle.pipe_bodies.specs.Bodies.{Lasting, BodyView}
 use Rattle.pipe_bodies.specs.declared.item.Item.{Item}
 use Rattle.task_script.specs.declared.script.TaskDef.{TaskDef}
@@ -27,6 +29,8 @@ IsSide (x ∷ from) ring outputs = (x < length outputs) × IsSome ring × (ring 
 
 -- a body of a task, after tasks that write these rings
 pub record IsJoint (d : TaskDef) (l : Lasting) (outputs : List (Option Ring)) : Type 0 where
+  pub number : l.task ≡ length outputs
+  pub inputs : length d.from ≡ sides d.plan
   pub plan : l.begun ≡ d.plan
   pub left : IsSide d.from l.rings.left outputs
   pub right : IsSide (others d.from) l.rings.right outputs
@@ -37,9 +41,13 @@ IsNetAfter outputs [] (l ∷ ls) = ⊥
 IsNetAfter outputs (d ∷ ds) [] = ⊥
 IsNetAfter outputs (d ∷ ds) (l ∷ ls) = IsJoint d l outputs × IsNetAfter (outputs ++ l.rings.output ∷ []) ds ls
 
--- the bodies, in the order of their tasks, are joined as the script says
-abbrev pub IsNet : List TaskDef → List Lasting → Type 0
-IsNet ds ls = IsNetAfter [] ds ls
+abbrev pub output_in : Lasting → Option Ring
+output_in l = l.rings.output
+
+-- the bodies, in the order of their tasks, are joined as the script says, and a task that nobody reads has no ring
+pub record IsNet (ds : List TaskDef) (ls : List Lasting) : Type 0 where
+  pub joined : IsNetAfter [] ds ls
+  pub unread : (t : ℕ) → is_among (reads ds) t ≡ false → slice_index_or (map output_in ls) t None ≡ None
 
 abbrev pub lasting_of : BodyView → Lasting
 lasting_of b = b.lasting
@@ -64,6 +72,7 @@ module _ {T A P : Type 0} where
 pub record PutOut (ring : Option Ring) (past : List Item) (kept : List Line) (lines : List Line) : Type 0 where
   pub on_ring : IsSome ring → past ≡ items lines
   pub in_kept : ring ≡ None → kept ≡ lines
+  pub none : KeepsNone ring kept
 
 -- each task that is done has put out its lines
 pub record AllPutOut (rings : List (Option Ring)) (pasts : List (List Item)) (kept done : List (List Line)) : Type 0 where
@@ -71,12 +80,6 @@ pub record AllPutOut (rings : List (Option Ring)) (pasts : List (List Item)) (ke
   pub pasts_length : length pasts ≡ length done
   pub kept_length : length kept ≡ length done
   pub each : (t : ℕ) → t < length done → PutOut (slice_index_or rings t None) (slice_index_or pasts t []) (slice_index_or kept t []) (slice_index_or done t [])
-
-module _ {T A P : Type 0} where
-  -- what a consumer knows to be in its ring
-  abbrev pub known : Option (Consumer T A P) → List T
-  known None = []
-  known (Some c) = known_items c
 
 abbrev pub first_of : List ℕ → Option ℕ
 first_of [] = None
@@ -87,7 +90,7 @@ abbrev pub input_past : List ℕ → List (List Item) → List Item
 input_past [] pasts = []
 input_past (x ∷ from) pasts = slice_index_or pasts x []
 
--- ---- a script: each task reads earlier tasks, and no task is read twice
+-- ---- tasks that can be joined one after another: each reads earlier tasks, and no task is read twice
 
 abbrev pub NotIn : List ℕ → ℕ → Type 0
 NotIn [] x = Unit {0}
@@ -102,17 +105,17 @@ abbrev pub reads_on : List ℕ → List ℕ → List ℕ
 reads_on [] reads = reads
 reads_on (x ∷ from) reads = reads_on from (x ∷ reads)
 
-abbrev pub IsScriptAfter : ℕ → List ℕ → List TaskDef → Type 0
-IsScriptAfter n reads [] = Unit {0}
-IsScriptAfter n reads (d ∷ ds) = (length d.from ≡ sides d.plan) × IsReading n reads d.from × IsScriptAfter (n + 1) (reads_on d.from reads) ds
+abbrev pub CanBeJoinedAfter : ℕ → List ℕ → List TaskDef → Type 0
+CanBeJoinedAfter n reads [] = Unit {0}
+CanBeJoinedAfter n reads (d ∷ ds) = (length d.from ≡ sides d.plan) × IsReading n reads d.from × CanBeJoinedAfter (n + 1) (reads_on d.from reads) ds
 
 -- all tasks that are read
 abbrev pub reads_after : List ℕ → List TaskDef → List ℕ
 reads_after reads [] = reads
 reads_after reads (d ∷ ds) = reads_after (reads_on d.from reads) ds
 
-abbrev pub IsScript : List TaskDef → Type 0
-IsScript ds = IsScriptAfter 0 [] ds
+abbrev pub CanBeJoined : List TaskDef → Type 0
+CanBeJoined ds = CanBeJoinedAfter 0 [] ds
 
 abbrev pub plan_for : TaskDef → Plan
 plan_for d = d.plan
@@ -124,12 +127,13 @@ seen_of b = b.seen
 
 -- what does not change when a reader comes
 pub record Part : Type 0 where
+  pub task : ℕ
   pub begun : Plan
   pub left : Option Ring
   pub right : Option Ring
 
 abbrev pub part_of : BodyView → Part
-part_of b = record { begun = b.lasting.begun; left = b.lasting.rings.left; right = b.lasting.rings.right }
+part_of b = record { task = b.lasting.task; begun = b.lasting.begun; left = b.lasting.rings.left; right = b.lasting.rings.right }
 
 abbrev pub IsUnused : Seen → Type 0
 IsUnused a = (a.out ≡ []) × (a.ended ≡ false)
@@ -149,6 +153,8 @@ SideIn [] ring n outputs = ring ≡ None
 SideIn (x ∷ from) ring n outputs = (x < n) × IsSome ring × (ring ≡ slice_index_or outputs x None)
 
 pub record JointIn (d : TaskDef) (p : Part) (n : ℕ) (outputs : List (Option Ring)) : Type 0 where
+  pub number : p.task ≡ n
+  pub inputs : length d.from ≡ sides d.plan
   pub plan : p.begun ≡ d.plan
   pub left : SideIn d.from p.left n outputs
   pub right : SideIn (others d.from) p.right n outputs

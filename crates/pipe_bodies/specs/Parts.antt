@@ -1,9 +1,10 @@
 -- What is seen of the parts of a body.
-use Rattle.std.specs.Prelude.{◌≡◌, ◌≤◌, Bool, true, false, Option, Some, None, IsSome}
+use Rattle.std.specs.Prelude.{◌≡◌, ◌≤◌, List, [], Bool, true, false, Option, Some, None, IsSome}
 use Rattle.task_script.specs.Plan.{sides}
 use Rattle.pipe_bodies.specs.Courses.{plan_on}
-use Rattle.pipe_bodies.specs.Rings.{Ring, in_ring, out_ring, got, out_of}
-use Rattle.pipe_bodies.specs.Turns.{Seen, Sound}
+use Rattle.pipe_tasks.specs.Words.{Line}
+use Rattle.pipe_bodies.specs.Rings.{Ring, in_ring, out_ring, got, out_of, known, free_slots}
+use Rattle.pipe_bodies.specs.Turns.{Seen, Known, Sound}
 use Rattle.task_script.specs.declared.plan.Plan.{Plan}
 use Rattle.pipe_bodies.specs.declared.parts.Parts.{Parts}
 
@@ -17,6 +18,19 @@ pub record Rings : Type 0 where
 
 abbrev pub rings : {W : Type 0} → Parts W → Rings
 rings a = record { left = in_ring a.left; right = in_ring a.right; output = out_ring a.output }
+
+abbrev pub knows : {W : Type 0} → Parts W → Known
+knows a = record { left = known a.left; right = known a.right; free = free_slots a.output }
+
+-- nothing is kept where another task reads
+abbrev pub KeepsNone : Option Ring → List Line → Type 0
+KeepsNone None kept = Unit {0}
+KeepsNone (Some ring) kept = kept ≡ []
+
+-- between turns nothing is on its way to what is held, unless memory has run out
+abbrev pub IsClear : Bool → List Line → Type 0
+IsClear true said = Unit {0}
+IsClear false said = said ≡ []
 
 -- the sides that a plan reads are there
 abbrev pub IsJoined : Option Plan → Option Ring → Option Ring → Type 0

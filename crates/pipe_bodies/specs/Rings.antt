@@ -1,7 +1,7 @@
 -- The ring that an end belongs to, as a plain value, and what went through an end that may be absent.
-use Rattle.std.specs.Prelude.{List, [], ◌∷◌, ◌++◌, Bool, true, false, Option, Some, None}
+use Rattle.std.specs.Prelude.{ℕ, List, [], ◌∷◌, ◌++◌, Bool, true, false, Option, Some, None}
 use denote.RawPtr.{Ptr}
-use Rattle.rtrb.specs.Ring.{sent, received}
+use Rattle.rtrb.specs.Ring.{sent, received, known_items, known_free}
 use Rattle.rtrb.specs.Shared.{Names}
 use Rattle.rtrb.specs.declared.producer.Producer.{Producer}
 use Rattle.rtrb.specs.declared.consumer.Consumer.{Consumer}
@@ -34,6 +34,16 @@ module _ {T A P : Type 0} where
   abbrev pub got : Option (Consumer T A P) → List T
   got None = []
   got (Some c) = received c
+
+  -- what a consumer knows to be in its ring
+  abbrev pub known : Option (Consumer T A P) → List T
+  known None = []
+  known (Some c) = known_items c
+
+  -- how many slots a producer knows to be free; where nobody reads, there is always one
+  abbrev pub free_slots : Option (Producer T A P) → ℕ
+  free_slots None = 1
+  free_slots (Some p) = known_free p
 
 abbrev pub end_if : Bool → List Item
 end_if true = End ∷ []

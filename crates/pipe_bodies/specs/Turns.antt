@@ -6,6 +6,7 @@ use Rattle.task_script.specs.declared.plan.Plan.{Plan}
 use Rattle.pipe_bodies.specs.declared.item.Item.{Item}
 use Rattle.pipe_bodies.specs.declared.item.Item.TheVariants.{Text, End}
 use Rattle.pipe_bodies.specs.declared.verdict.Verdict.{Verdict}
+use Rattle.pipe_bodies.specs.declared.verdict.Then.{Then}
 use Rattle.pipe_bodies.specs.declared.verdict.Then.TheVariants.{More, WaitIn, WaitOut, Exit}
 
 -- what is seen of a body in its course
@@ -52,6 +53,22 @@ TurnsBy [] a b v = GoesOn a.plan a b v
 
 abbrev pub Turns : Seen → Seen → Verdict → Type 0
 Turns a b v = TurnsBy a.held a b v
+
+-- ---- why a task waits
+
+-- what the ends of a body's rings know
+pub record Known : Type 0 where
+  pub left : List Item  -- items that are there, on each side
+  pub right : List Item
+  pub free : ℕ  -- slots that are free
+
+-- a task waits for a side where no item is known there, and for its reader where no slot is known to be free
+abbrev pub WaitsFor : Then → Known → Type 0
+WaitsFor More k = Unit {0}
+WaitsFor (WaitIn zero) k = k.left ≡ []
+WaitsFor (WaitIn (suc n)) k = k.right ≡ []
+WaitsFor WaitOut k = k.free ≡ 0
+WaitsFor Exit k = Unit {0}
 
 -- ---- what stays true
 

@@ -5,6 +5,7 @@ use crate::verdict::Verdict;
 use crate::work::Work;
 use boxcar::tag::{Names, Tag};
 use handoff_data::{Lines, NoMemory, TaskNo};
+use pipe_tasks::feeding_gives_lines;
 use rtrb::{Consumer, Producer};
 use std::alloc::Global;
 use std::collections::VecDeque;
@@ -49,9 +50,9 @@ impl<W: Work> Body<W> {
     ghost use Rattle.pipe_bodies.specs.Courses.{plan_in};
     ghost use Rattle.pipe_bodies.specs.Rings.{in_ring, ring_out, got};
     ghost use Rattle.pipe_bodies.specs.Bodies.{lasting_by, joined_by, fresh_seen};
-    ghost use Rattle.pipe_bodies.specs.Turns.{Turns, Sound};
+    ghost use Rattle.pipe_bodies.specs.Turns.{Turns, Sound, WaitsFor};
     ghost use Rattle.pipe_bodies.specs.declared.verdict.Then.TheVariants.{Exit};
-    ghost use Rattle.pipe_bodies.specs.Parts.{seen, rings, IsJoined};
+    ghost use Rattle.pipe_bodies.specs.Parts.{seen, rings, IsJoined, KeepsNone};
 
     // A body that has done nothing, and that nobody reads yet.
     pub(crate) fn new(
@@ -73,6 +74,7 @@ impl<W: Work> Body<W> {
             right,
             output: None,
             kept: Lines::new(alloc),
+            said: Lines::new(alloc),
             held: VecDeque::new(alloc),
             plan: Some(course),
             ended: false,
@@ -96,12 +98,15 @@ impl<W: Work> Body<W> {
         self.parts.output = Some(producer);
     }
 
-    /// One turn: the oldest held item is put out; else the task is done where its end was put out; else a source makes its
-    /// next item; else an item is taken from the side that the plan wants.
+    /// One turn, which does the first of these that applies: the oldest held item is put out; the task is done where
+    /// its end was put out; a source makes its next item; an item is taken from the side that the plan wants. What the
+    /// plan says for it is held. After a refusal every turn is one.
     #[tactic(auto, using(crate::proofs::BodyLaws::body_laws))]
     pub fn turn(&mut self) -> Result<Verdict, NoMemory>
         ensures turns { IfOk result (λ v. Turns self.old.seen self.new.seen v) }
+        ensures waits { IfOk result (λ v. WaitsFor v.then self.new.known) }
         ensures exit { IfOk result (λ v. v.then ≡ Exit → self.new.seen.ended ≡ true) }
+        ensures over { self.old.seen.ended ≡ true → IfOk result (λ v. v.then ≡ Exit) }
         ensures lasting { self.new.lasting ≡ self.old.lasting }
         ensures ended { self.old.seen.ended ≡ true → self.new.seen.ended ≡ true }
         ensures broken { self.old.broken ≡ true → IsErr result }
@@ -110,6 +115,7 @@ impl<W: Work> Body<W> {
         if self.broken {
             return Err(NoMemory);
         }
+        feeding_gives_lines();
         match self.parts.turn(self.alloc) {
             Ok(verdict) => Ok(verdict),
             Err(_) => {
@@ -125,6 +131,7 @@ impl<W: Work> Body<W> {
         ensures rings { rings result ≡ self.lasting.rings }
         ensures kept { result.kept ≡ self.kept }
         ensures sound { self.seen.ended ≡ true → Sound self.lasting.begun self.seen }
+        ensures bare { KeepsNone self.lasting.rings.output self.kept }
     {
         let Body {
             task: _,

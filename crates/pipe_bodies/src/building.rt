@@ -4,9 +4,11 @@ ghost use Rattle.task_script.specs.Plan.{sides};
 ghost use Rattle.task_script.specs.Forest.{IsForest};
 ghost use Rattle.pipe_bodies.specs.Courses.{plan_in};
 ghost use Rattle.pipe_bodies.specs.Rings.{in_ring, got};
-ghost use Rattle.pipe_bodies.specs.Nets.{IsNet, IsReading, IsFree, Links, Built, plan_for, part_of, output_of, seen_of, lasting_of, reads_on, IsUnused};
+ghost use Rattle.pipe_bodies.specs.Nets.{IsNet, IsReading, IsFree, IsUnused, Links, Built, reads_on};
+ghost use Rattle.pipe_bodies.specs.Nets.{plan_for, part_of, output_of, seen_of, lasting_of};
 
 use crate::body::Body;
+use crate::copies::copy_plan;
 use crate::item::Item;
 use crate::parts::Course;
 use crate::settling::others;
@@ -14,7 +16,7 @@ use crate::work::Work;
 use handoff_data::{NoMemory, TaskNo};
 use rtrb::{Consumer, RingBuffer};
 use std::alloc::Global;
-use task_script::TaskDef;
+use task_script::{Script, TaskDef, law_script};
 
 // A new ring from the first task of a list, if there is one.
 fn link<W: Work>(
@@ -24,8 +26,10 @@ fn link<W: Work>(
     bodies: &mut Vec<Body<W>>,
 ) -> Result<Option<Consumer<Item>>, NoMemory>
     requires free { IsFree from.now (map output_of bodies.old.items) }
-    requires unused { (k : ℕ) (a : _) → k < length bodies.old.items → IsUnused (slice_index_or (map seen_of bodies.old.items) k a) }
-    ensures links { IfOk result (λ c. Links from.now (map output_of bodies.old.items) (map output_of bodies.new.items) (in_ring c)) }
+    requires unused { (k : ℕ) (a : _) → k < length bodies.old.items → IsUnused (slice_index_or
+        (map seen_of bodies.old.items) k a) }
+    ensures links { IfOk result (λ c. Links from.now (map output_of bodies.old.items)
+        (map output_of bodies.new.items) (in_ring c)) }
     ensures got { IfOk result (λ c. got c ≡ []) }
     ensures parts { OnOk result (map part_of bodies.new.items ≡ map part_of bodies.old.items) }
     ensures seens { OnOk result (map seen_of bodies.new.items ≡ map seen_of bodies.old.items) }
@@ -52,8 +56,14 @@ fn build_one<W: Work>(
     bodies: &mut Vec<Body<W>>,
 ) -> Result<(), NoMemory>
     requires plan { (plan_in course ≡ task.now.plan) × (length task.now.from ≡ sides task.now.plan) }
-    requires built { (ds : List TaskDef) × (reads : List ℕ) × IsReading (length ds) reads task.now.from × Built ds reads (map part_of bodies.old.items) (map output_of bodies.old.items) (map seen_of bodies.old.items) }
-    ensures built { (ds : List TaskDef) (reads : List ℕ) → IsReading (length ds) reads task.now.from → Built ds reads (map part_of bodies.old.items) (map output_of bodies.old.items) (map seen_of bodies.old.items) → OnOk result (Built (ds ++ task.now ∷ []) (reads_on task.now.from reads) (map part_of bodies.new.items) (map output_of bodies.new.items) (map seen_of bodies.new.items)) }
+    requires number { number ≡ length bodies.old.items }
+    requires built { (ds : List TaskDef) × (reads : List ℕ) × IsReading (length ds) reads task.now.from
+        × Built ds reads (map part_of bodies.old.items) (map output_of bodies.old.items)
+        (map seen_of bodies.old.items) }
+    ensures built { (ds : List TaskDef) (reads : List ℕ) → IsReading (length ds) reads task.now.from
+        → Built ds reads (map part_of bodies.old.items) (map output_of bodies.old.items)
+        (map seen_of bodies.old.items) → OnOk result (Built (ds ++ task.now ∷ []) (reads_on task.now.from reads)
+        (map part_of bodies.new.items) (map output_of bodies.new.items) (map seen_of bodies.new.items)) }
     ensures count { OnOk result (length bodies.new.items ≡ length bodies.old.items + 1) }
 {
     let from = task.from.as_slice();
@@ -63,11 +73,14 @@ fn build_one<W: Work>(
     Ok(())
 }
 
-ghost use Rattle.std.specs.Prelude.{◌+◌, None};
-ghost use Rattle.pipe_bodies.specs.Nets.{NotIn, reads_after};
+ghost use Rattle.std.specs.Prelude.{◌+◌};
 
-/// The rings of a script and a body for each task, which begins with its course.
-pub fn build<W: Work>(
+/// The rings of tasks, and a body for each, which begins with its course.
+///
+/// The tasks are a forest, and each course has the plan of its task. The bodies are joined as the tasks say (`IsNet`):
+/// each has the number of its task, its plan, and an end of the ring to each task that it reads and from the one that
+/// reads it.
+pub fn build_courses<W: Work>(
     alloc: Global,
     room: u32,
     tasks: &[TaskDef],
@@ -77,7 +90,6 @@ pub fn build<W: Work>(
     requires count { length tasks.now < 2 ^ 32 }
     requires courses { map plan_in courses.items ≡ map plan_for tasks.now }
     ensures net { IfOk result (λ r. IsNet tasks.now (map lasting_of r.items)) }
-    ensures unread { IfOk result (λ r. (t : ℕ) → NotIn (reads_after [] tasks.now) t → slice_index_or (map output_of r.items) t None ≡ None) }
 {
     let mut bodies = Vec::new(alloc);
     let mut courses = courses.into_iter();
@@ -90,4 +102,35 @@ pub fn build<W: Work>(
         number += 1;
     }
     Ok(bodies)
+}
+
+// A course for each task, which is a copy of its plan.
+fn own_courses<W: Work>(alloc: Global, tasks: &[TaskDef]) -> Result<Vec<Course<W>>, NoMemory>
+    ensures { IfOk result (λ r. map plan_in r.items ≡ map plan_for tasks.now) }
+{
+    let mut courses = Vec::with_capacity(alloc, tasks.len())?;
+    for task in tasks {
+        courses.push(Course::Own(copy_plan(alloc, &task.plan)?))?;
+    }
+    Ok(courses)
+}
+
+ghost use Rattle.task_script.specs.Script.{IsScript};
+
+/// Text tasks that are joined by rings.
+pub struct Net;
+
+impl Net {
+    /// The rings of a script, which have its room, and a body for each of its tasks. The script stays: each body has a
+    /// copy of its plan.
+    pub fn build<W: Work>(alloc: Global, script: &Script) -> Result<Vec<Body<W>>, NoMemory>
+        requires script { (bytes : List ℕ) × IsScript bytes script.now }
+        ensures net { IfOk result (λ r. IsNet script.now.tasks (map lasting_of r.items)) }
+    {
+        law_script();
+        let _range = script.shape.tasks;
+        let tasks = script.tasks.as_slice();
+        let courses = own_courses(alloc, tasks)?;
+        build_courses(alloc, script.room, tasks, courses)
+    }
 }

@@ -3,6 +3,7 @@
 
 mod body;
 mod building;
+mod copies;
 mod item;
 mod parts;
 mod running;
@@ -11,10 +12,10 @@ mod verdict;
 mod work;
 
 pub use body::Body;
-pub use building::build;
+pub use building::{Net, build_courses};
 pub use item::Item;
 pub use parts::Course;
-pub use running::{have_ended, run_bodies};
+pub use running::{have_ended, run_bodies, run_shuffled};
 pub use settling::settle;
 pub use verdict::{Then, Verdict};
 pub use work::{Custom, NoWork, Work};

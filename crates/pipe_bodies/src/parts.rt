@@ -2,7 +2,8 @@
 ghost use Rattle.std.specs.Prelude.{◌≡◌, [], ◌∷◌, ◌++◌, IfOk, OnErr, MatchOption, IsSome, OnOk, false};
 ghost use Rattle.pipe_tasks.specs.Plans.{wants};
 ghost use Rattle.pipe_bodies.specs.Items.{heard, after, makes, more, as_texts, pinned};
-ghost use Rattle.pipe_bodies.specs.Rings.{in_ring, out_ring, got, out_of};
+ghost use Rattle.pipe_bodies.specs.Rings.{in_ring, out_ring, got, out_of, known, free_slots};
+ghost use Rattle.pipe_bodies.specs.Parts.{KeepsNone};
 ghost use Rattle.pipe_bodies.specs.Turns.{is_end};
 ghost use Rattle.pipe_bodies.specs.declared.parts.PutResult.TheVariants.{Done, Back};
 
@@ -22,6 +23,8 @@ pub(crate) struct Parts<W: Work> {
     pub(crate) right: Option<Consumer<Item>>,
     pub(crate) output: Option<Producer<Item>>,
     pub(crate) kept: Lines,
+    // What the plan said for an item, on its way to those that are held: nothing between turns.
+    pub(crate) said: Lines,
     pub(crate) held: VecDeque<Item>,
     pub(crate) plan: Option<Course<W>>,
     pub(crate) ended: bool,
@@ -52,22 +55,25 @@ fn hear_plan(
     plan: Plan,
     side: u32,
     item: Item,
+    said: &mut Lines,
     held: &mut VecDeque<Item>,
 ) -> Result<Option<Plan>, NoMemory>
-    requires { wants plan ≡ Some side }
-    ensures { IfOk result (λ p. (p ≡ after plan side item) × (held.new.items ≡ held.old.items ++ heard plan side item)) }
+    requires wanted { wants plan ≡ Some side }
+    requires said { said.old ≡ [] }
+    ensures heard { IfOk result (λ p. (p ≡ after plan side item) × (held.new.items ≡ held.old.items
+        ++ heard plan side item)) }
+    ensures said { OnOk result (said.new ≡ []) }
 {
     let mut plan = plan;
-    let mut out = Lines::new(alloc);
     match item {
         Item::Text(line) => {
-            step_plan(alloc, &mut plan, side, line, &mut out)?;
-            hold(out, held)?;
+            step_plan(alloc, &mut plan, side, line, said)?;
+            hold(said, held)?;
             Ok(Some(plan))
         }
         Item::End => {
-            let goes_on = end_plan(alloc, &mut plan, side, &mut out)?;
-            hold(out, held)?;
+            let goes_on = end_plan(alloc, &mut plan, side, said)?;
+            hold(said, held)?;
             if goes_on {
                 return Ok(Some(plan));
             }
@@ -78,11 +84,11 @@ fn hear_plan(
 }
 
 // Holds lines.
-fn hold(lines: Lines, held: &mut VecDeque<Item>) -> Result<(), NoMemory>
-    ensures { OnOk result (held.new.items ≡ held.old.items ++ as_texts lines) }
+pub(crate) fn hold(said: &mut Lines, held: &mut VecDeque<Item>) -> Result<(), NoMemory>
+    ensures held { OnOk result (held.new.items ≡ held.old.items ++ as_texts said.old) }
+    ensures said { OnOk result (said.new ≡ []) }
 {
-    let mut lines = lines;
-    while let Some(line) = lines.pop() {
+    while let Some(line) = said.pop() {
         held.push_back(Item::Text(line))?;
     }
     Ok(())
@@ -90,25 +96,27 @@ fn hold(lines: Lines, held: &mut VecDeque<Item>) -> Result<(), NoMemory>
 
 // The same for a work.
 fn hear_work<W: Work>(
-    alloc: Global,
     work: Custom<W>,
     item: Item,
+    said: &mut Lines,
     held: &mut VecDeque<Item>,
 ) -> Result<Option<Custom<W>>, NoMemory>
-    ensures { IfOk result (λ p. (p ≡ after work 0 item) × (held.new.items ≡ held.old.items ++ heard work 0 item)) }
+    requires said { said.old ≡ [] }
+    ensures heard { IfOk result (λ p. (p ≡ after work 0 item) × (held.new.items ≡ held.old.items
+        ++ heard work 0 item)) }
+    ensures said { OnOk result (said.new ≡ []) }
 {
     let mut work = work;
-    let mut out = Lines::new(alloc);
     match item {
         Item::Text(line) => {
-            work.eat(&line, &mut out)?;
-            hold(out, held)?;
+            work.eat(&line, said)?;
+            hold(said, held)?;
             Ok(Some(work))
         }
         Item::End => {
             let _side = work.side();
-            work.end(&mut out)?;
-            hold(out, held)?;
+            work.end(said)?;
+            hold(said, held)?;
             held.push_back(Item::End)?;
             Ok(None)
         }
@@ -120,17 +128,21 @@ fn hear<W: Work>(
     course: Course<W>,
     side: u32,
     item: Item,
+    said: &mut Lines,
     held: &mut VecDeque<Item>,
 ) -> Result<Option<Course<W>>, NoMemory>
-    requires { wants (plan_in course) ≡ Some side }
-    ensures { IfOk result (λ p. (plan_on p ≡ after (plan_in course) side item) × (held.new.items ≡ held.old.items ++ heard (plan_in course) side item)) }
+    requires wanted { wants (plan_in course) ≡ Some side }
+    requires said { said.old ≡ [] }
+    ensures said { OnOk result (said.new ≡ []) }
+    ensures heard { IfOk result (λ p. (plan_on p ≡ after (plan_in course) side item)
+        × (held.new.items ≡ held.old.items ++ heard (plan_in course) side item)) }
 {
     match course {
-        Course::Own(plan) => match hear_plan(alloc, plan, side, item, held)? {
+        Course::Own(plan) => match hear_plan(alloc, plan, side, item, said, held)? {
             Some(plan) => Ok(Some(Course::Own(plan))),
             None => Ok(None),
         },
-        Course::Brought(work) => match hear_work(alloc, work, item, held)? {
+        Course::Brought(work) => match hear_work(work, item, said, held)? {
             Some(work) => Ok(Some(Course::Brought(work))),
             None => Ok(None),
         },
@@ -144,7 +156,8 @@ fn make<W: Work>(
     held: &mut VecDeque<Item>,
 ) -> Result<Option<Course<W>>, NoMemory>
     requires { wants (plan_in course) ≡ None }
-    ensures { IfOk result (λ p. (plan_on p ≡ more (plan_in course)) × (held.new.items ≡ held.old.items ++ makes (plan_in course))) }
+    ensures { IfOk result (λ p. (plan_on p ≡ more (plan_in course)) × (held.new.items ≡ held.old.items
+        ++ makes (plan_in course))) }
 {
     match course {
         Course::Own(plan) => match make_plan(alloc, plan, held)? {
@@ -180,6 +193,7 @@ fn pull(input: &mut Option<Consumer<Item>>) -> Option<Item>
     requires { IsSome (in_ring input.old) }
     ensures ring { in_ring input.new ≡ in_ring input.old }
     ensures got { MatchOption result (got input.new ≡ got input.old) (λ i. got input.new ≡ got input.old ++ i ∷ []) }
+    ensures none { result ≡ None → known input.new ≡ [] }
 {
     match input {
         None => None,
@@ -199,8 +213,12 @@ fn put(
     item: Item,
 ) -> Result<PutResult, NoMemory>
     ensures ring { out_ring output.new ≡ out_ring output.old }
-    ensures done { result ≡ Ok Done → out_of output.new kept.new (is_end item) ≡ out_of output.old kept.old false ++ item ∷ [] }
-    ensures back { (i : _) → result ≡ Ok (Back i) → (i ≡ item) × (out_of output.new kept.new false ≡ out_of output.old kept.old false) }
+    ensures done { result ≡ Ok Done → out_of output.new kept.new (is_end item) ≡ out_of output.old kept.old false
+        ++ item ∷ [] }
+    ensures back { (i : _) → result ≡ Ok (Back i) → (i ≡ item) × (out_of output.new kept.new false
+        ≡ out_of output.old kept.old false) }
+    ensures full { (i : _) → result ≡ Ok (Back i) → free_slots output.new ≡ 0 }
+    ensures bare { KeepsNone (out_ring output.old) kept.old → KeepsNone (out_ring output.new) kept.new }
 {
     match output {
         None => match item {
@@ -218,16 +236,20 @@ fn put(
 }
 
 impl<W: Work> Parts<W> {
-    ghost use Rattle.std.specs.Prelude.{◌≡◌, ◌<◌, [], length, IfOk, OnErr, false};
-    ghost use Rattle.pipe_bodies.specs.Turns.{Turns, Ordered};
+    ghost use Rattle.std.specs.Prelude.{◌≡◌, ◌<◌, [], length, IfOk, OnOk, OnErr, false};
+    ghost use Rattle.pipe_bodies.specs.Turns.{Turns, Ordered, WaitsFor};
     ghost use Rattle.pipe_bodies.specs.Courses.{plan_on};
-    ghost use Rattle.pipe_bodies.specs.Parts.{seen, rings, IsJoined};
+    ghost use Rattle.pipe_bodies.specs.Parts.{seen, rings, knows, IsJoined, KeepsNone};
 
     // Puts the oldest held item out, or holds it again where the ring hands it back.
     fn put_oldest(&mut self) -> Result<Verdict, NoMemory>
         requires { (0 < length self.old.held.items) × (self.old.ended ≡ false) }
         ensures turns { IfOk result (λ v. Turns (seen self.old) (seen self.new) v) }
+        ensures waits { IfOk result (λ v. WaitsFor v.then (knows self.new)) }
         ensures rings { rings self.new ≡ rings self.old }
+        ensures bare { KeepsNone (rings self.old).output self.old.kept
+            → KeepsNone (rings self.new).output self.new.kept }
+        ensures said { self.new.said ≡ self.old.said }
         ensures err { OnErr result (self.new.ended ≡ false) }
     {
         let Some(item) = self.held.pop_front() else {
@@ -254,9 +276,14 @@ impl<W: Work> Parts<W> {
     // A source's next line, or one item from the side that the plan wants.
     fn go_on(&mut self, alloc: Global) -> Result<Verdict, NoMemory>
         requires held { self.old.held.items ≡ [] }
+        requires said { self.old.said ≡ [] }
         requires joined { IsJoined (plan_on self.old.plan) (rings self.old).left (rings self.old).right }
         ensures turns { IfOk result (λ v. Turns (seen self.old) (seen self.new) v) }
+        ensures waits { IfOk result (λ v. WaitsFor v.then (knows self.new)) }
         ensures rings { rings self.new ≡ rings self.old }
+        ensures bare { KeepsNone (rings self.old).output self.old.kept
+            → KeepsNone (rings self.new).output self.new.kept }
+        ensures said { OnOk result (self.new.said ≡ []) }
         ensures ended { self.new.ended ≡ self.old.ended }
     {
         let Some(plan) = self.plan.take() else {
@@ -271,23 +298,28 @@ impl<W: Work> Parts<W> {
                 self.plan = Some(plan);
                 return Ok(quiet(is_pinned(&self.plan), Then::WaitIn(side)));
             };
-            self.plan = hear(alloc, plan, side, item, &mut self.held)?;
+            self.plan = hear(alloc, plan, side, item, &mut self.said, &mut self.held)?;
             return Ok(took(is_pinned(&self.plan), side));
         }
         let Some(item) = pull(&mut self.right) else {
             self.plan = Some(plan);
             return Ok(quiet(is_pinned(&self.plan), Then::WaitIn(side)));
         };
-        self.plan = hear(alloc, plan, side, item, &mut self.held)?;
+        self.plan = hear(alloc, plan, side, item, &mut self.said, &mut self.held)?;
         Ok(took(is_pinned(&self.plan), side))
     }
 
     // One turn: the first case that applies.
     pub(crate) fn turn(&mut self, alloc: Global) -> Result<Verdict, NoMemory>
+        requires said { self.old.said ≡ [] }
         requires ordered { Ordered self.old.ended (plan_on self.old.plan) self.old.held.items }
         requires joined { IsJoined (plan_on self.old.plan) (rings self.old).left (rings self.old).right }
         ensures turns { IfOk result (λ v. Turns (seen self.old) (seen self.new) v) }
+        ensures waits { IfOk result (λ v. WaitsFor v.then (knows self.new)) }
         ensures rings { rings self.new ≡ rings self.old }
+        ensures bare { KeepsNone (rings self.old).output self.old.kept
+            → KeepsNone (rings self.new).output self.new.kept }
+        ensures said { OnOk result (self.new.said ≡ []) }
         ensures err { OnErr result ((self.old.ended ≡ false) × (self.new.ended ≡ false)) }
     {
         if !self.held.is_empty() {

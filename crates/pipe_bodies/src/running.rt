@@ -1,7 +1,7 @@
 // A whole run on one thread.
-ghost use Rattle.std.specs.Prelude.{◌≡◌, ◌<◌, ℕ, [], length, map, All, IsTrue, IfOk, IfSome, None, slice_index_or};
-ghost use Rattle.pipe_tasks.specs.Tasks.{all_lines};
-ghost use Rattle.pipe_bodies.specs.Nets.{IsNet, HasEnded, lasting_of, output_of};
+ghost use Rattle.std.specs.Prelude.{◌≡◌, map, All, IsTrue, IfOk, IfSome};
+ghost use Rattle.pipe_tasks.specs.Tasks.{forest_lines};
+ghost use Rattle.pipe_bodies.specs.Nets.{IsNet, HasEnded, lasting_of};
 
 use crate::body::Body;
 use crate::settling::settle;
@@ -27,8 +27,20 @@ fn round<W: Work>(bodies: &mut Vec<Body<W>>) -> Result<(), NoMemory>
     Ok(())
 }
 
-/// Runs the bodies in turn until all have ended, for at most so many rounds; none where that was not enough. What a task
-/// that nobody reads kept is then the lines that the script gives it.
+// One turn of the body at a place, counted round.
+fn turn_one<W: Work>(bodies: &mut Vec<Body<W>>, place: usize) -> Result<(), NoMemory>
+    ensures { map lasting_of bodies.new.items ≡ map lasting_of bodies.old.items }
+{
+    let count = bodies.len();
+    if count > 0 {
+        let index = place % count;
+        let _verdict = bodies[index].turn()?;
+    }
+    Ok(())
+}
+
+/// Gives the bodies a turn each, round after round, until all have ended, for at most so many rounds. Answers what each
+/// kept, which is what the plain run of the tasks gives, or none where the rounds weren't enough.
 pub fn run_bodies<W: Work>(
     alloc: Global,
     tasks: &[TaskDef],
@@ -36,11 +48,41 @@ pub fn run_bodies<W: Work>(
     rounds: u64,
 ) -> Result<Option<Vec<Lines>>, NoMemory>
     requires { IsNet tasks.now (map lasting_of bodies.items) }
-    ensures { IfOk result (λ o. IfSome o (λ r. (t : ℕ) → t < length tasks.now → slice_index_or (map output_of bodies.items) t None ≡ None → slice_index_or r.items t [] ≡ slice_index_or (all_lines tasks.now) t [])) }
+    ensures { IfOk result (λ o. IfSome o (λ r. r.items ≡ forest_lines tasks.now)) }
 {
     let mut bodies = bodies;
     for _ in 0..rounds {
         round(&mut bodies)?;
+        if have_ended(bodies.as_slice()) {
+            return match settle(alloc, tasks, bodies) {
+                Ok(lines) => Ok(Some(lines)),
+                Err(_) => Err(NoMemory),
+            };
+        }
+    }
+    Ok(None)
+}
+
+/// Gives bodies turns in a random order, which the seed tells, until all have ended, for at most so many turns. Answers
+/// what each kept, which is what the plain run of the tasks gives, or none where the turns weren't enough.
+pub fn run_shuffled<W: Work>(
+    alloc: Global,
+    tasks: &[TaskDef],
+    bodies: Vec<Body<W>>,
+    seed: u64,
+    turns: u64,
+) -> Result<Option<Vec<Lines>>, NoMemory>
+    requires { IsNet tasks.now (map lasting_of bodies.items) }
+    ensures { IfOk result (λ o. IfSome o (λ r. r.items ≡ forest_lines tasks.now)) }
+{
+    let mut bodies = bodies;
+    let mut state = seed;
+    for _ in 0..turns {
+        // A linear congruential generator, whose low bits are poor.
+        state = state
+            .wrapping_mul(6_364_136_223_846_793_005)
+            .wrapping_add(1_442_695_040_888_963_407);
+        turn_one(&mut bodies, (state >> 33) as usize)?;
         if have_ended(bodies.as_slice()) {
             return match settle(alloc, tasks, bodies) {
                 Ok(lines) => Ok(Some(lines)),

@@ -1,8 +1,8 @@
 // What the bodies of a net put out, once all have ended.
 ghost use Rattle.std.specs.Prelude.{◌≡◌, [], ◌++◌, map};
 ghost use Rattle.rtrb.specs.Ring.{known_items};
-ghost use Rattle.pipe_bodies.specs.Rings.{in_ring, out_ring, got};
-ghost use Rattle.pipe_bodies.specs.Nets.{sent_by, IsSide, input_past, known};
+ghost use Rattle.pipe_bodies.specs.Rings.{in_ring, out_ring, got, known};
+ghost use Rattle.pipe_bodies.specs.Nets.{sent_by, IsSide, input_past};
 
 use crate::item::Item;
 use rtrb::{Consumer, Producer};
@@ -59,9 +59,13 @@ fn settle_one<W: Work>(
 ) -> Result<(), NoMemory>
     requires ended { HasEnded body }
     requires joint { IsJoint task.now body.lasting (map out_ring outputs.old.items) }
-    ensures rings { OnOk result (map out_ring outputs.new.items ≡ map out_ring outputs.old.items ++ output_of body ∷ []) }
+    ensures rings { OnOk result (map out_ring outputs.new.items ≡ map out_ring outputs.old.items
+        ++ output_of body ∷ []) }
     ensures kept { OnOk result (kept.new.items ≡ kept.old.items ++ kept_of body ∷ []) }
-    ensures lines { (done : List (List Line)) → AllPutOut (map out_ring outputs.old.items) (map sent_by outputs.old.items) kept.old.items done → OnOk result (AllPutOut (map out_ring outputs.new.items) (map sent_by outputs.new.items) kept.new.items (done ++ task_lines task.now done ∷ [])) }
+    ensures lines { (done : List (List Line)) → AllPutOut (map out_ring outputs.old.items)
+        (map sent_by outputs.old.items) kept.old.items done → OnOk result (AllPutOut
+        (map out_ring outputs.new.items) (map sent_by outputs.new.items) kept.new.items (done
+        ++ task_lines task.now done ∷ [])) }
 {
     let mut parts = body.apart();
     look_at(&mut parts.left, outputs, task.from.as_slice());
@@ -71,6 +75,7 @@ fn settle_one<W: Work>(
         right: _,
         output,
         kept: lines,
+        said: _,
         held: _,
         plan: _,
         ended: _,
@@ -82,7 +87,7 @@ fn settle_one<W: Work>(
 
 ghost use Rattle.std.specs.Prelude.{List, ◌∷◌, OnOk};
 ghost use Rattle.pipe_tasks.specs.Words.{Line};
-ghost use Rattle.pipe_tasks.specs.Tasks.{task_lines, all_lines};
+ghost use Rattle.pipe_tasks.specs.Tasks.{task_lines, forest_lines};
 ghost use Rattle.pipe_bodies.specs.Nets.{HasEnded, IsJoint, output_of, kept_of, AllPutOut};
 
 use crate::body::Body;
@@ -91,8 +96,8 @@ use crate::work::Work;
 use handoff_data::{Lines, NoMemory, TaskNo};
 use task_script::TaskDef;
 
-/// Takes apart bodies that have all ended. What each task kept is what it put out, and where nobody reads a task, that is
-/// the lines that the script gives it.
+/// Takes apart bodies that have all ended, and answers what each of them kept: the lines of each task that no other
+/// reads, and none in the place of a task that is read. It is what the plain run of the tasks gives.
 pub fn settle<W: Work>(
     alloc: Global,
     tasks: &[TaskDef],
@@ -101,7 +106,7 @@ pub fn settle<W: Work>(
     requires net { IsNet tasks.now (map lasting_of bodies.items) }
     requires ended { All HasEnded bodies.items }
     ensures kept { IfOk result (λ r. r.items ≡ map kept_of bodies.items) }
-    ensures lines { IfOk result (λ r. (t : ℕ) → t < length tasks.now → slice_index_or (map output_of bodies.items) t None ≡ None → slice_index_or r.items t [] ≡ slice_index_or (all_lines tasks.now) t []) }
+    ensures forest { IfOk result (λ r. r.items ≡ forest_lines tasks.now) }
 {
     let mut outputs = Vec::new(alloc);
     let mut kept = Vec::new(alloc);
@@ -115,7 +120,7 @@ pub fn settle<W: Work>(
     Ok(kept)
 }
 
-ghost use Rattle.std.specs.Prelude.{ℕ, ◌<◌, All, IfOk, length, None, slice_index_or};
+ghost use Rattle.std.specs.Prelude.{All, IfOk};
 ghost use Rattle.pipe_bodies.specs.Nets.{IsNet, lasting_of};
 
 use std::alloc::Global;

@@ -14,7 +14,8 @@ pub trait Work: Send + Drop {
 
     /// Puts out what the plan says for a line, and moves to the next plan.
     fn eat(&mut self, line: &Line, out: &mut Lines) -> Result<(), NoMemory>
-        ensures ok { OnOk result ((out.new ≡ out.old ++ says (meaning self.old) 0 line.now) × (meaning self.new ≡ next (meaning self.old) 0 line.now)) }
+        ensures ok { OnOk result ((out.new ≡ out.old ++ says (meaning self.old) 0 line.now)
+            × (meaning self.new ≡ next (meaning self.old) 0 line.now)) }
         ensures err { OnErr result ((out.new ≡ out.old) × (meaning self.new ≡ meaning self.old)) };
 
     /// Puts out the plan's last lines.
@@ -25,6 +26,23 @@ pub trait Work: Send + Drop {
     /// That the plan has one side, which a caller may cite. It does nothing.
     fn has_one_side(&self)
         ensures { (sides (meaning self.now) ≡ 1) × (is_pin (meaning self.now) ≡ false) };
+}
+
+/// A work in a box.
+impl Work for Box<dyn Work + Send + Drop> {
+    ghost meaning = { λ b. (Work-box b).meaning b.value };
+
+    fn eat(&mut self, line: &Line, out: &mut Lines) -> Result<(), NoMemory> {
+        (**self).eat(line, out)
+    }
+
+    fn end(&mut self, out: &mut Lines) -> Result<(), NoMemory> {
+        (**self).end(out)
+    }
+
+    fn has_one_side(&self) {
+        (**self).has_one_side()
+    }
 }
 
 /// The work of a script that has none: it takes every line and puts out none, as `drop` does with an empty prefix.
@@ -91,7 +109,8 @@ impl<W: Work> Custom<W> {
     }
 
     pub fn eat(&mut self, line: &Line, out: &mut Lines) -> Result<(), NoMemory>
-        ensures { OnOk result ((out.new ≡ out.old ++ says self.old 0 line.now) × (self.new ≡ next self.old 0 line.now)) }
+        ensures { OnOk result ((out.new ≡ out.old ++ says self.old 0 line.now)
+            × (self.new ≡ next self.old 0 line.now)) }
     {
         self.work.eat(line, out)
     }

@@ -1,13 +1,11 @@
--- The plain run of one plan, and of a chain.
+-- The plain run of one plan.
 use Rattle.std.proofs.Common.{◌≡◌, ℕ, zero, suc, ◌+◌, ◌-◌, ◌<◌, List, [], ◌∷◌, ◌++◌, length, refl, sym, ap, ◌∙◌, subst, arith, append-nil, append_assoc, length-append}
-use Rattle.std.proofs.Math.Seq.{get_or-append_seam}
-use Rattle.std.specs.Prelude.{Option, Some, None, slice_index_or}
+use Rattle.std.specs.Prelude.{Option, Some, None}
 use Rattle.task_script.specs.Plan.{sides}
 use Rattle.task_script.specs.declared.plan.Plan.{Plan}
-use Rattle.task_script.specs.Chain.{IsChain, IsChainFrom, IsLink}
 use Rattle.task_script.specs.declared.script.TaskDef.{TaskDef}
 use Rattle.pipe_tasks.specs.Words.{Line}
-use Rattle.pipe_tasks.specs.Tasks.{first_input, second_input, task_lines, lines_after, all_lines, chain_lines}
+use Rattle.pipe_tasks.specs.Tasks.{task_lines, lines_after}
 use Rattle.pipe_tasks.specs.Plans.{wants, says, next, last, made, lines_of}
 use Rattle.pipe_tasks.proofs.PlanLaws.{lines_of-first, lines_of-first_ends, lines_of-made, own_lines, made-wants, none-wants, one-wants, one-closed, sides-next}
 
@@ -88,13 +86,7 @@ pub Making-ends : (begun plan : Plan) (out : List Line) → Making begun plan ou
 Making-ends begun plan out m none =
     sym (append-nil out) ∙ ap (λ z. out ++ z) (sym (lines_of-made plan [] [] m.source ∙ ap (λ (o : Option (Line × Plan)). own_lines o [] []) none)) ∙ sym m.lines_are
 
--- ---- a chain
-
--- the tasks that are done, and those still to be run
-pub record Chaining (tasks done rest : List TaskDef) (lines : List Line) : Type 0 where
-  pub tasks_are : done ++ rest ≡ tasks
-  pub chain : IsChainFrom (length done) rest
-  pub lines_are : lines ≡ chain_lines done
+-- ---- the tasks of a script
 
 pub lines_after-append : (lines : List (List Line)) (ds es : List TaskDef) → lines_after lines (ds ++ es) ≡ lines_after (lines_after lines ds) es
 lines_after-append lines [] es = refl
@@ -106,39 +98,3 @@ length-lines_after lines (d ∷ ds) =
     let e = length-lines_after (lines ++ task_lines d lines ∷ []) ds in
     let f = length-append lines (task_lines d lines ∷ []) in
     omega arith
-
-pub Chaining-starts : (tasks : List TaskDef) → IsChain tasks → Chaining tasks [] tasks []
-Chaining-starts tasks chain = record { tasks_are = refl; chain = chain; lines_are = refl }
-
-pub Chaining-ends : (tasks done : List TaskDef) (lines : List Line) → Chaining tasks done [] lines → lines ≡ chain_lines tasks
-Chaining-ends tasks done lines c = c.lines_are ∙ ap chain_lines (sym (append-nil done) ∙ c.tasks_are)
-
--- a task of a chain reads the lines of the task before it
-linked : (k : ℕ) (d : TaskDef) (done : List TaskDef) → IsLink k d → length done ≡ k → task_lines d (all_lines done) ≡ lines_of d.plan (chain_lines done) []
-linked zero d [] link e = ap (λ f. lines_of d.plan (first_input f []) (second_input f [])) link.1
-linked zero d (b ∷ done) link e = absurd (omega arith)
-linked (suc n) d done link e =
-    let index : n ≡ length done - 1 = omega arith in
-    ap (λ f. lines_of d.plan (first_input f (all_lines done)) (second_input f (all_lines done))) link.1
-    ∙ ap (λ i. lines_of d.plan (slice_index_or (all_lines done) i []) []) index
-
-chain_lines-push : (done : List TaskDef) (d : TaskDef) → chain_lines (done ++ d ∷ []) ≡ task_lines d (all_lines done)
-chain_lines-push done d =
-    let long = length-lines_after [] done in
-    let more = length-append done (d ∷ []) in
-    let index : length (done ++ d ∷ []) - 1 ≡ length (all_lines done) = omega arith in
-    ap (λ z. slice_index_or z (length (done ++ d ∷ []) - 1) []) (lines_after-append [] done (d ∷ []))
-    ∙ ap (λ i. slice_index_or (all_lines done ++ task_lines d (all_lines done) ∷ []) i []) index
-    ∙ get_or-append_seam (all_lines done) (task_lines d (all_lines done)) [] []
-
-pub Chaining-steps : (tasks done rest rest' : List TaskDef) (d : TaskDef) (lines lines' : List Line) → Chaining tasks done rest' lines → rest' ≡ d ∷ rest → lines' ≡ lines_of d.plan lines []
-    → Chaining tasks (done ++ d ∷ []) rest lines'
-Chaining-steps tasks done rest rest' d lines lines' c next result =
-    let chain : IsChainFrom (length done) (d ∷ rest) = subst (λ z. IsChainFrom (length done) z) next c.chain in
-    let more = length-append done (d ∷ []) in
-    let longer : suc (length done) ≡ length (done ++ d ∷ []) = omega arith in
-    record {
-      tasks_are = append_assoc done (d ∷ []) rest ∙ ap (λ z. done ++ z) (sym next) ∙ c.tasks_are;
-      chain = subst (λ k. IsChainFrom k rest) longer chain.1;
-      lines_are = result ∙ ap (λ z. lines_of d.plan z []) c.lines_are ∙ sym (linked (length done) d done chain.0 refl) ∙ sym (chain_lines-push done d);
-    }

@@ -11,7 +11,7 @@ use Rattle.task_script.specs.Forest.{IsForest, reads}
 use Rattle.task_script.specs.declared.script.TaskDef.{TaskDef}
 use Rattle.pipe_tasks.proofs.ForestLaws.{Differ}
 
-no_tasks : IsForest []
+pub no_tasks : IsForest []
 no_tasks = record { inputs = All-nil (λ (d : TaskDef). length d.from ≡ sides d.plan); earlier = λ t d l. absurd (omega arith); once = λ i j d l m. absurd (omega arith) }
 
 module _ (done : List TaskDef) (d : TaskDef) (forest : IsForest done) (earlier : All (λ s. s < length done) d.from) where

@@ -1,5 +1,5 @@
 -- The lines of each task of a script.
-use Rattle.std.specs.Prelude.{ℕ, ◌-◌, ◌==◌, List, [], ◌∷◌, ◌++◌, length, map, Bool, slice_index_or, slice_set, if◌then◌else◌}
+use Rattle.std.specs.Prelude.{ℕ, ◌==◌, List, [], ◌∷◌, ◌++◌, length, map, Bool, slice_index_or, slice_set, if◌then◌else◌}
 use Rattle.std.specs.List.{enumerate_from, list_any}
 use Rattle.task_script.specs.Forest.{reads}
 use Rattle.task_script.specs.declared.script.TaskDef.{TaskDef}
@@ -27,10 +27,6 @@ lines_after done (d ∷ ds) = lines_after (done ++ task_lines d done ∷ []) ds
 -- the lines of each task of a script, in its order
 abbrev pub all_lines : List TaskDef → List (List Line)
 all_lines tasks = lines_after [] tasks
-
--- the lines of the last task; none where there is no task
-abbrev pub chain_lines : List TaskDef → List Line
-chain_lines tasks = slice_index_or (all_lines tasks) (length tasks - 1) []
 
 -- whether a task is one of these
 abbrev pub is_among : List ℕ → ℕ → Bool

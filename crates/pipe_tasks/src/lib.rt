@@ -1,4 +1,4 @@
-//! Text tasks: what a plan puts out for each line that it reads, and the plain run of a chain of tasks.
+//! Text tasks: what a plan puts out for each line that it reads, and the plain run of a forest of tasks.
 #![tactic(auto)]
 
 mod forest;
@@ -10,7 +10,6 @@ mod text;
 
 pub use forest::run_forest;
 pub use laws::feeding_gives_lines;
-pub use runs::run_chain;
 pub use steps::{end_plan, make_line, step_plan, wanted_side};
 
 #[cfg(test)]

@@ -1,13 +1,11 @@
-ghost use Rattle.std.specs.Prelude.{◌≡◌, ◌+◌, ◌<◌, ◌≤◌, [], ◌++◌, IfOk, OnOk, IsTrue, length, if◌then◌else◌};
+ghost use Rattle.std.specs.Prelude.{◌≡◌, [], IfOk};
 ghost use Rattle.task_script.specs.Plan.{sides};
-ghost use Rattle.task_script.specs.Chain.{IsChain};
 ghost use Rattle.pipe_tasks.specs.Plans.{lines_of};
-ghost use Rattle.pipe_tasks.specs.Tasks.{chain_lines};
 
-use crate::steps::{end_plan, make_line, step_plan, wanted_side};
+use crate::steps::{end_plan, make_line, step_plan};
 use handoff_data::{Lines, NoMemory};
 use std::alloc::Global;
-use task_script::{Plan, Script, TaskDef};
+use task_script::Plan;
 
 // All lines of a source.
 pub(crate) fn run_source(alloc: Global, plan: Plan) -> Result<Lines, NoMemory>
@@ -49,32 +47,4 @@ pub(crate) fn run_plan(alloc: Global, plan: Plan, lines: Lines) -> Result<Lines,
     }
     end_plan(alloc, &mut plan, 0, &mut lines)?;
     Ok(lines)
-}
-
-/// Runs the tasks of a chain one after another, each to its end before the next begins, and answers the lines of the
-/// last. Lines are moved from task to task, and each task is evaluated once.
-pub fn run_chain(alloc: Global, script: Script) -> Result<Lines, NoMemory>
-    requires { IsChain script.tasks }
-    ensures { IfOk result (λ r. r ≡ chain_lines script.tasks) }
-{
-    let Script { tasks, .. } = script;
-    let tasks = tasks.into_vec();
-    let mut lines = Lines::new(alloc);
-    for task in tasks {
-        let TaskDef { plan, .. } = task;
-        lines = run_task(alloc, plan, lines)?;
-    }
-    Ok(lines)
-}
-
-// All lines of a task of a chain, of the lines of the task before it.
-fn run_task(alloc: Global, plan: Plan, lines: Lines) -> Result<Lines, NoMemory>
-    requires sides { sides plan ≤ 1 }
-    requires first { sides plan ≡ 0 → lines ≡ [] }
-    ensures { IfOk result (λ r. r ≡ lines_of plan lines []) }
-{
-    if wanted_side(&plan).is_none() {
-        return run_source(alloc, plan);
-    }
-    run_plan(alloc, plan, lines)
 }

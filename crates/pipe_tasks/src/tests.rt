@@ -1,5 +1,4 @@
 ghost use Rattle.std.specs.Prelude.{◌≡◌, IfOk};
-ghost use Rattle.task_script.specs.Chain.{IsChain};
 ghost use Rattle.task_script.specs.Forest.{IsForest};
 ghost use Rattle.task_script.specs.Plan.{sides};
 
@@ -62,33 +61,17 @@ fn script_of(tasks: Vec<TaskDef>) -> Script
     }
 }
 
-// The chain of a source, `upper` and `number`.
-fn upper_and_number<R: Abort + AllocGlobal>(rt: &R, texts: &[&[u8]]) -> Result<Script, NoMemory>
-    ensures { IfOk result (λ s. IsChain s.tasks) }
+#[tactic(auto, using(crate::proofs::TestForests::no_tasks))]
+fn without_tasks(alloc: Global) -> Script
+    ensures { IsForest result.tasks }
 {
-    let left = lines(rt, texts)?;
-    let source = task(rt, Plan::Lines { left }, &[])?;
-    let upper = task(rt, Plan::Upper, &[0])?;
-    let number = task(rt, Plan::Number { next: 1 }, &[1])?;
-    Ok(script_of(vec![in rt.alloc(); source, upper, number]?))
+    script_of(Vec::new(alloc))
 }
 
 #[test]
-fn a_chain_gives_the_lines_of_its_last_task(rt: HostRuntime) -> Result<(), Fail> {
-    feeding_gives_lines();
-    let nothing = script_of(Vec::new(rt.alloc()));
-    expect_lines(&rt, run_chain(rt.alloc(), nothing)?, &[]);
-
-    let cases: [(&[&[u8]], &[&[u8]]); 4] = [
-        (&[], &[]),
-        (&[b"hello", b"world"], &[b"1 HELLO", b"2 WORLD"]),
-        (&[b"", b"  a ", b""], &[b"1 ", b"2   A ", b"3 "]),
-        (&[b"@[`{az\x80\xff\x00\x0d"], &[b"1 @[`{AZ\x80\xff\x00\x0d"]),
-    ];
-    for (texts, expected) in cases {
-        let script = upper_and_number(&rt, texts)?;
-        expect_lines(&rt, run_chain(rt.alloc(), script)?, expected);
-    }
+fn a_script_without_tasks_has_no_lines(rt: HostRuntime) -> Result<(), Fail> {
+    let found = run_forest(rt.alloc(), without_tasks(rt.alloc()))?;
+    assert!(rt; found.is_empty());
     Ok(())
 }
 
@@ -180,6 +163,13 @@ fn expect_join<R: Abort + AllocGlobal>(
 
 #[test]
 fn each_kind_puts_out_its_lines(rt: HostRuntime) -> Result<(), Fail> {
+    feeding_gives_lines();
+    let bytes: [&[u8]; 1] = [b"@[`{az\x80\xff\x00\x0d"];
+    expect_reader(&rt, &bytes, Plan::Upper, &[b"@[`{AZ\x80\xff\x00\x0d"])?;
+    let blanks: [&[u8]; 3] = [b"", b"  a ", b""];
+    let numbers: [&[u8]; 3] = [b"1 ", b"2   a ", b"3 "];
+    expect_reader(&rt, &blanks, Plan::Number { next: 1 }, &numbers)?;
+    expect_reader(&rt, &[], Plan::Number { next: 1 }, &[])?;
     let texts: [&[u8]; 5] = [b"ab", b"", b"a", b"abc", b"b"];
     let prefix = line(&rt, b"ab")?;
     expect_reader(&rt, &texts, Plan::Keep { prefix }, &[b"ab", b"abc"])?;

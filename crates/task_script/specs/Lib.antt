@@ -1,5 +1,4 @@
 pub mod Plan
-pub mod Chain
 pub mod Forest
 pub mod Lines
 pub mod Forms

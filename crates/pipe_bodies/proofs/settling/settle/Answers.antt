@@ -1,6 +1,6 @@
 use Rattle.std.proofs.Common.{arith, drop, ◌+◌}
 use Rattle.std.specs.Vec.Iter.{into_iter_items}
-use Rattle.pipe_bodies.proofs.SettleLaws.{starts, at_body, at_none, at_end, next-joint, next-ended, steps, settled-kept, settled-lines}
+use Rattle.pipe_bodies.proofs.SettleLaws.{starts, at_body, at_none, at_end, next-joint, next-ended, steps, settled-kept, settled-forest}
 use Rattle.pipe_bodies.proofs.settling.settle.Goals as goal
 
 pub loop-task-init : goal.loop-task-init
@@ -26,6 +26,6 @@ pub returns-clause-kept : goal.returns-clause-kept
 returns-clause-kept g c = settled-kept c.args.tasks.now c.args.bodies.items (into_iter_items c.loop-task.bodies) c.loop-task.outputs.items c.loop-task.kept.items
     (at_end c.args.tasks.now c.args.bodies.items c.loop-task.outputs.items c.loop-task.kept.items c.loop-task.task-index (into_iter_items c.loop-task.bodies) c.loop-task-test.false c.loop-task.invariant)
 
-pub returns-clause-lines : goal.returns-clause-lines
-returns-clause-lines g c = settled-lines c.args.tasks.now c.args.bodies.items (into_iter_items c.loop-task.bodies) c.loop-task.outputs.items c.loop-task.kept.items
-    (at_end c.args.tasks.now c.args.bodies.items c.loop-task.outputs.items c.loop-task.kept.items c.loop-task.task-index (into_iter_items c.loop-task.bodies) c.loop-task-test.false c.loop-task.invariant)
+pub returns-clause-forest : goal.returns-clause-forest
+returns-clause-forest g c = settled-forest c.args.tasks.now c.args.bodies.items (into_iter_items c.loop-task.bodies) c.loop-task.outputs.items c.loop-task.kept.items
+    (at_end c.args.tasks.now c.args.bodies.items c.loop-task.outputs.items c.loop-task.kept.items c.loop-task.task-index (into_iter_items c.loop-task.bodies) c.loop-task-test.false c.loop-task.invariant) c.requires.net

@@ -1,4 +1,5 @@
 use Rattle.task_script.proofs.ScriptLaws.{script_or_fault, not_both, one_script, one_fault}
+use Rattle.task_script.proofs.ForestLaws.{script-forest}
 use Rattle.task_script.proofs.law.law_script.Goals as goal
 
 pub returns-clause-some : goal.returns-clause-some
@@ -12,3 +13,6 @@ returns-clause-one_script c = one_script
 
 pub returns-clause-one_fault : goal.returns-clause-one_fault
 returns-clause-one_fault c = one_fault
+
+pub returns-clause-forest : goal.returns-clause-forest
+returns-clause-forest c = script-forest

@@ -1,11 +1,11 @@
-use Rattle.std.proofs.Common.{◌+◌, arith, refl, ap}
+use Rattle.std.proofs.Common.{◌+◌, arith, refl, ap, sym, ◌∙◌}
 use Rattle.std.specs.Vec.Iter.{into_iter_items}
-use Rattle.pipe_bodies.proofs.BuildLoop.{building-starts, building-none, building-sides, building-reads, building-plan, building-step, building-end, building-unread}
-use Rattle.pipe_bodies.proofs.ForestScripts.{IsScript-forest}
-use Rattle.pipe_bodies.proofs.building.build.Goals as goal
+use Rattle.pipe_bodies.proofs.BuildLoop.{building-starts, building-none, building-sides, building-reads, building-plan, building-step, building-end, building-number}
+use Rattle.pipe_bodies.proofs.ForestScripts.{forest_joined}
+use Rattle.pipe_bodies.proofs.building.build_courses.Goals as goal
 
 pub loop-task-init : goal.loop-task-init
-loop-task-init g c = (rw (c.into_iter-courses.ensures.rest, c.new-bodies.ensures.items) (building-starts c.args.tasks.now c.args.courses.items (IsScript-forest c.args.tasks.now c.requires.forest) c.requires.courses), refl)
+loop-task-init g c = (rw (c.into_iter-courses.ensures.rest, c.new-bodies.ensures.items) (building-starts c.args.tasks.now c.args.courses.items (forest_joined c.args.tasks.now c.requires.forest) c.requires.courses), refl)
 
 pub unreachable-requires : goal.unreachable-requires
 unreachable-requires g c = building-none c.args.tasks.now c.loop-task.bodies.items c.loop-task.task-index c.task-item.result (into_iter_items c.loop-task.courses) c.loop-task-test.true c.task-item.is c.loop-task.invariant.0 (omega (arith, c.in_default.ensures.cases, c.loop-task.courses.rest.ok))
@@ -15,6 +15,9 @@ build_one-requires-clause-plan g c = λ _ _. (
   building-plan c.args.tasks.now c.loop-task.bodies.items c.loop-task.task-index c.task-item.result (into_iter_items c.loop-task.courses) c.loop-task-test.true c.task-item.is c.loop-task.invariant.0 c.in-Some.course (into_iter_items c.next.new.self) c.in-Some.ensures.items,
   building-sides c.args.tasks.now c.loop-task.bodies.items c.loop-task.task-index c.task-item.result (into_iter_items c.loop-task.courses) c.loop-task-test.true c.task-item.is c.loop-task.invariant.0,
 )
+
+pub build_one-requires-clause-number : goal.build_one-requires-clause-number
+build_one-requires-clause-number g c = λ _ _. c.loop-task.invariant.1 ∙ sym (building-number c.args.tasks.now c.loop-task.bodies.items c.loop-task.task-index c.task-item.result (into_iter_items c.loop-task.courses) c.loop-task-test.true c.task-item.is c.loop-task.invariant.0)
 
 pub build_one-requires-clause-built : goal.build_one-requires-clause-built
 build_one-requires-clause-built g c = λ _ _. building-reads c.args.tasks.now c.loop-task.bodies.items c.loop-task.task-index c.task-item.result (into_iter_items c.loop-task.courses) c.loop-task-test.true c.task-item.is c.loop-task.invariant.0
@@ -26,8 +29,5 @@ loop-task-preserved g c = (
   ap (λ z. z + 1) c.loop-task.invariant.1,
 )
 
-pub returns-clause-net : goal.returns-clause-net
-returns-clause-net g c = building-end c.args.tasks.now c.loop-task.bodies.items c.loop-task.task-index (into_iter_items c.loop-task.courses) c.loop-task-test.false c.loop-task.invariant.0
-
-pub returns-clause-unread : goal.returns-clause-unread
-returns-clause-unread g c = building-unread c.args.tasks.now c.loop-task.bodies.items c.loop-task.task-index (into_iter_items c.loop-task.courses) c.loop-task-test.false c.loop-task.invariant.0
+pub returns : goal.returns
+returns g c = record { net = building-end c.args.tasks.now c.loop-task.bodies.items c.loop-task.task-index (into_iter_items c.loop-task.courses) c.loop-task-test.false c.loop-task.invariant.0 }
