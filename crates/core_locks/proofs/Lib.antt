@@ -1,4 +1,6 @@
 pub mod Branches
+pub mod BusyKept
+pub mod Found
 pub mod Guards
 pub mod LocksKept
 pub mod Runners

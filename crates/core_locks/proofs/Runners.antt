@@ -1,12 +1,10 @@
 -- Busy words, current tasks and bodies, step by step.
-use Rattle.std.proofs.Common.{◌≡◌, ◌≢◌, ℕ, ◌<◌, inl, inr, ◌⊎◌, Bool, true, false, Some, None, Option, refl, sym, subst, arith}
+use Rattle.std.proofs.Common.{◌≡◌, ℕ, inl, inr, Bool, true, false, Some, None, Option, arith}
 use Rattle.std.specs.Prelude.{if◌then◌else◌, is_none, IsSome}
 use Rattle.std.proofs.lemmas.Bool.{cases_eq}
 use Rattle.std.proofs.lemmas.Bool.Decides.{nat_tests}
 use Rattle.core_data.specs.Queue.{Queue}
 use Rattle.core_data.specs.Table.{put, put_at}
-use Rattle.core_gives.specs.Queues.{gives_up}
-use Rattle.core_invariant.proofs.Puts.{put_here, put_there}
 use Rattle.core_invariant.specs.Busy.{OneRunner, NamedByQueue, BodiesKept}
 
 pub OneRunner-set_busy : (on_cpu : ℕ → Bool) (cpu : ℕ → ℕ) (current to_clear : ℕ → Option ℕ) (s t : ℕ) → OneRunner on_cpu cpu current to_clear
