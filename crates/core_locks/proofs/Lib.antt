@@ -4,3 +4,5 @@ pub mod Found
 pub mod Guards
 pub mod LocksKept
 pub mod Runners
+pub mod ShapesKept
+pub mod Values
