@@ -1,8 +1,11 @@
+pub mod AddedParts
 pub mod Branches
 pub mod BusyKept
 pub mod Found
 pub mod Guards
 pub mod LocksKept
+pub mod QueueParts
+pub mod QueuesKept
 pub mod Runners
 pub mod ShapesKept
 pub mod Values
