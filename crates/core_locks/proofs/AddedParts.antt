@@ -123,8 +123,10 @@ AddedTasks-queue on_rq cpu changes lock requeued added before after s n e t c p 
   where
     change : change_of e ≡ Some (t, changes t + 1)
     change = puts_change e t (changes t + 1) c puts
+
     other : (m u : ℕ) → change_of e ≡ Some (u, m) → u ≡ t
     other m u h = ap task_of (sym h ∙ change)
+
     last_put : (d : ℕ) → WasPut after s t d → d ≡ c
     last_put d w = elim (l.log s w.index w.entry w.stands) [
       | inl a ↦ let below = numbered s w.index w.entry t w.number a (puts_change w.entry t w.number d w.puts) in let above = w.last n (changes t + 1) e l.new change in absurd (omega (arith, below, above))

@@ -1,5 +1,7 @@
 -- What holds after each branch of a step holds after the step.
 use Rattle.std.proofs.Common.{ℕ, ◌++◌, ◌∷◌, [], Bool, true, false, Some, None, Option}
+use Rattle.std.specs.Prelude.{◌==◌, ◌&&◌}
+use mathlib.Core.Bool.{not}
 use Rattle.core_data.specs.Noted.{noted}
 use Rattle.core_data.specs.Table.{Table, put, put_at}
 use Rattle.core_data.specs.declared.act.Act.{Act}
@@ -10,8 +12,6 @@ use Rattle.core_kinds.specs.Waking.{noted_if, logged_if, seen_if, slept_if, ran_
 use Rattle.handoff_data.specs.declared.entry.Entry.{Entry}
 use Rattle.handoff_data.specs.declared.entry.Entry.TheVariants.{Refused}
 use Rattle.handoff_data.specs.declared.state.State.{State}
-use Rattle.std.specs.Prelude.{◌==◌, ◌&&◌}
-use mathlib.Core.Bool.{not}
 
 -- a seat's note of this step leaves P as it is
 abbrev pub IsFree : (Table → Type 0) → ℕ → Act → Type 0

@@ -11,16 +11,17 @@ use Rattle.core_data.specs.declared.values.WorkItem.{WorkItem}
 use Rattle.core_gives.specs.Queues.{MayGiveQueue, give_queue, give_up_if, gives_up}
 use Rattle.core_gives.specs.Waits.{MayGiveWait, give_wait, give_by, walked_if, is_walk}
 use Rattle.core_invariant.proofs.Puts.{put_here, put_there}
+use Rattle.core_invariant.specs.Busy.{BusyHolds}
 use Rattle.core_invariant.specs.Invariant.{Holds}
 use Rattle.core_kinds.specs.Locks.{MayTakeTask, take_task, MayGiveTask, give_task, MayTakeQueue, take_queue, unseen, MayTakeWorks, take_works, MayGiveWorks, give_works, MayTakeWait, take_wait}
 use Rattle.core_kinds.specs.Running.{MayQueue, queue_task, MayDequeue, dequeue_task, MayMove, move_task, MaySetBusy, set_busy, MayClearBusy, clear_busy, MayBodyOut, body_out, MayBodyHome, body_home}
 use Rattle.core_kinds.specs.Steps.{waking, running, dead}
 use Rattle.core_kinds.specs.Waking.{IsOwnState, MayOwnState, own_state, MayClaim, claim, MayRelease, release, MayLoad, MayStoreCpu, store_cpu, MayBump, bump, MayLoadState, load_state, load_rq, load_busy, load_cpu, load_cond}
-use Rattle.handoff_data.specs.declared.state.State.{State}
-use Rattle.core_invariant.specs.Busy.{BusyHolds}
 use Rattle.core_locks.proofs.Branches.{IsLoadFree, load_state-keeps, load_rq-keeps, load_busy-keeps, load_cond-keeps, IsOwnFree, own_state-keeps}
 use Rattle.core_locks.proofs.Found.{some_of, only_out, idle_placeable}
-use Rattle.core_locks.proofs.Runners.{OneRunner-set_busy, OneRunner-clear_busy, OneRunner-store_cpu, OneRunner-give_up, NamedByQueue-take, NamedByQueue-set_busy, NamedByQueue-clear_busy, NamedByQueue-give, NamedByQueue-give_up, BodiesKept-give_up, BodiesKept-set_busy, BodiesKept-out, BodiesKept-home}
+use Rattle.core_locks.proofs.Runners.{OneRunner-set_busy, OneRunner-clear_busy, OneRunner-store_cpu, OneRunner-give_up, NamedByQueue-take, NamedByQueue-set_busy, NamedByQueue-clear_busy}
+use Rattle.core_locks.proofs.Runners.{NamedByQueue-give, NamedByQueue-give_up, BodiesKept-give_up, BodiesKept-set_busy, BodiesKept-out, BodiesKept-home}
+use Rattle.handoff_data.specs.declared.state.State.{State}
 
 -- no load changes a busy word or a body
 load_free : (s t : ℕ) → IsLoadFree BusyHolds s t
@@ -91,7 +92,7 @@ given_queue : (b : Bool) (core : Table) (s c : ℕ) (queue : Queue) → Holds co
 given_queue true core s c queue holds may b =
     let own : s ≡ c = grind (arith, nat_tests, b) in
     subst (λ z. MayGiveQueue core s z queue → gives_up s z queue ≡ true
-        → BusyHolds (unseen (give_up_if true (record core { queue_lock = put core.queue_lock z None; queue = put core.queue z (Some queue); queue_out = put_at core.queue_out s z None }) s) s z))
+    → BusyHolds (unseen (give_up_if true (record core { queue_lock = put core.queue_lock z None; queue = put core.queue z (Some queue); queue_out = put_at core.queue_out s z None }) s) s z))
     own (λ m g. given_up core s queue holds m g) may b
 given_queue false core s c queue holds may b =
     assumption (holds.busy, NamedByQueue-give core.current core.to_clear core.queue core.queue_out s c queue holds.busy.named (left_kept core s c queue holds may) (cur_kept core s c queue holds may b))

@@ -1,11 +1,10 @@
 -- The opening core: locks, queues, busy words and what words name.
-use Rattle.std.proofs.Common.{◌≡◌, ◌≢◌, ℕ, ◌+◌, ◌<◌, ◌≤◌, List, [], Bool, true, false, Some, None, Option, refl, sym, ap, subst, ◌∙◌, length, arith}
+use Rattle.std.proofs.Common.{◌≡◌, ◌≢◌, ℕ, ◌+◌, ◌<◌, List, [], Bool, true, false, Some, None, Option, refl, sym, subst, length, arith}
 use Rattle.std.specs.Prelude.{if◌then◌else◌, replicate, IsSome}
 use Rattle.std.proofs.lemmas.List.{length-replicate}
 use Rattle.std.proofs.lemmas.Bool.Decides.{nat_tests}
-use Rattle.core_data.specs.Entries.{has_entry}
 use Rattle.core_data.specs.Opening.{IsStart, first_task, first_cpu, first_cond, first_seat, no_tasks}
-use Rattle.core_data.specs.Queue.{Queue, times_in}
+use Rattle.core_data.specs.Queue.{Queue}
 use Rattle.core_data.specs.Table.{Table, column, table_of, current_of, to_clear_of, task_out_of, queue_out_of, list_out_of, works_out_of, wait_out_of, body_out_of, added_of, dropped_of}
 use Rattle.core_data.specs.declared.values.TaskVal.{TaskVal}
 use Rattle.core_data.specs.declared.values.WaitEntry.{WaitEntry}
@@ -13,7 +12,7 @@ use Rattle.core_data.specs.declared.words.CondWords.{CondWords}
 use Rattle.core_data.specs.declared.words.CpuWords.{CpuWords}
 use Rattle.core_data.specs.declared.words.TaskWords.{TaskWords}
 use Rattle.core_gives.specs.Queues.{times, is_at}
-use Rattle.core_invariant.specs.Busy.{BusyHolds, OneRunner, NamedByQueue, BodiesKept}
+use Rattle.core_invariant.specs.Busy.{BusyHolds}
 use Rattle.core_invariant.specs.Locks.{LocksHold, IsGuarded}
 use Rattle.core_invariant.specs.Queues.{QueuesHold}
 use Rattle.core_invariant.specs.Shapes.{ShapesHold, IsTaskVal, IsQueueVal, IsWaitVal, HoldsOfValues}
@@ -23,7 +22,6 @@ use Rattle.handoff_data.specs.Mask.{HasCpu}
 use Rattle.handoff_data.specs.Shape.{IsShape}
 use Rattle.handoff_data.specs.declared.mask.CpuMask.{CpuMask}
 use Rattle.handoff_data.specs.declared.shape.Shape.{Shape}
-use Rattle.handoff_data.specs.declared.state.State.{State}
 
 -- the opening core of a shape, where `mask` has all its processors
 abbrev opening : Shape → CpuMask → Table
@@ -50,25 +48,25 @@ opening-locks shape mask =
     let seats = shape.cpus + shape.agents in
     record {
       tasks = all_free _ _ _ _ _ _
-        (λ t. each_word (λ o. o ≡ None) (λ (w : TaskWords). w.lock) None shape.tasks (first_task mask) t refl refl)
-        (there (λ (w : TaskWords). w.val) shape.tasks (first_task mask) refl)
-        (λ s t. each_word (λ (g : ℕ → Option TaskVal). g t ≡ None) task_out_of (λ k. None) seats first_seat s refl refl);
+          (λ t. each_word (λ o. o ≡ None) (λ (w : TaskWords). w.lock) None shape.tasks (first_task mask) t refl refl)
+          (there (λ (w : TaskWords). w.val) shape.tasks (first_task mask) refl)
+          (λ s t. each_word (λ (g : ℕ → Option TaskVal). g t ≡ None) task_out_of (λ k. None) seats first_seat s refl refl);
       queues = all_free _ _ _ _ _ _
-        (λ c. each_word (λ o. o ≡ None) (λ (w : CpuWords). w.queue_lock) None shape.cpus first_cpu c refl refl)
-        (there (λ (w : CpuWords). w.queue) shape.cpus first_cpu refl)
-        (λ s c. each_word (λ g. g c ≡ None) queue_out_of (λ k. None) seats first_seat s refl refl);
+          (λ c. each_word (λ o. o ≡ None) (λ (w : CpuWords). w.queue_lock) None shape.cpus first_cpu c refl refl)
+          (there (λ (w : CpuWords). w.queue) shape.cpus first_cpu refl)
+          (λ s c. each_word (λ g. g c ≡ None) queue_out_of (λ k. None) seats first_seat s refl refl);
       lists = all_free _ _ _ _ _ _
-        (λ c. each_word (λ o. o ≡ None) (λ (w : CpuWords). w.list_lock) None shape.cpus first_cpu c refl refl)
-        (there (λ (w : CpuWords). w.list) shape.cpus first_cpu refl)
-        (λ s c. each_word (λ g. g c ≡ None) list_out_of (λ k. None) seats first_seat s refl refl);
+          (λ c. each_word (λ o. o ≡ None) (λ (w : CpuWords). w.list_lock) None shape.cpus first_cpu c refl refl)
+          (there (λ (w : CpuWords). w.list) shape.cpus first_cpu refl)
+          (λ s c. each_word (λ g. g c ≡ None) list_out_of (λ k. None) seats first_seat s refl refl);
       works = all_free _ _ _ _ _ _
-        (λ c. each_word (λ o. o ≡ None) (λ (w : CpuWords). w.works_lock) None shape.cpus first_cpu c refl refl)
-        (there (λ (w : CpuWords). w.works) shape.cpus first_cpu refl)
-        (λ s c. each_word (λ g. g c ≡ None) works_out_of (λ k. None) seats first_seat s refl refl);
+          (λ c. each_word (λ o. o ≡ None) (λ (w : CpuWords). w.works_lock) None shape.cpus first_cpu c refl refl)
+          (there (λ (w : CpuWords). w.works) shape.cpus first_cpu refl)
+          (λ s c. each_word (λ g. g c ≡ None) works_out_of (λ k. None) seats first_seat s refl refl);
       waits = all_free _ _ _ _ _ _
-        (λ c. each_word (λ o. o ≡ None) (λ (w : CondWords). w.wait_lock) None shape.conds first_cond c refl refl)
-        (there (λ (w : CondWords). w.wait) shape.conds first_cond refl)
-        (λ s c. each_word (λ g. g c ≡ None) wait_out_of (λ k. None) seats first_seat s refl refl);
+          (λ c. each_word (λ o. o ≡ None) (λ (w : CondWords). w.wait_lock) None shape.conds first_cond c refl refl)
+          (there (λ (w : CondWords). w.wait) shape.conds first_cond refl)
+          (λ s c. each_word (λ g. g c ≡ None) wait_out_of (λ k. None) seats first_seat s refl refl);
     }
 
 pub LocksHold-start : (shape : Shape) (core : Table) → IsShape shape → IsStart shape core → LocksHold core
@@ -186,12 +184,12 @@ opening-shapes shape mask is all =
       current = λ s t e. absurd (grind (arith, no_current shape mask s, e));
       to_clear = λ s t e. absurd (grind (arith, none_left shape mask s, e));
       task_values = all_home _ _ _ (IsTaskVal (length (replicate shape.cpus first_cpu)) (length (replicate (shape.cpus + shape.agents) first_seat)))
-        (λ (w : TaskWords). w.val) shape.tasks (first_task mask) task_out_of (shape.cpus + shape.agents) first_seat
-        (λ v e. first_named (length (replicate shape.cpus first_cpu)) (length (replicate (shape.cpus + shape.agents) first_seat)) mask v some_cpu (λ c h. subst (λ z. c < z) (sym cpus) (all c h)) e) (λ k. refl);
+          (λ (w : TaskWords). w.val) shape.tasks (first_task mask) task_out_of (shape.cpus + shape.agents) first_seat
+          (λ v e. first_named (length (replicate shape.cpus first_cpu)) (length (replicate (shape.cpus + shape.agents) first_seat)) mask v some_cpu (λ c h. subst (λ z. c < z) (sym cpus) (all c h)) e) (λ k. refl);
       queue_values = all_home _ _ _ (IsQueueVal (length (replicate shape.tasks (first_task mask)))) (λ (w : CpuWords). w.queue) shape.cpus first_cpu queue_out_of (shape.cpus + shape.agents) first_seat
-        (λ v e. no_named (length (replicate shape.tasks (first_task mask))) v e) (λ k. refl);
+          (λ v e. no_named (length (replicate shape.tasks (first_task mask))) v e) (λ k. refl);
       wait_values = all_home _ _ _ (IsWaitVal (length (replicate shape.tasks (first_task mask)))) (λ (w : CondWords). w.wait) shape.conds first_cond wait_out_of (shape.cpus + shape.agents) first_seat
-        (λ v e. no_entries (length (replicate shape.tasks (first_task mask))) v e) (λ k. refl);
+          (λ v e. no_entries (length (replicate shape.tasks (first_task mask))) v e) (λ k. refl);
     }
 
 pub ShapesHold-start : (shape : Shape) (core : Table) → IsShape shape → IsStart shape core → ShapesHold core

@@ -10,28 +10,37 @@ use Rattle.core_data.specs.declared.values.WaitEntry.{WaitEntry}
 use Rattle.core_data.specs.declared.values.WorkItem.{WorkItem}
 use Rattle.core_gives.specs.Queues.{IsQueueOf, MayGiveQueue, give_queue, give_up_if, gives_up}
 use Rattle.core_gives.specs.Waits.{MayGiveWait, give_wait, give_by, walked_if, is_walk}
+use Rattle.core_invariant.proofs.Logs.{logged}
+use Rattle.core_invariant.specs.Histories.{history}
 use Rattle.core_invariant.specs.Invariant.{Holds}
+use Rattle.core_invariant.specs.Queues.{QueuesHold, AddedTasks}
 use Rattle.core_kinds.specs.Locks.{MayTakeTask, take_task, MayGiveTask, give_task, MayTakeQueue, take_queue, unseen, MayTakeWorks, take_works, MayGiveWorks, give_works, MayTakeWait, take_wait}
 use Rattle.core_kinds.specs.Running.{MayQueue, queue_task, queue_entry, store_rq, MayDequeue, dequeue_task, dequeue_entry, MayMove, move_task, MaySetBusy, set_busy, MayClearBusy, clear_busy, MayBodyOut, body_out, MayBodyHome, body_home}
 use Rattle.core_kinds.specs.Waking.{MayOwnState, own_state, MayClaim, claim, MayRelease, release, MayLoad, MayStoreCpu, store_cpu, MayBump, bump, MayLoadState, load_state, load_rq, load_busy, load_cpu, load_cond}
-use Rattle.handoff_data.specs.declared.state.State.{State}
-use Rattle.core_invariant.specs.Queues.{QueuesHold, AddedTasks}
 use Rattle.core_locks.proofs.AddedParts.{AddedTasks-log, AddedTasks-take, AddedTasks-give, AddedTasks-place, AddedTasks-queue, AddedTasks-off, queue_entry-puts, dequeue_entry-change}
 use Rattle.core_locks.proofs.Branches.{IsLoadFree, load_state-keeps, load_rq-keeps, load_busy-keeps, load_cond-keeps, IsOwnFree, own_state-keeps}
 use Rattle.core_locks.proofs.Found.{only_out, off_placeable}
-use Rattle.core_locks.proofs.QueueParts.{HomeQueues-take, HomeQueues-give, HomeQueues-store, HomeQueues-place, LeftQueues-take, LeftQueues-give, LeftQueues-queue, LeftQueues-off, LeftQueues-place, DroppedTasks-take, DroppedTasks-give, DroppedTasks-queue, DroppedTasks-off, DroppedTasks-place}
+use Rattle.core_locks.proofs.QueueParts.{HomeQueues-take, HomeQueues-give, HomeQueues-store, HomeQueues-place, LeftQueues-take, LeftQueues-give, LeftQueues-queue}
+use Rattle.core_locks.proofs.QueueParts.{LeftQueues-off, LeftQueues-place, DroppedTasks-take, DroppedTasks-give, DroppedTasks-queue, DroppedTasks-off, DroppedTasks-place}
+use Rattle.handoff_data.specs.History.{History}
 use Rattle.handoff_data.specs.Numbers.{change_of}
 use Rattle.handoff_data.specs.declared.entry.Entry.{Entry}
 use Rattle.handoff_data.specs.declared.entry.Entry.TheVariants.{Out, Pick, Finish, Wake, Refused}
-use Rattle.core_invariant.specs.Histories.{history}
-use Rattle.core_invariant.proofs.Logs.{logged}
+use Rattle.handoff_data.specs.declared.state.State.{State}
+
+-- the journals of a core, and with one entry more
+abbrev journals_of : Table → History
+journals_of core = history core.cpus core.tasks core.seats core.journal
+
+abbrev journals_with : Table → ℕ → Entry → History
+journals_with core s e = history core.cpus core.tasks core.seats (put core.journal s (core.journal s ++ e ∷ []))
 
 -- an entry that is no change of a task's queue word
 log_kept : (core : Table) (s : ℕ) (e : Entry) → s < core.seats → change_of e ≡ None
-    → AddedTasks core.on_rq core.cpu core.queue_lock core.requeued core.added (history core.cpus core.tasks core.seats core.journal)
-    → AddedTasks core.on_rq core.cpu core.queue_lock core.requeued core.added (history core.cpus core.tasks core.seats (put core.journal s (core.journal s ++ e ∷ [])))
+    → AddedTasks core.on_rq core.cpu core.queue_lock core.requeued core.added (journals_of core)
+    → AddedTasks core.on_rq core.cpu core.queue_lock core.requeued core.added (journals_with core s e)
 log_kept core s e seat none p =
-    AddedTasks-log core.on_rq core.cpu core.queue_lock core.requeued core.added (history core.cpus core.tasks core.seats core.journal) (history core.cpus core.tasks core.seats (put core.journal s (core.journal s ++ e ∷ []))) s (length (core.journal s)) e
+    AddedTasks-log core.on_rq core.cpu core.queue_lock core.requeued core.added (journals_of core) (journals_with core s e) s (length (core.journal s)) e
     p (logged core.cpus core.tasks core.seats core.journal s e seat) none
 
 -- with a seat that is there
@@ -74,7 +83,7 @@ QueuesHold-take_queue core s c holds may =
       HomeQueues-take core.on_rq core.cpu core.queue c holds.queues.at_home,
       LeftQueues-take core.on_rq core.cpu core.queue core.queue_out core.added core.dropped s c holds.queues.left holds.queues.at_home,
       DroppedTasks-take core.on_rq core.cpu core.queue_lock core.requeued core.dropped s c holds.queues.dropped,
-      AddedTasks-take core.on_rq core.cpu core.queue_lock core.requeued core.added (history core.cpus core.tasks core.seats core.journal) s c holds.queues.added,
+      AddedTasks-take core.on_rq core.cpu core.queue_lock core.requeued core.added (journals_of core) s c holds.queues.added,
     )
 
 given_queue : (b : Bool) (core : Table) (s c : ℕ) (queue : Queue) → QueuesHold core → IsQueueOf core.on_rq core.cpu c queue
@@ -84,14 +93,14 @@ given_queue true core s c queue queues fits =
       HomeQueues-give core.on_rq core.cpu core.queue c queue queues.at_home fits,
       LeftQueues-give core.on_rq core.cpu core.queue_out core.added core.dropped s c queues.left,
       DroppedTasks-give core.on_rq core.cpu core.queue_lock core.requeued core.dropped c queues.dropped,
-      AddedTasks-give core.on_rq core.cpu core.queue_lock core.requeued core.added (history core.cpus core.tasks core.seats core.journal) c queues.added,
+      AddedTasks-give core.on_rq core.cpu core.queue_lock core.requeued core.added (journals_of core) c queues.added,
     )
 given_queue false core s c queue queues fits =
     assumption (
       HomeQueues-give core.on_rq core.cpu core.queue c queue queues.at_home fits,
       LeftQueues-give core.on_rq core.cpu core.queue_out core.added core.dropped s c queues.left,
       DroppedTasks-give core.on_rq core.cpu core.queue_lock core.requeued core.dropped c queues.dropped,
-      AddedTasks-give core.on_rq core.cpu core.queue_lock core.requeued core.added (history core.cpus core.tasks core.seats core.journal) c queues.added,
+      AddedTasks-give core.on_rq core.cpu core.queue_lock core.requeued core.added (journals_of core) c queues.added,
     )
 
 pub QueuesHold-give_queue : (core : Table) (s c : ℕ) (queue : Queue) → Holds core → MayGiveQueue core s c queue → QueuesHold (give_queue core s c queue)
@@ -131,9 +140,9 @@ QueuesHold-queue_task core s c t holds may =
       HomeQueues-store core.on_rq core.cpu core.queue c t 1 holds.queues.at_home (holds.locks.queues.held_away c s may.locked) may.here,
       LeftQueues-queue core.on_rq core.cpu core.queue_out core.added core.dropped s c t holds.queues.left only may.here may.off,
       DroppedTasks-queue core.on_rq core.cpu core.queue_lock core.requeued core.dropped s c t holds.queues.dropped may.locked may.here,
-      AddedTasks-queue core.on_rq core.cpu core.changes core.queue_lock core.requeued core.added (history core.cpus core.tasks core.seats core.journal)
-      (history core.cpus core.tasks core.seats (put core.journal s (core.journal s ++ entry ∷ []))) s (length (core.journal s)) entry t c holds.queues.added
-      (logged core.cpus core.tasks core.seats core.journal s entry may.seat) holds.journals.numbered.change (queue_entry-puts (core.changes t) (core.on_rq t) t c) may.here may.off,
+      AddedTasks-queue core.on_rq core.cpu core.changes core.queue_lock core.requeued core.added (journals_of core)
+          (journals_with core s entry) s (length (core.journal s)) entry t c holds.queues.added
+          (logged core.cpus core.tasks core.seats core.journal s entry may.seat) holds.journals.numbered.change (queue_entry-puts (core.changes t) (core.on_rq t) t c) may.here may.off,
     )
 
 -- t leaves the queue of c
@@ -145,9 +154,9 @@ left_queue core s c t on entry holds seat locked here off change =
       HomeQueues-store core.on_rq core.cpu core.queue c t on holds.queues.at_home (holds.locks.queues.held_away c s locked) here,
       LeftQueues-off core.on_rq core.cpu core.queue_out core.added core.dropped s c t on holds.queues.left only here off,
       DroppedTasks-off core.on_rq core.cpu core.queue_lock core.requeued core.dropped s t on holds.queues.dropped off,
-      AddedTasks-off core.on_rq core.cpu core.queue_lock core.requeued core.added (history core.cpus core.tasks core.seats core.journal)
-      (history core.cpus core.tasks core.seats (put core.journal s (core.journal s ++ entry ∷ []))) s (length (core.journal s)) entry t (core.changes t + 1) c on holds.queues.added
-      (logged core.cpus core.tasks core.seats core.journal s entry seat) change locked here,
+      AddedTasks-off core.on_rq core.cpu core.queue_lock core.requeued core.added (journals_of core)
+          (journals_with core s entry) s (length (core.journal s)) entry t (core.changes t + 1) c on holds.queues.added
+          (logged core.cpus core.tasks core.seats core.journal s entry seat) change locked here,
     )
 
 pub QueuesHold-dequeue_task : (core : Table) (s c t : ℕ) → Holds core → MayDequeue core s c t → QueuesHold (dequeue_task core s c t)
@@ -191,7 +200,7 @@ QueuesHold-store_cpu core s t c holds may =
       HomeQueues-place core.on_rq core.cpu core.queue t c holds.queues.at_home off,
       LeftQueues-place core.on_rq core.cpu core.queue_out core.added core.dropped t c holds.queues.left off,
       DroppedTasks-place core.on_rq core.cpu core.queue_lock core.requeued core.dropped t c holds.queues.dropped off,
-      AddedTasks-place core.on_rq core.cpu core.queue_lock core.requeued core.added (history core.cpus core.tasks core.seats core.journal) t c holds.queues.added off,
+      AddedTasks-place core.on_rq core.cpu core.queue_lock core.requeued core.added (journals_of core) t c holds.queues.added off,
     )
 
 pub QueuesHold-bump : (core : Table) (s k : ℕ) → Holds core → MayBump core s k → QueuesHold (bump core s k)

@@ -1,5 +1,5 @@
 -- What columns read of rows that are all alike.
-use Rattle.std.proofs.Common.{◌≡◌, ℕ, zero, suc, ◌<◌, refl, List, [], ◌∷◌, arith}
+use Rattle.std.proofs.Common.{◌≡◌, ℕ, zero, suc, ◌<◌, refl, arith}
 use Rattle.std.specs.Prelude.{replicate}
 use Rattle.core_data.specs.Table.{column}
 

@@ -12,14 +12,14 @@ use Rattle.core_gives.specs.Queues.{MayGiveQueue, give_queue, give_up_if, gives_
 use Rattle.core_gives.specs.Waits.{MayGiveWait, give_wait, give_by, walked_if, is_walk}
 use Rattle.core_invariant.proofs.Puts.{put_there}
 use Rattle.core_invariant.specs.Invariant.{Holds}
+use Rattle.core_invariant.specs.Shapes.{ShapesHold, IsTaskVal, IsQueueVal, IsWaitVal}
 use Rattle.core_kinds.specs.Locks.{MayTakeTask, take_task, MayGiveTask, give_task, MayTakeQueue, take_queue, unseen, MayTakeWorks, take_works, MayGiveWorks, give_works, MayTakeWait, take_wait}
 use Rattle.core_kinds.specs.Running.{MayQueue, queue_task, MayDequeue, dequeue_task, MayMove, move_task, MaySetBusy, set_busy, MayClearBusy, clear_busy, MayBodyOut, body_out, MayBodyHome, body_home}
 use Rattle.core_kinds.specs.Waking.{MayOwnState, own_state, MayClaim, claim, MayRelease, release, MayLoad, MayStoreCpu, store_cpu, MayBump, bump, MayLoadState, load_state, load_rq, load_busy, load_cpu, load_cond}
-use Rattle.handoff_data.specs.declared.state.State.{State}
-use Rattle.core_invariant.specs.Shapes.{ShapesHold, IsTaskVal, IsQueueVal, IsWaitVal}
 use Rattle.core_locks.proofs.Branches.{IsLoadFree, load_state-keeps, load_rq-keeps, load_busy-keeps, load_cond-keeps, IsOwnFree, own_state-keeps}
 use Rattle.core_locks.proofs.Found.{some_of}
 use Rattle.core_locks.proofs.Values.{HoldsOfValues-take, HoldsOfValues-give, IsTaskVal-kept, IsQueueVal-given}
+use Rattle.handoff_data.specs.declared.state.State.{State}
 
 -- no load changes what is named
 load_free : (s t : ℕ) → IsLoadFree ShapesHold s t
