@@ -1,3 +1,5 @@
 pub mod Kept
 pub mod NewEntries
+pub mod Rows
+pub mod RowsKept
 pub mod RulesLog
