@@ -1,3 +1,4 @@
+pub mod Columns
 pub mod Kept
 pub mod NewEntries
 pub mod Rows

@@ -67,10 +67,10 @@ abbrev second_of : Option (ℕ × ℕ) → ℕ
 second_of None = 0
 second_of (Some p) = p.1
 
-same-first : (t m u k : ℕ) → ◌≡◌ {A = Option (ℕ × ℕ)} (Some (t, m)) (Some (u, k)) → t ≡ u
+pub same-first : (t m u k : ℕ) → ◌≡◌ {A = Option (ℕ × ℕ)} (Some (t, m)) (Some (u, k)) → t ≡ u
 same-first t m u k h = ap first_of h
 
-same-second : (t m u k : ℕ) → ◌≡◌ {A = Option (ℕ × ℕ)} (Some (t, m)) (Some (u, k)) → m ≡ k
+pub same-second : (t m u k : ℕ) → ◌≡◌ {A = Option (ℕ × ℕ)} (Some (t, m)) (Some (u, k)) → m ≡ k
 same-second t m u k h = ap second_of h
 
 -- the entry has the next number of t's changes
