@@ -2,6 +2,7 @@ pub mod Columns
 pub mod Kept
 pub mod Locks
 pub mod NewEntries
+pub mod Next
 pub mod Rows
 pub mod RowsKept
 pub mod RulesLog

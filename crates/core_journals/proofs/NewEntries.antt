@@ -106,3 +106,25 @@ highest-run {runs = runs} p s e t c u m is i m' x h is' =
 
 pub highest-none : (number : Entry → Option (ℕ × ℕ)) (before : History) (s : ℕ) (e : Entry) → number e ≡ None → IsHighest number before s e
 highest-none number before s e none t m is i m' x h is' = grind (arith, none, is)
+
+-- the wake of this identity
+wake-is : (x : Entry) (t m : ℕ) → waking_part (identity x) ≡ Some (t, m) → x ≡ entry.Wake t m
+wake-is (entry.New u k c) t m h = absurd (grind (arith, h))
+wake-is (entry.Sleep u k c) t m h = absurd (grind (arith, h))
+wake-is (entry.Wake u k) t m h = let a = same-first u k t m h in let b = same-second u k t m h in ap (λ z. entry.Wake z k) a ∙ ap (λ z. entry.Wake t z) b
+wake-is (entry.List u k c e) t m h = absurd (grind (arith, h))
+wake-is (entry.Enq u k c by_list) t m h = absurd (grind (arith, h))
+wake-is (entry.Out u k c) t m h = absurd (grind (arith, h))
+wake-is (entry.In u k c) t m h = absurd (grind (arith, h))
+wake-is (entry.Die u k c) t m h = absurd (grind (arith, h))
+wake-is (entry.Pick u k c) t m h = absurd (grind (arith, h))
+wake-is (entry.Finish u k c) t m h = absurd (grind (arith, h))
+wake-is (entry.Mask u r mask) t m h = absurd (grind (arith, h))
+wake-is (entry.Stood u r k at) t m h = absurd (grind (arith, h))
+wake-is (entry.Done u r) t m h = absurd (grind (arith, h))
+wake-is (entry.Offline c e) t m h = absurd (grind (arith, h))
+wake-is (entry.Up c e) t m h = absurd (grind (arith, h))
+wake-is (entry.Refused u state) t m h = absurd (grind (arith, h))
+
+pub wake-found : (x : Entry) (t m : ℕ) → identity x ≡ Some (Waking t m) → x ≡ entry.Wake t m
+wake-found x t m h = wake-is x t m (ap waking_part h)
