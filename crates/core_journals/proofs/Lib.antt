@@ -6,4 +6,5 @@ pub mod Next
 pub mod Rows
 pub mod RowsKept
 pub mod RulesLog
+pub mod Running
 pub mod States
