@@ -1,5 +1,6 @@
 pub mod Columns
 pub mod Kept
+pub mod Loads
 pub mod Locks
 pub mod NewEntries
 pub mod Next
@@ -8,3 +9,4 @@ pub mod RowsKept
 pub mod RulesLog
 pub mod Running
 pub mod States
+pub mod Waking
