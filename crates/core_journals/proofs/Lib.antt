@@ -8,5 +8,6 @@ pub mod Rows
 pub mod RowsKept
 pub mod RulesLog
 pub mod Running
+pub mod Start
 pub mod States
 pub mod Waking
