@@ -4,6 +4,7 @@ pub mod Loads
 pub mod Locks
 pub mod NewEntries
 pub mod Next
+pub mod PlacesKept
 pub mod Rows
 pub mod RowsKept
 pub mod RulesLog
