@@ -3,6 +3,7 @@ pub mod Kept
 pub mod Loads
 pub mod Locks
 pub mod NewEntries
+pub mod MovingSteps
 pub mod Next
 pub mod PlacesKept
 pub mod Rows
@@ -11,4 +12,5 @@ pub mod RulesLog
 pub mod Running
 pub mod Start
 pub mod States
+pub mod StayingSteps
 pub mod Waking

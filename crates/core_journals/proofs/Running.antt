@@ -96,13 +96,13 @@ queue-enq core s c t holds may some off woken =
       (next-enq (past core) s (length (core.journal s)) t c p.numbered (in_tasks core t may.task) (in_cpus core c may.processor) some sleep (wake.0, within core s wake.0 _ may.seat wake.1, wake.1) unlisted) refl refl (λ u m q. grind (arith, q))
       (λ h. absurd (omega (arith, h))) (LastRow-queued t _ _ _ _ _ queued) p
 
-entry-new : (changes on t c : ℕ) → changes ≡ 0 → entry.New t (changes + 1) c ≡ queue_entry changes on t c
+pub entry-new : (changes on t c : ℕ) → changes ≡ 0 → entry.New t (changes + 1) c ≡ queue_entry changes on t c
 entry-new changes on t c h = grind (arith, nat_tests, h)
 
-entry-in : (changes on t c : ℕ) → changes ≢ 0 → on ≡ 2 → entry.In t (changes + 1) c ≡ queue_entry changes on t c
+pub entry-in : (changes on t c : ℕ) → changes ≢ 0 → on ≡ 2 → entry.In t (changes + 1) c ≡ queue_entry changes on t c
 entry-in changes on t c h q = grind (arith, nat_tests, h, q)
 
-entry-enq : (changes on t c : ℕ) → changes ≢ 0 → on ≢ 2 → entry.Enq t (changes + 1) c false ≡ queue_entry changes on t c
+pub entry-enq : (changes on t c : ℕ) → changes ≢ 0 → on ≢ 2 → entry.Enq t (changes + 1) c false ≡ queue_entry changes on t c
 entry-enq changes on t c h q = grind (arith, nat_tests, h, q)
 
 queue-some : (core : Table) (s c t : ℕ) → Holds core → MayQueue core s c t → JournalsHold (store_rq core s t 1 (queue_entry (core.changes t) (core.on_rq t) t c))
@@ -153,10 +153,10 @@ dequeue-die core s t holds may ended =
       (next-die (past core) s (length (core.journal s)) t p.numbered (in_tasks core t may.task) (in_cpus core s may.processor) some queued (runs-here core s t holds may.seat may.current)) refl refl (λ u m q. grind (arith, q))
       (λ h w. waking-dead (core.state t) w ended) (LastRow-dies t _ _ _ _ _ ended die) p
 
-entry-sleep : (x : State) (changes t c : ℕ) → is_sleep x ≡ true → entry.Sleep t (changes + 1) c ≡ dequeue_entry (Some x) changes t c
+pub entry-sleep : (x : State) (changes t c : ℕ) → is_sleep x ≡ true → entry.Sleep t (changes + 1) c ≡ dequeue_entry (Some x) changes t c
 entry-sleep x changes t c h = grind (arith, nat_tests, h)
 
-entry-die : (x : State) (changes t c : ℕ) → x ≡ dead → entry.Die t (changes + 1) c ≡ dequeue_entry (Some x) changes t c
+pub entry-die : (x : State) (changes t c : ℕ) → x ≡ dead → entry.Die t (changes + 1) c ≡ dequeue_entry (Some x) changes t c
 entry-die x changes t c h = let q = ap (λ (y : State). y.0) h in grind (arith, nat_tests, q)
 
 dequeue-seen : (core : Table) (s t : ℕ) (seen : Option State) → Holds core → MayDequeue core s s t → core.seen s ≡ seen → MayLeave seen (core.count t) → JournalsHold (store_rq core s t 0 (dequeue_entry seen (core.changes t) t s))

@@ -102,6 +102,19 @@ JournalsHold-release core s t holds may = elim (may.release) [
   | inr b ↦ elim b [ inl a ↦ release-queued core s t holds.journals a.2 | inr a ↦ release-queued core s t holds.journals a.2 ]
 ]
 
+-- a task that this seat has claimed, and whose busy word it has since read as clear, isn't busy
+pub woken-idle : (core : Table) (s t : ℕ) → Holds core → core.lock t ≡ Some s → core.changes t ≢ 0 → core.on_rq t ≡ 0 → core.state t ≡ waking → core.clear s t ≡ true → core.on_cpu t ≡ false
+woken-idle core s t holds locked m off w clear = elim (holds.places.off t m off) [
+  | inl a ↦ absurd (waking-sleep (core.state t) w a)
+  | inr b ↦ elim b [
+    | inl a ↦ absurd (waking-dead (core.state t) w a)
+    | inr a ↦
+        let held = a.1.1 in
+        let same : a.1.0 ≡ s = grind (arith, locked, held) in
+        holds.positions.claimed.idle s t (subst (λ z. core.claimed z t ≡ true) same a.1.2) clear
+  ]
+]
+
 -- where its processor word may be stored, a task isn't busy, nor queued, nor asleep
 pub record IsPlacedAnew (core : Table) (t : ℕ) : Type 0 where
   pub off : core.on_rq t ≢ 1
@@ -114,24 +127,11 @@ placed-anew core s t c holds may = elim (cases_eq (core.changes t) 0) [
   | inr m ↦ elim (may.placeable) [
     | inl z ↦ absurd (m z)
     | inr b ↦ elim b [
-      | inl w ↦ record { off = λ h. let on = w.0 in omega (arith, h, on); idle = cleared m w.0 w.1 w.2; woken = λ n h. w.1 }
+      | inl w ↦ record { off = λ h. let on = w.0 in omega (arith, h, on); idle = woken-idle core s t holds may.locked m w.0 w.1 w.2; woken = λ n h. w.1 }
       | inr two ↦ record { off = λ h. omega (arith, h, two); idle = holds.places.moving.idle t two; woken = λ n h. absurd (omega (arith, h, two)) }
     ]
   ]
 ]
-  where
-    cleared : core.changes t ≢ 0 → core.on_rq t ≡ 0 → core.state t ≡ waking → core.clear s t ≡ true → core.on_cpu t ≡ false
-    cleared m off w clear = elim (holds.places.off t m off) [
-      | inl a ↦ absurd (waking-sleep (core.state t) w a)
-      | inr b ↦ elim b [
-        | inl a ↦ absurd (waking-dead (core.state t) w a)
-        | inr a ↦
-            let locked = may.locked in
-            let held = a.1.1 in
-            let same : a.1.0 ≡ s = grind (arith, locked, held) in
-            holds.positions.claimed.idle s t (subst (λ z. core.claimed z t ≡ true) same a.1.2) clear
-      ]
-    ]
 
 pub JournalsHold-store_cpu : (core : Table) (s t c : ℕ) → Holds core → MayStoreCpu core s t c → JournalsHold (store_cpu core s t c)
 JournalsHold-store_cpu core s t c holds may =
