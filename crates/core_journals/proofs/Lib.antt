@@ -1,0 +1,16 @@
+pub mod Columns
+pub mod Kept
+pub mod Loads
+pub mod Locks
+pub mod NewEntries
+pub mod MovingSteps
+pub mod Next
+pub mod PlacesKept
+pub mod Rows
+pub mod RowsKept
+pub mod RulesLog
+pub mod Running
+pub mod Start
+pub mod States
+pub mod StayingSteps
+pub mod Waking
