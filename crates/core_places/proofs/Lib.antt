@@ -1,0 +1,3 @@
+pub mod NewTasks
+pub mod OffTasks
+pub mod Running
