@@ -1,3 +1,5 @@
+pub mod Facts
 pub mod NewTasks
 pub mod OffTasks
+pub mod Places
 pub mod Running

@@ -3,7 +3,9 @@ use Rattle.std.proofs.Common.{◌≡◌, ◌≢◌, ℕ, ◌+◌, ◌<◌, ◌�
 use Rattle.std.specs.Prelude.{IsSome, if◌then◌else◌, ◌==◌}
 use Rattle.std.proofs.lemmas.Bool.{cases_eq}
 use Rattle.std.proofs.lemmas.Bool.Decides.{nat_tests}
+use Rattle.core_data.specs.Queue.{Queue, times_in}
 use Rattle.core_data.specs.Table.{put, put_at}
+use Rattle.core_gives.specs.Queues.{IsQueueOf, times, is_at, is_some_of}
 use Rattle.core_invariant.proofs.Puts.{put_here, put_there}
 use Rattle.core_invariant.specs.Places.{CurrentTasks, WaitingTasks, MovingTasks}
 use Rattle.core_kinds.specs.Steps.{waking, dead, is_sleep, IsRunnable}
@@ -161,3 +163,26 @@ MovingTasks-state state on_rq on_cpu lock t x p by =
       idle = p.idle;
       locked = p.locked;
     }
+
+pub CurrentTasks-less : (state : ℕ → State) (on_rq : ℕ → ℕ) (current next : ℕ → Option ℕ) → CurrentTasks state on_rq current → ((k u : ℕ) → next k ≡ Some u → current k ≡ Some u)
+    → CurrentTasks state on_rq next
+CurrentTasks-less state on_rq current next p less k u c e = p k u (less k u c) e
+
+-- a queue is given, and with it the current task of its seat may be given up
+pub WaitingTasks-give : (state : ℕ → State) (on_rq cpu : ℕ → ℕ) (current next queue_lock : ℕ → Option ℕ) (added : ℕ → ℕ → ℕ → Bool) (c : ℕ) (queue : Queue) → WaitingTasks state on_rq cpu current queue_lock added
+    → IsQueueOf on_rq cpu c queue → ((u : ℕ) → times_in queue.waiting u ≢ 0 → IsRunnable (state u)) → ((u : ℕ) → queue.cur ≡ Some u → IsRunnable (state u) ⊎ ((k : ℕ) × (next k ≡ Some u)))
+    → ((k u : ℕ) → current k ≡ Some u → (next k ≡ Some u) ⊎ (cpu u ≡ c))
+    → WaitingTasks state on_rq cpu next (put queue_lock c None) added
+WaitingTasks-give state on_rq cpu current next queue_lock added c queue p fits waiting chosen kept u e idle =
+    elim (cases_eq (cpu u) c) [
+      | inl here ↦ let once : times queue u ≡ 1 = grind (arith, nat_tests, fits u, e, here) in stands (is_some_of queue.cur u) refl once
+      | inr there ↦ waiting_keep (state u) (state u) (queue_lock (cpu u)) (put queue_lock c None (cpu u)) (λ k. added k (cpu u) u) (λ k. added k (cpu u) u)
+      (p u e (λ k h. elim (kept k u h) [ inl n ↦ idle k n | inr here ↦ there here ])) refl (λ k l a. (put_there queue_lock c None (cpu u) there ∙ l, a))
+    ]
+  where
+    is_cur : (o : Option ℕ) → is_some_of o u ≡ true → o ≡ Some u
+    is_cur None h = absurd (grind (arith, h))
+    is_cur (Some j) h = grind (arith, nat_tests, h)
+    stands : (b : Bool) → is_some_of queue.cur u ≡ b → times queue u ≡ 1 → IsRunnable (state u) ⊎ ((state u ≡ waking) × ((k : ℕ) × (put queue_lock c None (cpu u) ≡ Some k) × (added k (cpu u) u ≡ true)))
+    stands true h once = elim (chosen u (is_cur queue.cur h)) [ inl a ↦ inl a | inr k ↦ absurd (idle k.0 k.1) ]
+    stands false h once = inl (waiting u (λ z. grind (arith, nat_tests, once, h, z)))
