@@ -1,4 +1,7 @@
+pub mod Claimed
 pub mod Facts
+pub mod Marks
+pub mod Matched
 pub mod NewTasks
 pub mod OffTasks
 pub mod Places
