@@ -1,9 +1,12 @@
 pub mod Claimed
 pub mod Facts
+pub mod Idle
 pub mod Marks
 pub mod Matched
 pub mod NewTasks
 pub mod OffTasks
 pub mod Places
 pub mod PlacesByTests
+pub mod Resting
 pub mod Running
+pub mod Seen
