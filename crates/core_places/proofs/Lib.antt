@@ -1,6 +1,7 @@
 pub mod Claimed
 pub mod Facts
 pub mod Idle
+pub mod LastReads
 pub mod Marks
 pub mod Matched
 pub mod NewTasks
