@@ -61,3 +61,29 @@ claim_started core s t holds may = holds.positions.matched.started s t may.locke
 pub move_idle : (core : Table) (s c t : ℕ) → Holds core → core.queue_lock c ≡ Some s → core.idle s c t ≡ true → core.on_rq t ≡ 1 → core.cpu t ≡ c → core.current s ≢ Some t → core.on_cpu t ≡ false
 move_idle core s c t holds locked idle queued here other =
     elim (holds.positions.idle.read s c t locked idle queued here) [ inl a ↦ a | inr a ↦ absurd (other a) ]
+
+-- a task whose lock is free isn't on its way to a queue
+pub free_rests : (core : Table) (t : ℕ) → Holds core → core.lock t ≡ None → core.on_rq t ≡ 0 → core.state t ≢ waking
+free_rests core t holds free off awaits =
+    elim (holds.places.off t started off) [
+      | inl a ↦ grind (arith, nat_tests, awaits, a)
+      | inr b ↦ elim b [ inl a ↦ grind (arith, awaits, a) | inr w ↦ grind (arith, w.1.1, free) ]
+    ]
+  where
+    started : core.changes t ≢ 0
+    started h = grind (arith, nat_tests, holds.places.new_states.runnable t h, awaits)
+
+pub free_settled : (core : Table) (t : ℕ) → Holds core → core.lock t ≡ None → core.on_rq t ≢ 2
+free_settled core t holds free moving = let l = holds.places.moving.locked t moving in grind (arith, l.1, free)
+
+-- a new task isn't on its way to a queue
+pub new_rests : (core : Table) (t : ℕ) → Holds core → core.changes t ≡ 0 → core.state t ≢ waking
+new_rests core t holds new awaits = grind (arith, nat_tests, holds.places.new_states.runnable t new, awaits)
+
+-- a task is current of the seat of its processor alone
+pub one_seat : (core : Table) (s t : ℕ) → Holds core → core.current s ≡ Some t → (k : ℕ) → core.current k ≡ Some t → k ≡ s
+one_seat core s t holds own k h = sym (holds.busy.runner.current_here k t h) ∙ holds.busy.runner.current_here s t own
+
+-- a task that leaves its queue isn't on its way to another
+pub leaves_rests : (core : Table) (s c t : ℕ) → Holds core → MayDequeue core s c t → core.state t ≢ waking
+leaves_rests core s c t holds may awaits = elim (leaves core s c t holds may) [ inl a ↦ grind (arith, nat_tests, a, awaits) | inr a ↦ grind (arith, a, awaits) ]

@@ -130,12 +130,14 @@ ReadsTold-same j cpu lock reads s t r p same =
       | inr a ↦ (l, ap (λ (x : TaskReads). x.rq) (sym a) ∙ e, refl)
     ])
 
-pub ReadsTold-store_cpu : (j : History) (cpu : ℕ → ℕ) (lock : ℕ → Option ℕ) (reads : ℕ → ℕ → TaskReads) (s t c : ℕ) (r : TaskReads) → ReadsTold j cpu lock reads → lock t ≡ Some s → r.rq ≡ None
-    → ReadsTold j (put cpu t c) lock (put_at reads s t r)
-ReadsTold-store_cpu j cpu lock reads s t c r p locked none =
-    told j cpu lock reads (put cpu t c) lock (put_at reads s t r) p (λ k u rq l e. elim (cases_eq u t) [
-      | inl q ↦ let same : k ≡ s = grind (arith, l, ap lock q, locked) in absurd (grind (arith, e, ap (λ (x : TaskReads). x.rq) (reads_here reads s t r k u same q), none))
-      | inr q ↦ (l, ap (λ (x : TaskReads). x.rq) (sym (reads_there reads s t r k u (inr q))) ∙ e, sym (put_there cpu t c u q))
+-- the processor word is stored, and what was read before of this task is forgotten
+pub ReadsTold-store_cpu : (j : History) (cpu : ℕ → ℕ) (lock : ℕ → Option ℕ) (reads between : ℕ → ℕ → TaskReads) (s t c : ℕ) (r : TaskReads) → ReadsTold j cpu lock reads → lock t ≡ Some s → r.rq ≡ None
+    → ((k u : ℕ) → (k ≢ s) ⊎ (u ≢ t) → between k u ≡ reads k u)
+    → ReadsTold j (put cpu t c) lock (put_at between s t r)
+ReadsTold-store_cpu j cpu lock reads between s t c r p locked none other =
+    told j cpu lock reads (put cpu t c) lock (put_at between s t r) p (λ k u rq l e. elim (cases_eq u t) [
+      | inl q ↦ let same : k ≡ s = grind (arith, l, ap lock q, locked) in absurd (grind (arith, e, ap (λ (x : TaskReads). x.rq) (reads_here between s t r k u same q), none))
+      | inr q ↦ (l, ap (λ (x : TaskReads). x.rq) (sym (reads_there between s t r k u (inr q) ∙ other k u (inr q))) ∙ e, sym (put_there cpu t c u q))
     ])
 
 -- `on_rq` is read

@@ -8,6 +8,7 @@ pub mod NewTasks
 pub mod OffTasks
 pub mod Places
 pub mod PlacesByTests
+pub mod Positions
 pub mod Resting
 pub mod Running
 pub mod Seen
