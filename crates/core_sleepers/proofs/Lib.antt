@@ -1,3 +1,6 @@
 pub mod Moves
+pub mod Passes
+pub mod Placed
 pub mod Safe
 pub mod Still
+pub mod Stores
