@@ -1,4 +1,5 @@
 pub mod Conditions
+pub mod Entries
 pub mod Moves
 pub mod Passes
 pub mod Placed
