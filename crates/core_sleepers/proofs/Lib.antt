@@ -1,6 +1,8 @@
 pub mod Conditions
 pub mod Entries
+pub mod Gives
 pub mod Moves
+pub mod Opens
 pub mod Passes
 pub mod Placed
 pub mod Safe
