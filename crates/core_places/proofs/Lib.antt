@@ -1,0 +1,14 @@
+pub mod Claimed
+pub mod Facts
+pub mod Idle
+pub mod LastReads
+pub mod Marks
+pub mod Matched
+pub mod NewTasks
+pub mod OffTasks
+pub mod Places
+pub mod PlacesByTests
+pub mod Positions
+pub mod Resting
+pub mod Running
+pub mod Seen
