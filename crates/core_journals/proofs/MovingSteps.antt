@@ -4,7 +4,7 @@ use Rattle.std.specs.Prelude.{◌==◌, Bool, true, false, if◌then◌else◌}
 use Rattle.std.proofs.lemmas.Bool.{cases_eq}
 use Rattle.core_data.specs.Queue.{Queue}
 use Rattle.core_data.specs.Table.{Table, put}
-use Rattle.core_invariant.proofs.Puts.{put_here}
+use Rattle.core_invariant.proofs.Puts.{put_here, put_there}
 use Rattle.core_invariant.specs.Invariant.{Holds}
 use Rattle.core_journals.proofs.PlacesKept.{here, apart, q-new, q-on, q-moving, q-dead, q-waking, q-asleep, b-busy, b-idle, same-place}
 use Rattle.core_journals.proofs.Running.{queued-some, entry-new, entry-in, entry-enq, entry-sleep, entry-die}
@@ -31,7 +31,8 @@ stored-moves core s t on e of m =
       task = t;
       entry = e;
       of_task = of;
-      logged = put_here core.journal s (core.journal s ++ e ∷ []) s refl;
+      own_journal = put_here core.journal s (core.journal s ++ e ∷ []) s refl;
+      other_journals = λ k h. put_there core.journal s (core.journal s ++ e ∷ []) k h;
       moves = here t (λ b. Moves s (place_of core t) e (place (if b then core.changes t + 1 else core.changes t) (if b then on else core.on_rq t) (core.state t) (core.cpu t) (core.lock t) (core.on_cpu t))) m;
       others = λ u h. apart t u (λ b. place (if b then core.changes t + 1 else core.changes u) (if b then on else core.on_rq u) (core.state u) (core.cpu u) (core.lock u) (core.on_cpu u) ≡ place_of core u) h refl;
     }
@@ -68,7 +69,7 @@ queue-moves core s c t holds may = elim (cases_eq (core.changes t) 0) [
 
 pub Moves-queue_task : (core : Table) (s c t : ℕ) → Holds core → MayQueue core s c t → OneMoveOrNone s core (queue_task core s c t)
 Moves-queue_task core s c t holds may =
-    let m = queue-moves core s c t holds may in inr (record { task = m.task; entry = m.entry; of_task = m.of_task; logged = m.logged; moves = m.moves; others = m.others })
+    let m = queue-moves core s c t holds may in inr (record { task = m.task; entry = m.entry; of_task = m.of_task; moves = m.moves; others = m.others; own_journal = m.own_journal; other_journals = m.other_journals })
 
 -- the place of a task that runs
 on-here : (core : Table) (s t : ℕ) → core.changes t ≢ 0 → core.on_rq t ≡ 1 → core.cpu t ≡ s → (q_of (core.changes t) (core.on_rq t) (core.state t) (core.cpu t) (core.lock t) ≡ q.On s)
@@ -103,7 +104,7 @@ dequeue-seen core s t (Some x) holds may q h =
 
 dequeue-own : (core : Table) (s t : ℕ) → Holds core → MayDequeue core s s t → OneMoveOrNone s core (dequeue_task core s s t)
 dequeue-own core s t holds may =
-    let m = dequeue-seen core s t (core.seen s) holds may refl may.seen in inr (record { task = m.task; entry = m.entry; of_task = m.of_task; logged = m.logged; moves = m.moves; others = m.others })
+    let m = dequeue-seen core s t (core.seen s) holds may refl may.seen in inr (record { task = m.task; entry = m.entry; of_task = m.of_task; moves = m.moves; others = m.others; own_journal = m.own_journal; other_journals = m.other_journals })
 
 pub Moves-dequeue_task : (core : Table) (s c t : ℕ) → Holds core → MayDequeue core s c t → OneMoveOrNone s core (dequeue_task core s c t)
 Moves-dequeue_task core s c t holds may = subst (λ z. MayDequeue core s z t → OneMoveOrNone s core (dequeue_task core s z t)) may.own (dequeue-own core s t holds) may
@@ -117,7 +118,7 @@ Moves-move_task core s c t val holds may =
       from = (on-here core c t some may.queued may.here, free);
       to = same-place _ _ _ _ (q-moving (core.changes t + 1) 2 (core.state t) (core.cpu t) (core.lock t) s (λ z. omega (arith, z)) refl may.task_locked) free;
     }) in
-    inr (record { task = m.task; entry = m.entry; of_task = m.of_task; logged = m.logged; moves = m.moves; others = m.others })
+    inr (record { task = m.task; entry = m.entry; of_task = m.of_task; moves = m.moves; others = m.others; own_journal = m.own_journal; other_journals = m.other_journals })
 
 -- the stored busy word moves its task
 
@@ -130,7 +131,8 @@ busy-own core s t val holds may =
       task = t;
       entry = e;
       of_task = refl;
-      logged = put_here core.journal s (core.journal s ++ e ∷ []) s refl;
+      own_journal = put_here core.journal s (core.journal s ++ e ∷ []) s refl;
+      other_journals = λ k h. put_there core.journal s (core.journal s ++ e ∷ []) k h;
       moves = here t (λ b. Moves s (place_of core t) e (place (core.changes t) (core.on_rq t) (core.state t) (core.cpu t) (core.lock t) (if b then true else core.on_cpu t))) (record {
         from = (on, b-idle (core.on_cpu t) (core.cpu t) may.idle);
         to = same-place _ _ _ _ on (ap Some may.here);
@@ -150,7 +152,8 @@ Moves-clear_busy core s t holds may =
       task = t;
       entry = e;
       of_task = refl;
-      logged = put_here core.journal s (core.journal s ++ e ∷ []) s refl;
+      own_journal = put_here core.journal s (core.journal s ++ e ∷ []) s refl;
+      other_journals = λ k h. put_there core.journal s (core.journal s ++ e ∷ []) k h;
       moves = here t (λ b. Moves s (place_of core t) e (place (core.changes t) (core.on_rq t) (core.state t) (core.cpu t) (core.lock t) (if b then false else core.on_cpu t))) (record {
         from = b-busy (core.on_cpu t) (core.cpu t) s busy at_cpu;
         to = refl;
@@ -167,7 +170,8 @@ Moves-claim core s t holds may =
       task = t;
       entry = e;
       of_task = refl;
-      logged = put_here core.journal s (core.journal s ++ e ∷ []) s refl;
+      own_journal = put_here core.journal s (core.journal s ++ e ∷ []) s refl;
+      other_journals = λ k h. put_there core.journal s (core.journal s ++ e ∷ []) k h;
       moves = here t (λ b. Moves s (place_of core t) e (place (core.changes t) (core.on_rq t) (if b then waking else core.state t) (core.cpu t) (core.lock t) (core.on_cpu t))) (record {
         from = q-asleep (core.changes t) (core.on_rq t) (core.state t) (core.cpu t) (core.lock t) sleeper.2 sleeper.0 sleeper.1;
         to = same-place _ _ _ _ (q-waking (core.changes t) (core.on_rq t) waking (core.cpu t) (core.lock t) s sleeper.2 sleeper.0 refl may.locked) refl;

@@ -3,6 +3,7 @@ use Rattle.std.specs.Prelude.{◌≡◌, ◌≢◌, ℕ, ◌==◌, ◌⊎◌, �
 use Rattle.core_data.specs.Table.{Table}
 use Rattle.handoff_data.specs.Moves.{task_of, Moves}
 use Rattle.handoff_data.specs.declared.entry.Entry.{Entry}
+use Rattle.handoff_data.specs.declared.entry.Entry.TheVariants as entry
 use Rattle.handoff_data.specs.declared.place.Place.{Place}
 use Rattle.handoff_data.specs.declared.place.Q.{Q}
 use Rattle.handoff_data.specs.declared.place.Q.TheVariants as q
@@ -34,19 +35,32 @@ place changes on_rq state cpu lock on_cpu = record { q = q_of changes on_rq stat
 abbrev pub place_of : Table → ℕ → Place
 place_of core t = place (core.changes t) (core.on_rq t) (core.state t) (core.cpu t) (core.lock t) (core.on_cpu t)
 
--- one move of one task by a step of seat s, with its entry
+-- an entry that moves no task
+abbrev pub MovesNone : Entry → Type 0
+MovesNone (entry.Mask t r mask) = Unit {0}
+MovesNone (entry.Stood t r m at) = Unit {0}
+MovesNone (entry.Done t r) = Unit {0}
+MovesNone (entry.Offline c e) = Unit {0}
+MovesNone (entry.Up c e) = Unit {0}
+MovesNone (entry.Refused t state) = Unit {0}
+MovesNone _ = ⊥
+
+-- each task is where it was, and the journals tell of no move
+pub record AllStay (s : ℕ) (core next : Table) : Type 0 where
+  pub places : (t : ℕ) → place_of next t ≡ place_of core t
+  pub own_journal : (next.journal s ≡ core.journal s) ⊎ ((e : Entry) × MovesNone e × (next.journal s ≡ core.journal s ++ e ∷ []))
+  pub other_journals : (k : ℕ) → k ≢ s → next.journal k ≡ core.journal k
+
+-- one move of one task, with its entry in the journal of the seat
 pub record IsMoved (s : ℕ) (core next : Table) : Type 0 where
   pub task : ℕ
   pub entry : Entry
   pub of_task : task_of entry ≡ Some task
-  pub logged : next.journal s ≡ core.journal s ++ entry ∷ []
   pub moves : Moves s (place_of core task) entry (place_of next task)
   pub others : (u : ℕ) → u ≢ task → place_of next u ≡ place_of core u
-
--- each task is where it was
-abbrev pub AllStay : Table → Table → Type 0
-AllStay core next = (t : ℕ) → place_of next t ≡ place_of core t
+  pub own_journal : next.journal s ≡ core.journal s ++ entry ∷ []
+  pub other_journals : (k : ℕ) → k ≢ s → next.journal k ≡ core.journal k
 
 -- a step of seat s is one move of one task, or none
 abbrev pub OneMoveOrNone : ℕ → Table → Table → Type 0
-OneMoveOrNone s core next = AllStay core next ⊎ IsMoved s core next
+OneMoveOrNone s core next = AllStay s core next ⊎ IsMoved s core next
