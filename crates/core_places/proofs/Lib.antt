@@ -14,3 +14,4 @@ pub mod PositionsByTests
 pub mod Resting
 pub mod Running
 pub mod Seen
+pub mod StartOfPlaces
