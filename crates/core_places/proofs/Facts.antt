@@ -1,9 +1,9 @@
 -- What the invariant says of the task that a step is about.
-use Rattle.std.proofs.Common.{◌≡◌, ◌≢◌, ℕ, ◌+◌, ◌<◌, ◌≤◌, ◌⊎◌, inl, inr, Bool, true, false, Option, Some, None, refl, sym, ap, ◌∙◌, subst, arith}
+use Rattle.std.proofs.Common.{◌≡◌, ◌≢◌, ℕ, ◌⊎◌, inl, inr, true, false, Option, Some, None, refl, sym, ap, ◌∙◌, subst, arith}
 use Rattle.std.proofs.lemmas.Bool.Decides.{nat_tests}
 use Rattle.core_data.specs.Table.{Table}
 use Rattle.core_invariant.specs.Invariant.{Holds}
-use Rattle.core_kinds.specs.Running.{MayQueue, MayDequeue, MayMove, MayLeave, IsReady}
+use Rattle.core_kinds.specs.Running.{MayDequeue, MayLeave, IsReady}
 use Rattle.core_kinds.specs.Steps.{waking, dead, is_sleep, IsRunnable}
 use Rattle.core_kinds.specs.Waking.{MayClaim}
 use Rattle.handoff_data.specs.declared.state.State.{State}

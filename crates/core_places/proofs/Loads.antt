@@ -1,5 +1,5 @@
 -- The loads of a task's state, of its queue word and of its busy word keep what a seat may rely on.
-use Rattle.std.proofs.Common.{◌≡◌, ◌≢◌, ℕ, ◌+◌, ◌<◌, ◌≤◌, ◌⊎◌, inl, inr, ◌++◌, ◌∷◌, [], length, List, Bool, true, false, Option, Some, None, refl, sym, ap, ◌∙◌, subst, arith}
+use Rattle.std.proofs.Common.{◌≡◌, ◌≢◌, ℕ, ◌<◌, ◌⊎◌, inl, inr, ◌++◌, ◌∷◌, [], length, Bool, true, false, Option, Some, None, refl, sym, ap, ◌∙◌, subst, arith}
 use Rattle.std.specs.Prelude.{if◌then◌else◌, ◌==◌, ◌&&◌, nat_lt, is_some, bit_and}
 use mathlib.Core.Bool.{not}
 use Rattle.std.proofs.lemmas.Bool.{cases_eq}
@@ -8,12 +8,11 @@ use Rattle.std.proofs.lemmas.Nat.{and_comm, and_assoc}
 use Rattle.core_data.specs.Table.{Table, put, put_at}
 use Rattle.core_data.specs.declared.act.Act.TheVariants.{Passed, Matched, SawOff, SawClear, SawRest, SawRestOff, SawRestIdle}
 use Rattle.core_data.specs.declared.pos.Rq.{Rq}
-use Rattle.core_data.specs.declared.pos.TaskReads.{TaskReads}
 use Rattle.core_invariant.proofs.Logs.{logged}
 use Rattle.core_invariant.specs.Histories.{history}
 use Rattle.core_invariant.specs.Invariant.{Holds}
 use Rattle.core_invariant.specs.Positions.{PositionsHold}
-use Rattle.core_kinds.specs.Steps.{waking, running, dead, normal, is_match, is_sleep, IsRunnable}
+use Rattle.core_kinds.specs.Steps.{waking, dead, normal, is_match, is_sleep, IsRunnable}
 use Rattle.core_kinds.specs.Waking.{MayLoadState, IsMask, load_state, is_own_read, is_some_of, is_matched, is_refused, state_read, rq_read, busy_read, logged_if, noted_if, seen_if, MayLoad, load_rq, load_busy}
 use Rattle.core_places.proofs.Claimed.{ClaimedTasks-saw_clear}
 use Rattle.core_places.proofs.Idle.{IdleTasks-saw_clear}
@@ -60,6 +59,7 @@ meets_mask core t mask holds allowed m =
   where
     started : core.changes t ≢ 0
     started h = no_match_runnable (core.state t) mask allowed (holds.places.new_states.runnable t h) m
+
     asleep : core.on_rq t ≡ 0 → is_sleep (core.state t) ≡ true
     asleep z = elim (holds.places.off t started z) [
       | inl a ↦ a
@@ -208,6 +208,7 @@ PositionsHold-load_rq core s t holds may =
         let is = some_of (is_some (core.reads s t).state) (record { on = core.on_rq t; m = core.changes t }) rq h in
         subst (λ (z : Rq). IsQueued (history core.cpus core.tasks core.seats core.journal) t z.m (core.cpu t)) (sym is)
         (holds.journals.last_changes.queued t (ap (λ (z : Rq). z.on) (sym is) ∙ one))
+
     off : (rq : Rq) → (rq_read t (core.on_rq t) (core.changes t) (core.reads s t)).rq ≡ Some rq → rq.on ≡ 0 → rq.m ≢ 0
         → (c : ℕ) × (IsSomewhere (history core.cpus core.tasks core.seats core.journal) (entry.Sleep t rq.m c) ⊎ IsSomewhere (history core.cpus core.tasks core.seats core.journal) (entry.Die t rq.m c))
     off rq h zero_on some =

@@ -1,12 +1,10 @@
 -- Each kind of step keeps what a seat may rely on.
-use Rattle.std.proofs.Common.{◌≡◌, ◌≢◌, ℕ, ◌+◌, ◌<◌, ◌≤◌, ◌⊎◌, inl, inr, ◌++◌, ◌∷◌, [], length, List, Bool, true, false, Option, Some, None, refl, sym, ap, ◌∙◌, subst, arith}
-use Rattle.std.proofs.lemmas.Bool.Decides.{nat_tests}
+use Rattle.std.proofs.Common.{◌≡◌, ◌≢◌, ℕ, ◌+◌, ◌<◌, ◌⊎◌, inl, inr, ◌++◌, ◌∷◌, [], length, List, Bool, Some, None, refl, ap, ◌∙◌, arith}
 use Rattle.core_data.specs.Queue.{Queue}
 use Rattle.core_data.specs.Found.{no_reads}
 use Rattle.core_data.specs.Table.{Table, put, put_at}
 use Rattle.core_data.specs.declared.pos.TaskReads.{TaskReads}
 use Rattle.core_data.specs.declared.values.TaskVal.{TaskVal}
-use Rattle.core_data.specs.declared.values.WaitEntry.{WaitEntry}
 use Rattle.core_data.specs.declared.values.WorkItem.{WorkItem}
 use Rattle.core_invariant.proofs.Logs.{logged}
 use Rattle.core_invariant.specs.Histories.{history}
@@ -17,7 +15,7 @@ use Rattle.core_kinds.specs.Running.{MayQueue, queue_task, queue_entry, MayDeque
 use Rattle.core_kinds.specs.Steps.{waking, running, dead, kept_reads, numbered_reads}
 use Rattle.core_kinds.specs.Waking.{MayClaim, claim, IsRelease, MayRelease, release, MayLoad, load_cpu, cpu_read, MayStoreCpu, store_cpu, MayBump, bump}
 use Rattle.core_places.proofs.Claimed.{ClaimedTasks-take, ClaimedTasks-give, ClaimedTasks-queue, ClaimedTasks-off, ClaimedTasks-busy, ClaimedTasks-clear, ClaimedTasks-state, ClaimedTasks-claim}
-use Rattle.core_places.proofs.Facts.{idle_apart, ready_idle, leaves, claim_off, claim_started, move_idle, free_rests, free_settled, new_rests, leaves_rests}
+use Rattle.core_places.proofs.Facts.{idle_apart, ready_idle, leaves, claim_off, free_rests, free_settled, new_rests, leaves_rests}
 use Rattle.core_places.proofs.Idle.{IdleTasks-take, IdleTasks-queue, IdleTasks-off, IdleTasks-pick, IdleTasks-clear, IdleTasks-cpu}
 use Rattle.core_places.proofs.LastReads.{reads_there, CpusRead-take, CpusRead-give, CpusRead-same, CpusRead-load, CpusRead-store, ReadsTold-take, ReadsTold-give, ReadsTold-forget, ReadsTold-same, ReadsTold-store_cpu, ReadsTold-log, WakingStored-take, WakingStored-give, WakingStored-stored, WakingStored-change, WakingStored-state, MovingStored-take, MovingStored-give, MovingStored-stored, MovingStored-change}
 use Rattle.core_places.proofs.Matched.{MatchedTasks-take, MatchedTasks-give, MatchedTasks-stored, MatchedTasks-change, MatchedTasks-state}

@@ -1,6 +1,5 @@
 -- Each kind of step whose effect hangs on a test, but for the loads of a task's words, keeps what a seat may rely on.
-use Rattle.std.proofs.Common.{◌≡◌, ◌≢◌, ℕ, ◌+◌, ◌<◌, ◌≤◌, ◌⊎◌, inl, inr, List, Bool, true, false, Option, Some, None, refl, sym, ap, ◌∙◌, subst, arith}
-use Rattle.std.specs.Prelude.{if◌then◌else◌, ◌==◌, ◌&&◌, is_none}
+use Rattle.std.proofs.Common.{◌≡◌, ◌≢◌, ℕ, ◌⊎◌, inl, inr, List, Bool, true, false, Option, Some, None, refl, ◌∙◌, arith}
 use Rattle.std.proofs.lemmas.Bool.{cases_eq}
 use Rattle.std.proofs.lemmas.Bool.Decides.{nat_tests}
 use Rattle.core_data.specs.Noted.{noted}
@@ -10,12 +9,12 @@ use Rattle.core_data.specs.declared.act.Act.TheVariants.{OwnStored}
 use Rattle.core_data.specs.declared.values.WaitEntry.{WaitEntry}
 use Rattle.core_gives.specs.Queues.{MayGiveQueue, give_queue, gives_up, give_up_if}
 use Rattle.core_gives.specs.Waits.{MayGiveWait, give_wait, give_by, walked_if}
-use Rattle.core_invariant.proofs.Puts.{put_here, put_there}
+use Rattle.core_invariant.proofs.Puts.{put_there}
 use Rattle.core_invariant.specs.Histories.{history}
 use Rattle.core_invariant.specs.Invariant.{Holds}
 use Rattle.core_invariant.specs.Positions.{PositionsHold}
 use Rattle.core_kinds.specs.Locks.{unseen}
-use Rattle.core_kinds.specs.Steps.{waking, running, dead, is_sleep, stored_word, kept_reads}
+use Rattle.core_kinds.specs.Steps.{waking, dead, stored_word, kept_reads}
 use Rattle.core_kinds.specs.Waking.{MayOwnState, own_state, IsOwnState, slept_if, ran_if, MayBump, load_cond, test_by, tested_if}
 use Rattle.core_places.proofs.Claimed.{ClaimedTasks-state}
 use Rattle.core_places.proofs.Facts.{one_seat}
@@ -108,7 +107,7 @@ given_up core s c queue true up holds may =
       p,
       SeenStates-give core.cpus core.state core.on_rq core.queue_lock core.current (put core.current s None) core.seen s c p.seen may.locked (λ k u h. grind (arith, nat_tests, h)),
       IdleTasks-give core.on_rq core.cpu core.on_cpu core.queue_lock core.current (put core.current s None) core.idle core.added c p.idle
-      (λ k u h. elim (cases_eq k s) [ inl q ↦ inr (holds.busy.runner.current_here k u h ∙ (q ∙ own)) | inr q ↦ inl (put_there core.current s None k q ∙ h) ]),
+          (λ k u h. elim (cases_eq k s) [ inl q ↦ inr (holds.busy.runner.current_here k u h ∙ (q ∙ own)) | inr q ↦ inl (put_there core.current s None k q ∙ h) ]),
     )
 
 pub PositionsHold-give_queue : (core : Table) (s c : ℕ) (queue : Queue) → Holds core → MayGiveQueue core s c queue → PositionsHold (give_queue core s c queue)

@@ -1,11 +1,10 @@
 -- The opening core meets what the places of tasks and the positions of seats say.
-use Rattle.std.proofs.Common.{◌≡◌, ◌≢◌, ℕ, zero, suc, ◌+◌, ◌<◌, ◌≤◌, ◌⊎◌, inl, inr, List, length, Bool, true, false, Option, Some, None, refl, sym, ap, ◌∙◌, subst, arith}
+use Rattle.std.proofs.Common.{◌≡◌, ℕ, zero, suc, ◌+◌, ◌<◌, ◌⊎◌, inl, inr, length, true, false, Some, None, refl, sym, ap, subst, arith}
 use Rattle.std.specs.Prelude.{◌↔◌, replicate}
 use Rattle.std.proofs.lemmas.List.{length-replicate}
 use Rattle.core_data.specs.Opening.{IsStart, first_task, first_cpu, first_cond, first_seat}
 use Rattle.core_data.specs.Table.{Table, table_of, column, current_of, task_out_of, seen_of, saw_off_of, claimed_of, rest_off_of, rest_idle_of}
 use Rattle.core_data.specs.declared.values.TaskVal.{TaskVal}
-use Rattle.core_data.specs.declared.seat.SeatCore.{SeatCore}
 use Rattle.core_data.specs.declared.words.CpuWords.{CpuWords}
 use Rattle.core_data.specs.declared.words.TaskWords.{TaskWords}
 use Rattle.core_invariant.specs.Places.{PlacesHold, IsOpeningVal}
@@ -155,6 +154,7 @@ PositionsHold-opening shape mask =
   where
     locked : (t s : ℕ) → (opening shape mask).lock t ≡ Some s → ⊥
     locked t s h = grind (arith, lock-start shape mask t, h)
+
     claims : (s t : ℕ) → (opening shape mask).claimed s t ≡ true → ⊥
     claims s t h = grind (arith, claimed-start shape mask s t, h)
 
