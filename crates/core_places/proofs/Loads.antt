@@ -226,7 +226,8 @@ saw_clear true core s t p h =
       IdleTasks-saw_clear core.on_rq core.cpu core.on_cpu core.queue_lock core.current core.idle core.added s t p.idle idle,
     )
 
-saw_idle : (b c : Bool) (core : Table) (s t : ℕ) → PositionsHold (noted_if c core s (SawClear t)) → (b ≡ true → (core.rest_off s t ≡ true) × (core.on_cpu t ≡ false)) → PositionsHold (noted_if b (noted_if c core s (SawClear t)) s (SawRestIdle t))
+saw_idle : (b c : Bool) (core : Table) (s t : ℕ) → PositionsHold (noted_if c core s (SawClear t))
+    → (b ≡ true → (core.rest_off s t ≡ true) × (core.on_cpu t ≡ false)) → PositionsHold (noted_if b (noted_if c core s (SawClear t)) s (SawRestIdle t))
 saw_idle false c core s t p h = p
 saw_idle true false core s t p h =
     let o = h refl in

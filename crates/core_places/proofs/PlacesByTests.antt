@@ -16,7 +16,8 @@ use Rattle.core_invariant.specs.Invariant.{Holds}
 use Rattle.core_invariant.specs.Places.{PlacesHold}
 use Rattle.core_kinds.specs.Locks.{unseen}
 use Rattle.core_kinds.specs.Steps.{dead, normal, is_match, is_sleep, IsRunnable, stored_word}
-use Rattle.core_kinds.specs.Waking.{MayOwnState, own_state, IsOwnState, slept_if, ran_if, MayLoadState, load_state, is_own_read, is_matched, is_refused, state_read, rq_read, busy_read, logged_if, noted_if, seen_if, MayLoad, load_rq, load_busy, MayBump, load_cond, test_by, tested_if}
+use Rattle.core_kinds.specs.Waking.{MayOwnState, own_state, IsOwnState, slept_if, ran_if, MayLoadState, load_state, is_own_read, is_matched, is_refused, state_read, rq_read, busy_read, logged_if, noted_if, seen_if, MayLoad}
+use Rattle.core_kinds.specs.Waking.{load_rq, load_busy, MayBump, load_cond, test_by, tested_if}
 use Rattle.core_places.proofs.Facts.{queued_started}
 use Rattle.core_places.proofs.NewTasks.{NewStates-state}
 use Rattle.core_places.proofs.OffTasks.{OffTasks-state}
@@ -83,7 +84,9 @@ load_of b c d e f core s t x entry p = logged b _ s entry (passed c _ s t (reste
 pub PlacesHold-load_state : (core : Table) (s t : ℕ) (mask : Option State) → Holds core → MayLoadState core s t mask → PlacesHold (load_state core s t mask)
 PlacesHold-load_state core s t mask holds may =
     let x = core.state t in
-    load_of (is_refused x mask) (not (is_match x normal)) (not (x.0 == 0x200)) (is_matched x mask) (is_own_read core s t) (record core { reads = put_at core.reads s t (state_read t (core.state t) (core.reads s t)) }) s t x (Refused t x) (reads-put core s (put (core.reads s) t (state_read t (core.state t) (core.reads s t))) holds.places)
+    let r = state_read t x (core.reads s t) in
+    load_of (is_refused x mask) (not (is_match x normal)) (not (x.0 == 0x200)) (is_matched x mask) (is_own_read core s t)
+    (record core { reads = put_at core.reads s t r }) s t x (Refused t x) (reads-put core s (put (core.reads s) t r) holds.places)
 
 pub PlacesHold-load_rq : (core : Table) (s t : ℕ) → Holds core → MayLoad core s t → PlacesHold (load_rq core s t)
 PlacesHold-load_rq core s t holds may =
