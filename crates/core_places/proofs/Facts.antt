@@ -1,11 +1,11 @@
 -- What the invariant says of the task that a step is about.
-use Rattle.std.proofs.Common.{◌≡◌, ◌≢◌, ℕ, ◌+◌, ◌<◌, ◌≤◌, ◌⊎◌, inl, inr, Bool, true, false, Option, Some, None, refl, sym, ap, ◌∙◌, subst, arith}
+use Rattle.std.proofs.Common.{◌≡◌, ◌≢◌, ℕ, ◌⊎◌, inl, inr, true, false, Option, Some, None, refl, sym, ap, ◌∙◌, subst, arith}
 use Rattle.std.proofs.lemmas.Bool.Decides.{nat_tests}
 use Rattle.core_data.specs.Table.{Table}
 use Rattle.core_invariant.specs.Invariant.{Holds}
-use Rattle.core_kinds.specs.Running.{MayQueue, MayDequeue, MayMove, MayLeave, IsReady}
+use Rattle.core_kinds.specs.Running.{MayDequeue, MayLeave, IsReady}
 use Rattle.core_kinds.specs.Steps.{waking, dead, is_sleep, IsRunnable}
-use Rattle.core_kinds.specs.Waking.{MayClaim}
+use Rattle.core_kinds.specs.Waking.{MayClaim, MayStoreCpu}
 use Rattle.handoff_data.specs.declared.state.State.{State}
 
 -- a task that isn't busy is no seat's current task
@@ -87,3 +87,11 @@ one_seat core s t holds own k h = sym (holds.busy.runner.current_here k t h) ∙
 -- a task that leaves its queue isn't on its way to another
 pub leaves_rests : (core : Table) (s c t : ℕ) → Holds core → MayDequeue core s c t → core.state t ≢ waking
 leaves_rests core s c t holds may awaits = elim (leaves core s c t holds may) [ inl a ↦ grind (arith, nat_tests, a, awaits) | inr a ↦ grind (arith, a, awaits) ]
+
+-- a task whose processor word may be stored isn't queued
+pub placeable_off : (core : Table) (s t c : ℕ) → Holds core → MayStoreCpu core s t c → core.on_rq t ≢ 1
+placeable_off core s t c holds may =
+    elim may.placeable [
+      | inl a ↦ λ h. let z = holds.places.new.off t a in omega arith
+      | inr b ↦ elim b [ inl a ↦ λ h. let z = a.0 in omega arith | inr a ↦ λ h. omega arith ]
+    ]

@@ -1,5 +1,5 @@
 -- What holds of a seat's last reads of a task, and of the words that it has stored, step by step.
-use Rattle.std.proofs.Common.{◌≡◌, ◌≢◌, ℕ, ◌+◌, ◌⊎◌, inl, inr, Bool, true, false, Option, Some, None, refl, sym, ap, ◌∙◌, subst, arith}
+use Rattle.std.proofs.Common.{◌≡◌, ◌≢◌, ℕ, ◌⊎◌, inl, inr, Bool, true, Option, Some, None, refl, sym, ap, ◌∙◌, subst, arith}
 use Rattle.std.proofs.lemmas.Bool.{cases_eq}
 use Rattle.std.proofs.lemmas.Bool.Decides.{nat_tests}
 use Rattle.core_data.specs.Table.{put, put_at}
@@ -9,7 +9,7 @@ use Rattle.core_invariant.proofs.Logs.{Logged, somewhere-old}
 use Rattle.core_invariant.proofs.Puts.{put_here, put_there}
 use Rattle.core_invariant.specs.Positions.{ReadsTold}
 use Rattle.core_kinds.specs.Steps.{waking}
-use Rattle.core_places.proofs.Marks.{mark, renew, mark_keeps, lock_taken, lock_given, lock_given_other}
+use Rattle.core_places.proofs.Marks.{mark, renew, mark_keeps, lock_taken, lock_given}
 use Rattle.handoff_data.specs.History.{History}
 use Rattle.handoff_data.specs.Positions.{IsSomewhere}
 use Rattle.handoff_data.specs.Rules.{IsQueued}
@@ -82,8 +82,8 @@ pub CpusRead-store : (cpu : ℕ → ℕ) (lock : ℕ → Option ℕ) (reads : �
 CpusRead-store cpu lock reads s t d r p locked stored k u c l e =
     elim (cases_eq u t) [
       | inl q ↦ let same : k ≡ s = grind (arith, l, ap lock q, locked) in
-      let is : Some c ≡ Some d = sym e ∙ (ap (λ (x : TaskReads). x.cpu) (reads_here reads s t r k u same q) ∙ stored) in
-      put_here cpu t d u q ∙ grind (arith, is)
+          let is : Some c ≡ Some d = sym e ∙ (ap (λ (x : TaskReads). x.cpu) (reads_here reads s t r k u same q) ∙ stored) in
+          put_here cpu t d u q ∙ grind (arith, is)
       | inr q ↦ put_there cpu t d u q ∙ p k u c l (ap (λ (x : TaskReads). x.cpu) (sym (reads_there reads s t r k u (inr q))) ∙ e)
     ]
 

@@ -1,11 +1,10 @@
 -- What holds of tasks whose state was read as matching, step by step.
-use Rattle.std.proofs.Common.{◌≡◌, ◌≢◌, ℕ, ◌+◌, ◌⊎◌, inl, inr, Bool, true, false, Option, Some, None, refl, sym, ap, ◌∙◌, subst, arith}
+use Rattle.std.proofs.Common.{◌≡◌, ◌≢◌, ℕ, ◌+◌, ◌⊎◌, inl, inr, Bool, true, Option, Some, None, sym, ap, ◌∙◌, subst, arith}
 use Rattle.std.proofs.lemmas.Bool.{cases_eq}
-use Rattle.std.proofs.lemmas.Bool.Decides.{nat_tests}
 use Rattle.core_data.specs.Table.{put}
 use Rattle.core_invariant.proofs.Puts.{put_here, put_there}
 use Rattle.core_invariant.specs.Positions.{MatchedTasks}
-use Rattle.core_kinds.specs.Steps.{waking, dead, is_sleep}
+use Rattle.core_kinds.specs.Steps.{dead, is_sleep}
 use Rattle.core_places.proofs.Marks.{mark, renew, marked, mark_keeps, renewed, renewed_other, renewed_both, lock_taken, lock_given}
 use Rattle.handoff_data.specs.declared.state.State.{State}
 
@@ -73,11 +72,11 @@ MatchedTasks-change state on_rq changes lock unstored saw_off s t v p by =
     (λ k u l h. elim (cases_eq u t) [
       | inl q ↦ here k u l h q
       | inr q ↦ let m = meets state on_rq changes lock unstored saw_off k u p l (renewed unstored s t k u h) in
-      record {
-        started = λ z. m.started (sym (put_there changes t (changes t + 1) u q) ∙ z);
-        alive = m.alive;
-        stands = subst (λ z. (z ≡ 1) ⊎ ((z ≡ 0) × (is_sleep (state u) ≡ true))) (sym (put_there on_rq t v u q)) m.stands;
-      }
+          record {
+            started = λ z. m.started (sym (put_there changes t (changes t + 1) u q) ∙ z);
+            alive = m.alive;
+            stands = subst (λ z. (z ≡ 1) ⊎ ((z ≡ 0) × (is_sleep (state u) ≡ true))) (sym (put_there on_rq t v u q)) m.stands;
+          }
     ])
     (λ k u h. renewed_both saw_off unstored s t k u h (p.saw_after k u (renewed saw_off s t k u h)))
     (λ k u l h. elim (cases_eq u t) [
@@ -90,16 +89,17 @@ MatchedTasks-change state on_rq changes lock unstored saw_off s t v p by =
   where
     owner : (k u : ℕ) → lock u ≡ Some k → u ≡ t → lock t ≡ Some s → k ≡ s
     owner k u l q locked = grind (arith, l, ap lock q, locked)
+
     here : (k u : ℕ) → lock u ≡ Some k → renew unstored s t k u ≡ true → u ≡ t → Meets state (put on_rq t v) (put changes t (changes t + 1)) u
     here k u l h q =
         elim by [
           | inl locked ↦ absurd (renewed_other unstored s t k u h q (owner k u l q locked))
           | inr off ↦ let m = meets state on_rq changes lock unstored saw_off k u p l (renewed unstored s t k u h) in
-          record {
-            started = λ z. grind (arith, put_here changes t (changes t + 1) u q, z);
-            alive = m.alive;
-            stands = inr (put_here on_rq t v u q ∙ off.0, elim off.1 [ inl a ↦ ap (λ z. is_sleep (state z)) q ∙ a | inr a ↦ absurd (m.alive (ap state q ∙ a)) ]);
-          }
+              record {
+                started = λ z. grind (arith, put_here changes t (changes t + 1) u q, z);
+                alive = m.alive;
+                stands = inr (put_here on_rq t v u q ∙ off.0, elim off.1 [ inl a ↦ ap (λ z. is_sleep (state z)) q ∙ a | inr a ↦ absurd (m.alive (ap state q ∙ a)) ]);
+              }
         ]
 
 -- its state is stored by the seat that has its lock, or while it is queued

@@ -1,12 +1,12 @@
 -- What holds of tasks off their queues, step by step.
-use Rattle.std.proofs.Common.{◌≡◌, ◌≢◌, ℕ, ◌+◌, ◌<◌, ◌≤◌, ◌⊎◌, inl, inr, Bool, true, false, Option, Some, None, refl, sym, ap, ◌∙◌, subst, arith}
-use Rattle.std.specs.Prelude.{IsSome, if◌then◌else◌, ◌==◌}
+use Rattle.std.proofs.Common.{◌≡◌, ◌≢◌, ℕ, ◌+◌, ◌⊎◌, inl, inr, Bool, true, false, Option, Some, None, refl, sym, ap, ◌∙◌, arith}
+use Rattle.std.specs.Prelude.{if◌then◌else◌, ◌==◌}
 use Rattle.std.proofs.lemmas.Bool.{cases_eq}
 use Rattle.std.proofs.lemmas.Bool.Decides.{nat_tests}
-use Rattle.core_data.specs.Table.{put, put_at}
+use Rattle.core_data.specs.Table.{put}
 use Rattle.core_invariant.proofs.Puts.{put_here, put_there}
-use Rattle.core_invariant.specs.Places.{OffTasks, MovingTasks}
-use Rattle.core_kinds.specs.Steps.{waking, dead, is_sleep, IsRunnable}
+use Rattle.core_invariant.specs.Places.{OffTasks}
+use Rattle.core_kinds.specs.Steps.{waking, dead, is_sleep}
 use Rattle.handoff_data.specs.declared.state.State.{State}
 
 -- what OffTasks says of a task with this state and this lock word
@@ -76,5 +76,5 @@ OffTasks-claim state on_rq changes lock claimed s t p locked u h e =
     elim (cases_eq u t) [
       | inl q ↦ inr (inr (put_here state t waking u q, (s, ap lock q ∙ locked, grind (arith, nat_tests, q))))
       | inr q ↦ off_keep (state u) (put state t waking u) (lock u) (lock u) (λ k. claimed k u) (λ k. put claimed s (λ v. if v == t then true else claimed s v) k u) (p u h e) (put_there state t waking u q)
-      (λ k w l c. (l, grind (arith, nat_tests, c, q)))
+          (λ k w l c. (l, grind (arith, nat_tests, c, q)))
     ]

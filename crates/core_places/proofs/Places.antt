@@ -1,23 +1,20 @@
 -- Each kind of step keeps what the places of tasks say.
-use Rattle.std.proofs.Common.{◌≡◌, ◌≢◌, ℕ, ◌+◌, ◌<◌, ◌≤◌, ◌⊎◌, inl, inr, List, Bool, true, false, Option, Some, None, refl, sym, ap, ◌∙◌, subst, arith}
-use Rattle.std.proofs.lemmas.Bool.Decides.{nat_tests}
+use Rattle.std.proofs.Common.{◌≡◌, ◌≢◌, ℕ, ◌⊎◌, inl, inr, List, Bool, Some, refl, arith}
 use Rattle.core_data.specs.Queue.{Queue}
-use Rattle.core_data.specs.Table.{Table, put, put_at}
+use Rattle.core_data.specs.Table.{Table}
 use Rattle.core_data.specs.declared.values.TaskVal.{TaskVal}
-use Rattle.core_data.specs.declared.values.WaitEntry.{WaitEntry}
 use Rattle.core_data.specs.declared.values.WorkItem.{WorkItem}
-use Rattle.core_gives.specs.Queues.{MayGiveQueue, give_queue}
-use Rattle.core_gives.specs.Waits.{MayGiveWait, give_wait}
 use Rattle.core_invariant.specs.Invariant.{Holds}
 use Rattle.core_invariant.specs.Places.{PlacesHold}
 use Rattle.core_kinds.specs.Locks.{MayTakeTask, take_task, MayGiveTask, give_task, MayTakeQueue, take_queue, MayTakeWait, take_wait, MayTakeWorks, take_works, MayGiveWorks, give_works}
 use Rattle.core_kinds.specs.Running.{MayQueue, queue_task, MayDequeue, dequeue_task, MayMove, move_task, MaySetBusy, set_busy, MayClearBusy, clear_busy, MayBodyOut, body_out, MayBodyHome, body_home}
 use Rattle.core_kinds.specs.Steps.{waking, running}
-use Rattle.core_kinds.specs.Waking.{MayClaim, claim, IsRelease, MayRelease, release, MayLoad, load_rq, load_busy, load_cpu, MayStoreCpu, store_cpu, MayBump, bump}
-use Rattle.core_places.proofs.Facts.{idle_apart, ready_idle, ready_state, leaves, queued_started, claim_off, claim_started, move_idle}
+use Rattle.core_kinds.specs.Waking.{MayClaim, claim, IsRelease, MayRelease, release, MayLoad, load_cpu, MayStoreCpu, store_cpu, MayBump, bump}
+use Rattle.core_places.proofs.Facts.{idle_apart, ready_idle, ready_state, leaves, queued_started, claim_off, claim_started, move_idle, placeable_off}
 use Rattle.core_places.proofs.NewTasks.{on_rq-put, NewTasks-change, NewTasks-busy, NewTasks-clear, NewStates-take, NewStates-give, NewStates-stored, NewStates-change, NewStates-state, NewValues-take, NewValues-give, NewValues-change}
 use Rattle.core_places.proofs.OffTasks.{OffTasks-take, OffTasks-give, OffTasks-queue, OffTasks-move, OffTasks-leave, OffTasks-state, OffTasks-claim}
-use Rattle.core_places.proofs.Running.{CurrentTasks-queue, CurrentTasks-off, CurrentTasks-pick, CurrentTasks-state, CurrentTasks-less, WaitingTasks-take, WaitingTasks-queue, WaitingTasks-off, WaitingTasks-pick, WaitingTasks-state, WaitingTasks-cpu, WaitingTasks-give, MovingTasks-take, MovingTasks-give, MovingTasks-change, MovingTasks-move, MovingTasks-busy, MovingTasks-clear, MovingTasks-state}
+use Rattle.core_places.proofs.Running.{CurrentTasks-queue, CurrentTasks-off, CurrentTasks-pick, CurrentTasks-state, WaitingTasks-take, WaitingTasks-queue, WaitingTasks-off, WaitingTasks-pick, WaitingTasks-state, WaitingTasks-cpu}
+use Rattle.core_places.proofs.Running.{MovingTasks-take, MovingTasks-give, MovingTasks-change, MovingTasks-move, MovingTasks-busy, MovingTasks-clear, MovingTasks-state}
 
 pub PlacesHold-take_task : (core : Table) (s t : ℕ) → Holds core → MayTakeTask core s t → PlacesHold (take_task core s t)
 PlacesHold-take_task core s t holds may =
@@ -157,13 +154,6 @@ PlacesHold-release core s t holds may =
 
 pub PlacesHold-load_cpu : (core : Table) (s t : ℕ) → Holds core → MayLoad core s t → PlacesHold (load_cpu core s t)
 PlacesHold-load_cpu core s t holds may = let p = holds.places in assumption p
-
-placeable_off : (core : Table) (s t c : ℕ) → Holds core → MayStoreCpu core s t c → core.on_rq t ≢ 1
-placeable_off core s t c holds may =
-    elim may.placeable [
-      | inl a ↦ λ h. let z = holds.places.new.off t a in omega arith
-      | inr b ↦ elim b [ inl a ↦ λ h. let z = a.0 in omega arith | inr a ↦ λ h. omega arith ]
-    ]
 
 pub PlacesHold-store_cpu : (core : Table) (s t c : ℕ) → Holds core → MayStoreCpu core s t c → PlacesHold (store_cpu core s t c)
 PlacesHold-store_cpu core s t c holds may =

@@ -1,6 +1,6 @@
 -- Each kind of step whose effect hangs on a test keeps what the places of tasks say.
-use Rattle.std.proofs.Common.{◌≡◌, ◌≢◌, ℕ, ◌+◌, ◌<◌, ◌≤◌, ◌⊎◌, inl, inr, ◌∷◌, [], ◌++◌, List, Bool, true, false, Option, Some, None, refl, sym, ap, ◌∙◌, subst, arith}
-use Rattle.std.specs.Prelude.{if◌then◌else◌, ◌==◌, ◌&&◌, is_none, not}
+use Rattle.std.proofs.Common.{◌≡◌, ℕ, ◌⊎◌, inl, inr, List, Bool, true, false, Option, Some, None, refl, ap, ◌∙◌, arith}
+use Rattle.std.specs.Prelude.{◌==◌, is_none, not}
 use Rattle.std.proofs.lemmas.Bool.{cases_eq}
 use Rattle.std.proofs.lemmas.Bool.Decides.{nat_tests}
 use Rattle.core_data.specs.Noted.{noted}
@@ -9,14 +9,15 @@ use Rattle.core_data.specs.Table.{Table, put, put_at}
 use Rattle.core_data.specs.declared.act.Act.TheVariants.{Passed, OwnStored, Matched, SawOff, SawClear, SawRest, SawRestOff, SawRestIdle}
 use Rattle.core_data.specs.declared.pos.TaskReads.{TaskReads}
 use Rattle.core_data.specs.declared.values.WaitEntry.{WaitEntry}
-use Rattle.core_gives.specs.Queues.{MayGiveQueue, give_queue, gives_up, give_up_if, IsSwitch}
-use Rattle.core_gives.specs.Waits.{MayGiveWait, give_wait, give_by, give_taken, walked_if}
-use Rattle.core_invariant.proofs.Puts.{put_here, put_there}
+use Rattle.core_gives.specs.Queues.{MayGiveQueue, give_queue, gives_up, give_up_if}
+use Rattle.core_gives.specs.Waits.{MayGiveWait, give_wait, give_by, walked_if}
+use Rattle.core_invariant.proofs.Puts.{put_there}
 use Rattle.core_invariant.specs.Invariant.{Holds}
-use Rattle.core_invariant.specs.Places.{PlacesHold, CurrentTasks, WaitingTasks}
+use Rattle.core_invariant.specs.Places.{PlacesHold}
 use Rattle.core_kinds.specs.Locks.{unseen}
-use Rattle.core_kinds.specs.Steps.{waking, running, dead, normal, is_match, is_sleep, IsRunnable, stored_word}
-use Rattle.core_kinds.specs.Waking.{MayOwnState, own_state, IsOwnState, slept_if, ran_if, MayLoadState, load_state, is_own_read, is_matched, is_refused, load_this, state_read, rq_read, busy_read, logged_if, noted_if, seen_if, MayLoad, load_rq, load_busy, MayBump, load_cond, test_by, tested_if}
+use Rattle.core_kinds.specs.Steps.{dead, normal, is_match, is_sleep, IsRunnable, stored_word}
+use Rattle.core_kinds.specs.Waking.{MayOwnState, own_state, IsOwnState, slept_if, ran_if, MayLoadState, load_state, is_own_read, is_matched, is_refused, state_read, rq_read, busy_read, logged_if, noted_if, seen_if, MayLoad}
+use Rattle.core_kinds.specs.Waking.{load_rq, load_busy, MayBump, load_cond, test_by, tested_if}
 use Rattle.core_places.proofs.Facts.{queued_started}
 use Rattle.core_places.proofs.NewTasks.{NewStates-state}
 use Rattle.core_places.proofs.OffTasks.{OffTasks-state}
@@ -83,7 +84,9 @@ load_of b c d e f core s t x entry p = logged b _ s entry (passed c _ s t (reste
 pub PlacesHold-load_state : (core : Table) (s t : ℕ) (mask : Option State) → Holds core → MayLoadState core s t mask → PlacesHold (load_state core s t mask)
 PlacesHold-load_state core s t mask holds may =
     let x = core.state t in
-    load_of (is_refused x mask) (not (is_match x normal)) (not (x.0 == 0x200)) (is_matched x mask) (is_own_read core s t) (record core { reads = put_at core.reads s t (state_read t (core.state t) (core.reads s t)) }) s t x (Refused t x) (reads-put core s (put (core.reads s) t (state_read t (core.state t) (core.reads s t))) holds.places)
+    let r = state_read t x (core.reads s t) in
+    load_of (is_refused x mask) (not (is_match x normal)) (not (x.0 == 0x200)) (is_matched x mask) (is_own_read core s t)
+    (record core { reads = put_at core.reads s t r }) s t x (Refused t x) (reads-put core s (put (core.reads s) t r) holds.places)
 
 pub PlacesHold-load_rq : (core : Table) (s t : ℕ) → Holds core → MayLoad core s t → PlacesHold (load_rq core s t)
 PlacesHold-load_rq core s t holds may =
@@ -152,7 +155,7 @@ given_up core s c queue true up holds may =
       p,
       CurrentTasks-less core.state core.on_rq core.current (put core.current s None) p.current (λ k u h. grind (arith, nat_tests, h)),
       WaitingTasks-give core.state core.on_rq core.cpu core.current (put core.current s None) core.queue_lock core.added c queue p.waiting may.fits may.runnable.0 (λ u h. absurd (grind (arith, none, h)))
-      (λ k u h. elim (cases_eq k s) [ inl q ↦ inr (holds.busy.runner.current_here k u h ∙ (q ∙ own)) | inr q ↦ inl (put_there core.current s None k q ∙ h) ]),
+          (λ k u h. elim (cases_eq k s) [ inl q ↦ inr (holds.busy.runner.current_here k u h ∙ (q ∙ own)) | inr q ↦ inl (put_there core.current s None k q ∙ h) ]),
     )
   where
     no_cur : (o : Option ℕ) → is_none o ≡ true → o ≡ None

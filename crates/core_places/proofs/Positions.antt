@@ -1,12 +1,10 @@
 -- Each kind of step keeps what a seat may rely on.
-use Rattle.std.proofs.Common.{◌≡◌, ◌≢◌, ℕ, ◌+◌, ◌<◌, ◌≤◌, ◌⊎◌, inl, inr, ◌++◌, ◌∷◌, [], length, List, Bool, true, false, Option, Some, None, refl, sym, ap, ◌∙◌, subst, arith}
-use Rattle.std.proofs.lemmas.Bool.Decides.{nat_tests}
+use Rattle.std.proofs.Common.{◌≡◌, ◌≢◌, ℕ, ◌+◌, ◌<◌, ◌⊎◌, inl, inr, ◌++◌, ◌∷◌, [], length, List, Bool, Some, None, refl, ap, ◌∙◌, arith}
 use Rattle.core_data.specs.Queue.{Queue}
 use Rattle.core_data.specs.Found.{no_reads}
 use Rattle.core_data.specs.Table.{Table, put, put_at}
 use Rattle.core_data.specs.declared.pos.TaskReads.{TaskReads}
 use Rattle.core_data.specs.declared.values.TaskVal.{TaskVal}
-use Rattle.core_data.specs.declared.values.WaitEntry.{WaitEntry}
 use Rattle.core_data.specs.declared.values.WorkItem.{WorkItem}
 use Rattle.core_invariant.proofs.Logs.{logged}
 use Rattle.core_invariant.specs.Histories.{history}
@@ -17,9 +15,11 @@ use Rattle.core_kinds.specs.Running.{MayQueue, queue_task, queue_entry, MayDeque
 use Rattle.core_kinds.specs.Steps.{waking, running, dead, kept_reads, numbered_reads}
 use Rattle.core_kinds.specs.Waking.{MayClaim, claim, IsRelease, MayRelease, release, MayLoad, load_cpu, cpu_read, MayStoreCpu, store_cpu, MayBump, bump}
 use Rattle.core_places.proofs.Claimed.{ClaimedTasks-take, ClaimedTasks-give, ClaimedTasks-queue, ClaimedTasks-off, ClaimedTasks-busy, ClaimedTasks-clear, ClaimedTasks-state, ClaimedTasks-claim}
-use Rattle.core_places.proofs.Facts.{idle_apart, ready_idle, leaves, claim_off, claim_started, move_idle, free_rests, free_settled, new_rests, leaves_rests}
+use Rattle.core_places.proofs.Facts.{idle_apart, ready_idle, leaves, claim_off, free_rests, free_settled, new_rests, leaves_rests, placeable_off}
 use Rattle.core_places.proofs.Idle.{IdleTasks-take, IdleTasks-queue, IdleTasks-off, IdleTasks-pick, IdleTasks-clear, IdleTasks-cpu}
-use Rattle.core_places.proofs.LastReads.{reads_there, CpusRead-take, CpusRead-give, CpusRead-same, CpusRead-load, CpusRead-store, ReadsTold-take, ReadsTold-give, ReadsTold-forget, ReadsTold-same, ReadsTold-store_cpu, ReadsTold-log, WakingStored-take, WakingStored-give, WakingStored-stored, WakingStored-change, WakingStored-state, MovingStored-take, MovingStored-give, MovingStored-stored, MovingStored-change}
+use Rattle.core_places.proofs.LastReads.{reads_there, CpusRead-take, CpusRead-give, CpusRead-same, CpusRead-load, CpusRead-store, ReadsTold-take, ReadsTold-give, ReadsTold-forget, ReadsTold-same, ReadsTold-store_cpu}
+use Rattle.core_places.proofs.LastReads.{ReadsTold-log, WakingStored-take, WakingStored-give, WakingStored-stored, WakingStored-change, WakingStored-state, MovingStored-take, MovingStored-give, MovingStored-stored}
+use Rattle.core_places.proofs.LastReads.{MovingStored-change}
 use Rattle.core_places.proofs.Matched.{MatchedTasks-take, MatchedTasks-give, MatchedTasks-stored, MatchedTasks-change, MatchedTasks-state}
 use Rattle.core_places.proofs.Resting.{RestingTasks-take, RestingTasks-give, RestingTasks-stored, RestingTasks-change, RestingTasks-busy, RestingTasks-clear, RestingTasks-state}
 use Rattle.core_places.proofs.Seen.{SeenStates-take, SeenStates-queue, SeenStates-off, SeenStates-pick, SeenStates-state}
@@ -237,13 +237,6 @@ PositionsHold-load_cpu core s t holds may =
       CpusRead-load core.cpu core.lock core.reads s t r p.cpu refl,
       ReadsTold-same j core.cpu core.lock core.reads s t r p.reads refl,
     )
-
-placeable_off : (core : Table) (s t c : ℕ) → Holds core → MayStoreCpu core s t c → core.on_rq t ≢ 1
-placeable_off core s t c holds may =
-    elim may.placeable [
-      | inl a ↦ λ h. let z = holds.places.new.off t a in omega arith
-      | inr b ↦ elim b [ inl a ↦ λ h. let z = a.0 in omega arith | inr a ↦ λ h. omega arith ]
-    ]
 
 pub PositionsHold-store_cpu : (core : Table) (s t c : ℕ) → Holds core → MayStoreCpu core s t c → PositionsHold (store_cpu core s t c)
 PositionsHold-store_cpu core s t c holds may =

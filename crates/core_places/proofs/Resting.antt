@@ -1,5 +1,5 @@
 -- What holds of tasks that were read as resting, step by step.
-use Rattle.std.proofs.Common.{◌≡◌, ◌≢◌, ℕ, ◌+◌, ◌⊎◌, inl, inr, Bool, true, false, Option, Some, None, refl, sym, ap, ◌∙◌, subst, arith}
+use Rattle.std.proofs.Common.{◌≡◌, ◌≢◌, ℕ, ◌⊎◌, inl, inr, Bool, true, false, Option, Some, None, sym, ap, ◌∙◌, arith}
 use Rattle.std.proofs.lemmas.Bool.{cases_eq}
 use Rattle.std.proofs.lemmas.Bool.Decides.{nat_tests}
 use Rattle.core_data.specs.Table.{put}
@@ -24,9 +24,9 @@ forgets state on_rq on_cpu lock rest_state rest_off rest_idle next_state next_rq
       off = λ k u l h. let o = renewed_other rest_off s t k u h in rqs k u l o (p.off k u (locks k u l o) (renewed rest_off s t k u h));
       idle_after = λ k u h. renewed_both rest_idle rest_off s t k u h (p.idle_after k u (renewed rest_idle s t k u h));
       idle = λ k u l h.
-      let o = renewed_other rest_idle s t k u h in
-      let i = renewed rest_idle s t k u h in
-      cpus k u l o (p.off k u (locks k u l o) (p.idle_after k u i)) (p.idle k u (locks k u l o) i);
+          let o = renewed_other rest_idle s t k u h in
+          let i = renewed rest_idle s t k u h in
+          cpus k u l o (p.off k u (locks k u l o) (p.idle_after k u i)) (p.idle k u (locks k u l o) i);
     }
 
 pub RestingTasks-take : (state : ℕ → State) (on_rq : ℕ → ℕ) (on_cpu : ℕ → Bool) (lock : ℕ → Option ℕ) (rest_state rest_off rest_idle : ℕ → ℕ → Bool) (s t : ℕ) → RestingTasks state on_rq on_cpu lock rest_state rest_off rest_idle

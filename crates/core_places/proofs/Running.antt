@@ -1,11 +1,11 @@
 -- What holds of queued tasks, and of those that are moved, step by step.
-use Rattle.std.proofs.Common.{◌≡◌, ◌≢◌, ℕ, ◌+◌, ◌<◌, ◌≤◌, ◌⊎◌, inl, inr, Bool, true, false, Option, Some, None, refl, sym, ap, ◌∙◌, subst, arith}
-use Rattle.std.specs.Prelude.{IsSome, if◌then◌else◌, ◌==◌}
+use Rattle.std.proofs.Common.{◌≡◌, ◌≢◌, ℕ, ◌⊎◌, inl, inr, Bool, true, false, Option, Some, None, refl, sym, ap, ◌∙◌, subst, arith}
+use Rattle.std.specs.Prelude.{if◌then◌else◌, ◌==◌}
 use Rattle.std.proofs.lemmas.Bool.{cases_eq}
 use Rattle.std.proofs.lemmas.Bool.Decides.{nat_tests}
 use Rattle.core_data.specs.Queue.{Queue, times_in}
-use Rattle.core_data.specs.Table.{put, put_at}
-use Rattle.core_gives.specs.Queues.{IsQueueOf, times, is_at, is_some_of}
+use Rattle.core_data.specs.Table.{put}
+use Rattle.core_gives.specs.Queues.{IsQueueOf, times, is_some_of}
 use Rattle.core_invariant.proofs.Puts.{put_here, put_there}
 use Rattle.core_invariant.specs.Places.{CurrentTasks, WaitingTasks, MovingTasks}
 use Rattle.core_kinds.specs.Steps.{waking, dead, is_sleep, IsRunnable}
@@ -70,7 +70,7 @@ WaitingTasks-queue state on_rq cpu current queue_lock added s c t p locked here 
         | inr w ↦ inr (ap state q ∙ w, (s, ap (λ z. queue_lock (cpu z)) q ∙ (ap queue_lock here ∙ locked), grind (arith, nat_tests, q)))
       ]
       | inr q ↦ waiting_keep (state u) (state u) (queue_lock (cpu u)) (queue_lock (cpu u)) (λ k. added k (cpu u) u) (λ k. put added s (λ d v. if v == t then true else added s d v) k (cpu u) u)
-      (p u (sym (put_there on_rq t 1 u q) ∙ e) idle) refl (λ k l a. (l, grind (arith, nat_tests, a, q)))
+          (p u (sym (put_there on_rq t 1 u q) ∙ e) idle) refl (λ k l a. (l, grind (arith, nat_tests, a, q)))
     ]
 
 pub WaitingTasks-off : (state : ℕ → State) (on_rq cpu : ℕ → ℕ) (current queue_lock : ℕ → Option ℕ) (added : ℕ → ℕ → ℕ → Bool) (t v : ℕ) → WaitingTasks state on_rq cpu current queue_lock added → v ≢ 1
@@ -177,12 +177,13 @@ WaitingTasks-give state on_rq cpu current next queue_lock added c queue p fits w
     elim (cases_eq (cpu u) c) [
       | inl here ↦ let once : times queue u ≡ 1 = grind (arith, nat_tests, fits u, e, here) in stands (is_some_of queue.cur u) refl once
       | inr there ↦ waiting_keep (state u) (state u) (queue_lock (cpu u)) (put queue_lock c None (cpu u)) (λ k. added k (cpu u) u) (λ k. added k (cpu u) u)
-      (p u e (λ k h. elim (kept k u h) [ inl n ↦ idle k n | inr here ↦ there here ])) refl (λ k l a. (put_there queue_lock c None (cpu u) there ∙ l, a))
+          (p u e (λ k h. elim (kept k u h) [ inl n ↦ idle k n | inr here ↦ there here ])) refl (λ k l a. (put_there queue_lock c None (cpu u) there ∙ l, a))
     ]
   where
     is_cur : (o : Option ℕ) → is_some_of o u ≡ true → o ≡ Some u
     is_cur None h = absurd (grind (arith, h))
     is_cur (Some j) h = grind (arith, nat_tests, h)
+
     stands : (b : Bool) → is_some_of queue.cur u ≡ b → times queue u ≡ 1 → IsRunnable (state u) ⊎ ((state u ≡ waking) × ((k : ℕ) × (put queue_lock c None (cpu u) ≡ Some k) × (added k (cpu u) u ≡ true)))
     stands true h once = elim (chosen u (is_cur queue.cur h)) [ inl a ↦ inl a | inr k ↦ absurd (idle k.0 k.1) ]
     stands false h once = inl (waiting u (λ z. grind (arith, nat_tests, once, h, z)))
