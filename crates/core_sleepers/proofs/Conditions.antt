@@ -10,13 +10,10 @@ use Rattle.core_invariant.specs.Invariant.{Holds}
 use Rattle.core_invariant.specs.Sleepers.{SleepersHold, IsAwake, IsSafeSleeper, IsSafeBeside}
 use Rattle.core_kinds.specs.Steps.{fresh, is_sleep, IsRunnable}
 use Rattle.core_kinds.specs.Waking.{MayStoreCpu, store_cpu, IsPlaceable, MayBump, bump, load_cond, test_by, tested_if}
+use Rattle.core_sleepers.proofs.Plain.{both}
 use Rattle.core_sleepers.proofs.Safe.{IsSafeOr, safe-moved, tested, tested-other, safe-tested}
 use Rattle.core_sleepers.proofs.Placed.{runnable-is, safe_at, asleep_not}
 use Rattle.handoff_data.specs.declared.state.State.{State}
-
--- the processor of t changes, which is awake or never ran
-absurd_sleep : (a b : Bool) → a ≡ false → a ≡ true → b ≡ true
-absurd_sleep a b f t = grind (arith, f, t)
 
 -- a fact of t on its new processor, and of each other task on its own
 by_cpu : (P : ℕ → ℕ → Type 0) (cpu : ℕ → ℕ) (t c u : ℕ) → P t c → P u (cpu u) → P u (put cpu t c u)
@@ -26,6 +23,7 @@ by_cpu P cpu t c u n h =
       | inr e ↦ subst (λ v. P u v) (sym (put_there cpu t c u e)) h
     ]
 
+-- the processor of t changes, which is awake or never ran
 hold-moves : (core : Table) (t c : ℕ) → SleepersHold core → ((k : ℕ) → IsAwake (core.state t) ⊎ (core.test c t k ≡ None)) → is_sleep (core.state t) ≡ false
     → SleepersHold (record core { cpu = put core.cpu t c })
 hold-moves core t c h safe awake =
@@ -36,9 +34,9 @@ hold-moves core t c h safe awake =
       safe_passed = λ x k u w p. safe-moved core.state core.cpu core.cond core.test t c k u (safe k) (h.safe_passed x k u w p);
       safe_stored = λ x k u w d o. safe-moved core.state core.cpu core.cond core.test t c k u (safe k) (h.safe_stored x k u w d o);
       entry_home = λ k u entries a z w. by_cpu (λ v y. core.asleep y v k ≡ true → is_sleep (core.state v) ≡ true → has_task entries v ≡ true) core.cpu t c u
-          (λ _ y. absurd_sleep (is_sleep (core.state t)) (has_task entries t) awake y) (λ b y. h.entry_home k u entries b y w) a z;
+          (λ _ y. absurd (both (is_sleep (core.state t)) y awake)) (λ b y. h.entry_home k u entries b y w) a z;
       entry_out = λ x k u taken a z w. by_cpu (λ v y. core.asleep y v k ≡ true → is_sleep (core.state v) ≡ true → has_task taken v ≡ true) core.cpu t c u
-          (λ _ y. absurd_sleep (is_sleep (core.state t)) (has_task taken t) awake y) (λ b y. h.entry_out x k u taken b y w) a z;
+          (λ _ y. absurd (both (is_sleep (core.state t)) y awake)) (λ b y. h.entry_out x k u taken b y w) a z;
       passed_awake = λ x k u w p a. by_cpu (λ v y. core.passed x k v ≡ true → core.asleep y v k ≡ true → is_sleep (core.state v) ≡ false) core.cpu t c u
           (λ _ _. awake) (λ q b. h.passed_awake x k u w q b) p a;
       fresh_slept = h.fresh_slept;
@@ -88,7 +86,8 @@ untaken-other : (retaken : ℕ → ℕ → Bool) (s l x k : ℕ) → retaken x k
 untaken-other retaken s l x k h = grind (arith, nat_tests, h)
 
 -- the tests of others are as right as before
-safe-raised : {O P : Type 0} (state : ℕ → State) (cpu cond : ℕ → ℕ) (test : ℕ → ℕ → ℕ → Option ℕ) (l k u : ℕ) → (O → P) → (k ≡ l → P) → IsSafeOr O state cpu cond test k u → IsSafeOr P state cpu (raised cond l) test k u
+safe-raised : {O P : Type 0} (state : ℕ → State) (cpu cond : ℕ → ℕ) (test : ℕ → ℕ → ℕ → Option ℕ) (l k u : ℕ)
+    → (O → P) → (k ≡ l → P) → IsSafeOr O state cpu cond test k u → IsSafeOr P state cpu (raised cond l) test k u
 safe-raised state cpu cond test l k u f here h =
     elim (cases_eq k l) [
       | inl e ↦ inr (inr (here e))

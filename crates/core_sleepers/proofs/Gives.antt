@@ -13,17 +13,9 @@ use Rattle.core_invariant.specs.Locks.{IsGuarded}
 use Rattle.core_invariant.specs.Sleepers.{SleepersHold, IsSafeSleeper, IsSafeBeside, shared_entry}
 use Rattle.core_kinds.specs.Steps.{is_sleep}
 use Rattle.core_sleepers.proofs.Entries.{walk-passed, kept-task, gone-entry, sleeper-task, asleep-given}
+use Rattle.core_sleepers.proofs.Plain.{both, no_some, some_same}
 use Rattle.core_sleepers.proofs.Safe.{safe-by}
 use Rattle.core_sleepers.proofs.Takes.{home-put, out-put}
-
-some_same : {A : Type 0} (a b : A) → Some a ≡ Some b → a ≡ b
-some_same a b h = cc
-
-no_some : {A : Type 0} {x : A} → None ≡ Some x → ⊥
-no_some h = cc
-
-both : (b : Bool) → b ≡ true → b ≡ false → ⊥
-both b t f = grind (arith, t, f)
 
 -- the seat whose wait queue is out holds its lock
 out_lock : {A : Type 0} (count seats : ℕ) (lock : ℕ → Option ℕ) (home : ℕ → Option A) (out : ℕ → ℕ → Option A) (s k : ℕ) (v : A) → IsGuarded A count seats lock home out → out s k ≡ Some v → lock k ≡ Some s
@@ -43,18 +35,26 @@ walks-other owes s l x k h o = grind (arith, nat_tests, h, o)
 safe-walked : (core : Table) (s l k u : ℕ) → core.retaken s l ≡ true → (k ≡ l → core.passed s l u ≡ true) → IsSafeSleeper core k u → IsSafeSleeper (noted core s (Walked l)) k u
 safe-walked core s l k u again passed h =
     safe-by core.state core.cpu core.cond core.test k u
-      (λ o. inr (inr (o.0, walks-other core.owes s l o.0 k (λ p q. elim o.2 [
+    (λ o. inr (inr (
+      o.0,
+      walks-other core.owes s l o.0 k (λ p q. elim o.2 [
         | inl r ↦ both (core.retaken s l) again (ap (λ z. core.retaken z l) (sym p) ∙ ap (core.retaken o.0) (sym q) ∙ r)
         | inr r ↦ both (core.passed s l u) (passed q) (ap (λ z. core.passed z l u) (sym p) ∙ ap (λ z. core.passed o.0 z u) (sym q) ∙ r)
-      ]) o.1, o.2))) h
+      ]) o.1,
+      o.2,
+    ))) h
 
 beside-walked : (core : Table) (s l y k u : ℕ) → core.retaken s l ≡ true → (k ≡ l → y ≡ s) → IsSafeBeside core y k u → IsSafeBeside (noted core s (Walked l)) y k u
 beside-walked core s l y k u again same h =
     safe-by core.state core.cpu core.cond core.test k u
-      (λ o. inr (inr (o.0, walks-other core.owes s l o.0 k (λ p q. elim o.2 [
+    (λ o. inr (inr (
+      o.0,
+      walks-other core.owes s l o.0 k (λ p q. elim o.2 [
         | inl r ↦ both (core.retaken s l) again (ap (λ z. core.retaken z l) (sym p) ∙ ap (core.retaken o.0) (sym q) ∙ r)
         | inr r ↦ r.0 (p ∙ sym (same q))
-      ]) o.1, o.2))) h
+      ]) o.1,
+      o.2,
+    ))) h
 
 -- the seat has passed each task whose entry it took
 hold-walks : (core : Table) (s l : ℕ) (taken : List WaitEntry) → SleepersHold core → IsGuarded _ core.conds core.seats core.wait_lock core.wait core.wait_out
@@ -62,8 +62,8 @@ hold-walks : (core : Table) (s l : ℕ) (taken : List WaitEntry) → SleepersHol
 hold-walks core s l taken h locks locked out again walk =
     let holder : (x k : ℕ) → k ≡ l → core.wait_lock k ≡ Some x → x ≡ s = λ x k e w. one_holder core.wait_lock k l x s e w locked in
     let out_holder : (x k : ℕ) (v : List WaitEntry) → k ≡ l → core.wait_out x k ≡ Some v → (x ≡ s) × (taken ≡ v)
-        = λ x k v e w. (let p = holder x k e (out_lock core.conds core.seats core.wait_lock core.wait core.wait_out x k v locks w) in
-          (p, some_same taken v (sym out ∙ ap (λ z. core.wait_out z l) (sym p) ∙ ap (core.wait_out x) (sym e) ∙ w))) in
+    = λ x k v e w. (let p = holder x k e (out_lock core.conds core.seats core.wait_lock core.wait core.wait_out x k v locks w) in
+    (p, some_same taken v (sym out ∙ ap (λ z. core.wait_out z l) (sym p) ∙ ap (core.wait_out x) (sym e) ∙ w))) in
     record {
       once = h.once;
       safe_home = λ k u entries w e. safe-walked core s l k u again (λ q. absurd (no_some (sym (locks.held_away l s locked) ∙ ap core.wait (sym q) ∙ w))) (h.safe_home k u entries w e);
@@ -127,19 +127,19 @@ hold-gives : (core : Table) (s l : ℕ) (given taken : List WaitEntry) → Sleep
 hold-gives core s l given taken h locks here locked out once put_in taken_out =
     let sleeper = sleeper_of (core.current s) (core.slept_in s l) given in
     let free : (k x : ℕ) → put core.wait_lock l None k ≡ Some x → (k ≢ l) × (core.wait_lock k ≡ Some x)
-        = λ k x w. elim (home-put core.wait_lock l None k x w) [ inl a ↦ absurd (no_some a.1) | inr a ↦ a ] in
+    = λ k x w. elim (home-put core.wait_lock l None k x w) [ inl a ↦ absurd (no_some a.1) | inr a ↦ a ] in
     let away : (x k : ℕ) (v : List WaitEntry) → put_at core.wait_out s l None x k ≡ Some v → (k ≢ l) × (core.wait_out x k ≡ Some v)
-        = λ x k v w. elim (out-put core.wait_out s l None x k v w) [
-          | inl a ↦ absurd (no_some a.2)
-          | inr a ↦ (λ e. a.0 (one_holder core.wait_lock k l x s e (out_lock core.conds core.seats core.wait_lock core.wait core.wait_out x k v locks a.1) locked) e, a.1)
-        ] in
+    = λ x k v w. elim (out-put core.wait_out s l None x k v w) [
+      | inl a ↦ absurd (no_some a.2)
+      | inr a ↦ (λ e. a.0 (one_holder core.wait_lock k l x s e (out_lock core.conds core.seats core.wait_lock core.wait core.wait_out x k v locks a.1) locked) e, a.1)
+    ] in
     let slept : (u k : ℕ) → k ≢ l → put core.asleep s (given_asleep l taken given sleeper (core.asleep s)) (core.cpu u) u k ≡ true → core.asleep (core.cpu u) u k ≡ true
-        = λ u k n a. elim (asleep-given core.asleep s l taken given sleeper (core.cpu u) u k a) [ inl b ↦ absurd (n b.1) | inr b ↦ b.0 ] in
+    = λ u k n a. elim (asleep-given core.asleep s l taken given sleeper (core.cpu u) u k a) [ inl b ↦ absurd (n b.1) | inr b ↦ b.0 ] in
     let has : (u k : ℕ) → k ≡ l → put core.asleep s (given_asleep l taken given sleeper (core.asleep s)) (core.cpu u) u k ≡ true → is_sleep (core.state u) ≡ true → has_task given u ≡ true
-        = λ u k e a z. elim (asleep-given core.asleep s l taken given sleeper (core.cpu u) u k a) [
-          | inl b ↦ sleeper-task (core.current s) (core.slept_in s l) given u b.2
-          | inr b ↦ given-task core s l u given taken h locked out here taken_out (ap (core.asleep (core.cpu u) u) (sym e) ∙ b.0) (λ p. b.1 p e) z
-        ] in
+    = λ u k e a z. elim (asleep-given core.asleep s l taken given sleeper (core.cpu u) u k a) [
+      | inl b ↦ sleeper-task (core.current s) (core.slept_in s l) given u b.2
+      | inr b ↦ given-task core s l u given taken h locked out here taken_out (ap (core.asleep (core.cpu u) u) (sym e) ∙ b.0) (λ p. b.1 p e) z
+    ] in
     record {
       once = record {
         at_home = λ k v w. elim (home-put core.wait l (Some given) k v w) [ inl a ↦ subst (λ z. HasEachOnce z) (some_same given v a.1) once | inr a ↦ h.once.at_home k v a.1 ];
@@ -166,12 +166,12 @@ given_taken : (core : Table) (s k : ℕ) (given taken : List WaitEntry) → Hold
     → (b : Bool) → (b ≡ true → (core.retaken s k ≡ true) × (is_walk (core.passed s k) taken ≡ true)) → SleepersHold (walked_if b (gives core s k given taken) s k)
 given_taken core s k given taken holds may out false walk =
     hold-gives core s k given taken holds.sleepers holds.locks.waits holds.busy.runner.current_here may.locked out may.once
-      (λ x p q. may.put_in taken x out p q) (λ x p q. may.taken_out taken x out p q)
+    (λ x p q. may.put_in taken x out p q) (λ x p q. may.taken_out taken x out p q)
 given_taken core s k given taken holds may out true walk =
     let r = walk refl in
     let walked = hold-walks core s k taken holds.sleepers holds.locks.waits may.locked out r.0 r.1 in
     assumption (hold-gives (noted core s (Walked k)) s k given taken walked holds.locks.waits holds.busy.runner.current_here may.locked out may.once
-      (λ x p q. may.put_in taken x out p q) (λ x p q. may.taken_out taken x out p q))
+    (λ x p q. may.put_in taken x out p q) (λ x p q. may.taken_out taken x out p q))
 
 three_true : (a b c : Bool) → (a && (b && c)) ≡ true → (b ≡ true) × (c ≡ true)
 three_true a b c h = (grind (arith, h), grind (arith, h))
@@ -180,7 +180,7 @@ given_by : (core : Table) (s k : ℕ) (given : List WaitEntry) → Holds core �
 given_by core s k given holds may None out = holds.sleepers
 given_by core s k given holds may (Some taken) out =
     given_taken core s k given taken holds may out (core.owes s k && (core.retaken s k && is_walk (core.passed s k) taken))
-      (λ e. three_true (core.owes s k) (core.retaken s k) (is_walk (core.passed s k) taken) e)
+    (λ e. three_true (core.owes s k) (core.retaken s k) (is_walk (core.passed s k) taken) e)
 
 pub SleepersHold-give_wait : (core : Table) (s k : ℕ) (given : List WaitEntry) → Holds core → MayGiveWait core s k given → SleepersHold (give_wait core s k given)
 SleepersHold-give_wait core s k given holds may = given_by core s k given holds may (core.wait_out s k) refl

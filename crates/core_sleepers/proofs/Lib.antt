@@ -5,6 +5,7 @@ pub mod Moves
 pub mod Opens
 pub mod Passes
 pub mod Placed
+pub mod Plain
 pub mod Safe
 pub mod Still
 pub mod Stores

@@ -10,6 +10,7 @@ use Rattle.core_gives.specs.Waits.{has_task}
 use Rattle.core_invariant.proofs.Puts.{put_here, put_there}
 use Rattle.core_invariant.specs.Sleepers.{SleepersHold, IsAwake, IsSafeBeside}
 use Rattle.core_kinds.specs.Steps.{fresh, is_sleep}
+use Rattle.core_sleepers.proofs.Plain.{both}
 use Rattle.core_sleepers.proofs.Safe.{forgot, forgot-none, safe-forgot, safe-stated, passing-other, safe-here, safe-passing, beside-passing}
 use Rattle.handoff_data.specs.declared.state.State.{State}
 
@@ -53,9 +54,6 @@ by_state P state t new u n h =
       | inr e ↦ subst (λ v. P u v) (sym (put_there state t new u e)) h
     ]
 
-sleeps_apart : (a b : Bool) → a ≡ false → a ≡ true → b ≡ true
-sleeps_apart a b f t = grind (arith, f, t)
-
 pub hold-states : (core : Table) (t : ℕ) (new : State) → SleepersHold core → new ≢ fresh
     → ((k : ℕ) → IsAwake new ⊎ (core.test (core.cpu t) t k ≡ None))
     → ((k : ℕ) → core.asleep (core.cpu t) t k ≡ true → is_sleep new ≡ false)
@@ -68,9 +66,9 @@ hold-states core t new h old safe sleeps =
       safe_passed = λ x k u w p. safe-stated core.state core.cpu core.cond core.test t new k u (safe k) (h.safe_passed x k u w p);
       safe_stored = λ x k u w c o. safe-stated core.state core.cpu core.cond core.test t new k u (safe k) (h.safe_stored x k u w c o);
       entry_home = λ k u entries a z w. by_state (λ v y. core.asleep (core.cpu v) v k ≡ true → is_sleep y ≡ true → core.wait k ≡ Some entries → has_task entries v ≡ true) core.state t new u
-          (λ b y _. sleeps_apart (is_sleep new) (has_task entries t) (sleeps k b) y) (λ b y i. h.entry_home k u entries b y i) a z w;
+          (λ b y _. absurd (both (is_sleep new) y (sleeps k b))) (λ b y i. h.entry_home k u entries b y i) a z w;
       entry_out = λ x k u taken a z w. by_state (λ v y. core.asleep (core.cpu v) v k ≡ true → is_sleep y ≡ true → core.wait_out x k ≡ Some taken → has_task taken v ≡ true) core.state t new u
-          (λ b y _. sleeps_apart (is_sleep new) (has_task taken t) (sleeps k b) y) (λ b y i. h.entry_out x k u taken b y i) a z w;
+          (λ b y _. absurd (both (is_sleep new) y (sleeps k b))) (λ b y i. h.entry_out x k u taken b y i) a z w;
       passed_awake = λ x k u w p a. by_state (λ v y. core.passed x k v ≡ true → core.asleep (core.cpu v) v k ≡ true → is_sleep y ≡ false) core.state t new u
           (λ _ b. sleeps k b) (λ q b. h.passed_awake x k u w q b) p a;
       fresh_slept = λ x u e. by_state (λ v y. y ≡ fresh → core.slept x v ≡ false) core.state t new u (λ f. absurd (old f)) (λ f. h.fresh_slept x u f) e;

@@ -1,5 +1,5 @@
 -- The opening core.
-use Rattle.std.proofs.Common.{◌≡◌, ℕ, zero, suc, ◌+◌, ◌⊎◌, inl, inr, Bool, true, false, List, [], Some, None, refl, sym, ap, subst, ◌∙◌, arith}
+use Rattle.std.proofs.Common.{◌≡◌, ℕ, zero, suc, ◌+◌, ◌⊎◌, inl, inr, true, false, List, [], Some, None, refl, sym, ap, subst, ◌∙◌}
 use Rattle.std.specs.Prelude.{replicate}
 use Rattle.core_data.specs.Entries.{has_entry}
 use Rattle.core_data.specs.Opening.{IsStart, first_task, first_cpu, first_cond, first_seat}
@@ -8,18 +8,10 @@ use Rattle.core_data.specs.declared.values.WaitEntry.{WaitEntry}
 use Rattle.core_data.specs.declared.words.CondWords.{CondWords}
 use Rattle.core_gives.specs.Waits.{HasEachOnce}
 use Rattle.core_invariant.specs.Sleepers.{SleepersHold, shared_entry}
+use Rattle.core_sleepers.proofs.Plain.{both, no_some, some_same}
 use Rattle.handoff_data.specs.Shape.{IsShape}
 use Rattle.handoff_data.specs.declared.mask.CpuMask.{CpuMask}
 use Rattle.handoff_data.specs.declared.shape.Shape.{Shape}
-
-some_same : {A : Type 0} (a b : A) → Some a ≡ Some b → a ≡ b
-some_same a b h = cc
-
-no_some : {A : Type 0} {x : A} → None ≡ Some x → ⊥
-no_some h = cc
-
-both : (b : Bool) → b ≡ true → b ≡ false → ⊥
-both b t f = grind (arith, t, f)
 
 -- a column of equal rows
 column-same : {A B : Type 0} (f : A → B) (d : B) (n : ℕ) (x : A) (k : ℕ) → (column f d (replicate n x) k ≡ f x) ⊎ (column f d (replicate n x) k ≡ d)
@@ -35,13 +27,13 @@ opened : (shape : Shape) (mask : CpuMask) → SleepersHold (table_of shape (repl
 opened shape mask =
     let seats = shape.cpus + shape.agents in
     let home : (k : ℕ) (v : List WaitEntry) → column (λ (w : CondWords). w.wait) None (replicate shape.conds first_cond) k ≡ Some v → v ≡ []
-        = λ k v w. elim (column-same (λ (w : CondWords). w.wait) None shape.conds first_cond k) [ inl e ↦ some_same v [] (sym w ∙ e) | inr e ↦ absurd (no_some (sym e ∙ w)) ] in
+    = λ k v w. elim (column-same (λ (w : CondWords). w.wait) None shape.conds first_cond k) [ inl e ↦ some_same v [] (sym w ∙ e) | inr e ↦ absurd (no_some (sym e ∙ w)) ] in
     let out : (s k : ℕ) (v : List WaitEntry) → column wait_out_of (λ k. None) (replicate seats first_seat) s k ≡ Some v → ⊥
-        = λ s k v w. no_some (sym (ap (λ f. f k) (column-blank wait_out_of (λ k. None) seats first_seat s refl)) ∙ w) in
+    = λ s k v w. no_some (sym (ap (λ f. f k) (column-blank wait_out_of (λ k. None) seats first_seat s refl)) ∙ w) in
     let free : (k s : ℕ) → column (λ (w : CondWords). w.wait_lock) None (replicate shape.conds first_cond) k ≡ Some s → ⊥
-        = λ k s w. no_some (sym (column-blank (λ (w : CondWords). w.wait_lock) None shape.conds first_cond k refl) ∙ w) in
+    = λ k s w. no_some (sym (column-blank (λ (w : CondWords). w.wait_lock) None shape.conds first_cond k refl) ∙ w) in
     let awake : (s t k : ℕ) → column asleep_of (λ t k. false) (replicate seats first_seat) s t k ≡ true → ⊥
-        = λ s t k a. (let e = ap (λ f. f t k) (column-blank asleep_of (λ t k. false) seats first_seat s refl) in both _ a e) in
+    = λ s t k a. (let e = ap (λ f. f t k) (column-blank asleep_of (λ t k. false) seats first_seat s refl) in both _ a e) in
     record {
       once = record {
         at_home = λ k v w. subst (λ z. HasEachOnce z) (sym (home k v w)) tt;

@@ -87,7 +87,8 @@ safe-tested state cpu cond test s t l k u h =
     ]
 
 -- what is owed may change
-pub safe-by : {O P : Type 0} (state : ℕ → State) (cpu cond : ℕ → ℕ) (test : ℕ → ℕ → ℕ → Option ℕ) (k u : ℕ) → (O → IsSafeOr P state cpu cond test k u) → IsSafeOr O state cpu cond test k u → IsSafeOr P state cpu cond test k u
+pub safe-by : {O P : Type 0} (state : ℕ → State) (cpu cond : ℕ → ℕ) (test : ℕ → ℕ → ℕ → Option ℕ) (k u : ℕ)
+    → (O → IsSafeOr P state cpu cond test k u) → IsSafeOr O state cpu cond test k u → IsSafeOr P state cpu cond test k u
 safe-by state cpu cond test k u f h = elim h [ inl a ↦ inl a | inr (inl r) ↦ inr (inl r) | inr (inr o) ↦ f o ]
 
 -- a seat passes t

@@ -8,6 +8,7 @@ use Rattle.core_invariant.proofs.Puts.{put_here, put_there}
 use Rattle.core_invariant.specs.Invariant.{Holds}
 use Rattle.core_invariant.specs.Sleepers.{SleepersHold, IsSafeSleeper, IsSafeBeside}
 use Rattle.core_kinds.specs.Locks.{MayTakeWait, take_wait}
+use Rattle.core_sleepers.proofs.Plain.{no_some}
 use Rattle.core_sleepers.proofs.Safe.{safe-by}
 
 -- what is home after value v was put at l
@@ -15,7 +16,8 @@ pub home-put : {A : Type 0} (home : ℕ → Option A) (l : ℕ) (v : Option A) (
 home-put home l v k x h = elim (cases_eq k l) [ inl e ↦ inl (e, sym (put_here home l v k e) ∙ h) | inr e ↦ inr (e, sym (put_there home l v k e) ∙ h) ]
 
 -- what is out after value v was put at s and l
-pub out-put : {A : Type 0} (out : ℕ → ℕ → Option A) (s l : ℕ) (v : Option A) (y k : ℕ) (x : A) → put_at out s l v y k ≡ Some x → ((y ≡ s) × (k ≡ l) × (v ≡ Some x)) ⊎ (((y ≡ s → k ≢ l)) × (out y k ≡ Some x))
+pub out-put : {A : Type 0} (out : ℕ → ℕ → Option A) (s l : ℕ) (v : Option A) (y k : ℕ) (x : A) → put_at out s l v y k ≡ Some x
+    → ((y ≡ s) × (k ≡ l) × (v ≡ Some x)) ⊎ (((y ≡ s → k ≢ l)) × (out y k ≡ Some x))
 out-put out s l v y k x h =
     elim (cases_eq y s) [
       | inl e ↦ elim (home-put (out s) l v k x (sym (ap (λ f. f k) (put_here out s (put (out s) l v) y e)) ∙ h)) [
@@ -25,10 +27,11 @@ out-put out s l v y k x h =
       | inr e ↦ inr (λ f. absurd (e f), sym (ap (λ f. f k) (put_there out s (put (out s) l v) y e)) ∙ h)
     ]
 
--- the facts of seat s at condition l are all b
+-- what seat s knows at condition l is forgotten
 abbrev pub reset : (ℕ → ℕ → ℕ → Bool) → ℕ → ℕ → ℕ → ℕ → ℕ → Bool
 reset f s l = put f s (λ k t. if k == l then false else f s k t)
 
+-- .. and that it has taken the lock is noted
 abbrev pub retakes : (ℕ → ℕ → Bool) → ℕ → ℕ → ℕ → ℕ → Bool
 retakes f s l = put f s (λ k. if k == l then true else f s k)
 
@@ -75,10 +78,10 @@ SleepersHold-take_wait core s l holds may =
     let h = holds.sleepers in
     record {
       once = record {
-        at_home = λ k v w. elim (home-put core.wait l None k v w) [ inl a ↦ absurd (nothing a.1) | inr a ↦ h.once.at_home k v a.1 ];
+        at_home = λ k v w. elim (home-put core.wait l None k v w) [ inl a ↦ absurd (no_some a.1) | inr a ↦ h.once.at_home k v a.1 ];
         taken = λ x k v w. elim (out-put core.wait_out s l (core.wait l) x k v w) [ inl a ↦ h.once.at_home l v a.2 | inr a ↦ h.once.taken x k v a.1 ];
       };
-      safe_home = λ k u entries w e. elim (home-put core.wait l None k entries w) [ inl a ↦ absurd (nothing a.1) | inr a ↦ safe-taken core s l k u (h.safe_home k u entries a.1 e) ];
+      safe_home = λ k u entries w e. elim (home-put core.wait l None k entries w) [ inl a ↦ absurd (no_some a.1) | inr a ↦ safe-taken core s l k u (h.safe_home k u entries a.1 e) ];
       safe_out = λ x k u taken w e. elim (out-put core.wait_out s l (core.wait l) x k taken w) [
         | inl a ↦ safe-taken core s l k u (h.safe_home k u taken (ap core.wait a.1 ∙ a.2) e)
         | inr a ↦ safe-taken core s l k u (h.safe_out x k u taken a.1 e)
@@ -89,7 +92,7 @@ SleepersHold-take_wait core s l holds may =
       safe_stored = λ x k u w c o.
           let r = reset-true core.own_stored s l x k u o in
           elim (held-other core.wait_lock s l k x w) [ inl a ↦ absurd (r.1 a.1 a.0) | inr a ↦ beside-taken core s l x k u a.0 (h.safe_stored x k u a.1 c r.0) ];
-      entry_home = λ k u entries a z w. elim (home-put core.wait l None k entries w) [ inl b ↦ absurd (nothing b.1) | inr b ↦ h.entry_home k u entries a z b.1 ];
+      entry_home = λ k u entries a z w. elim (home-put core.wait l None k entries w) [ inl b ↦ absurd (no_some b.1) | inr b ↦ h.entry_home k u entries a z b.1 ];
       entry_out = λ x k u taken a z w. elim (out-put core.wait_out s l (core.wait l) x k taken w) [
         | inl b ↦ h.entry_home k u taken a z (ap core.wait b.1 ∙ b.2)
         | inr b ↦ h.entry_out x k u taken a z b.1
@@ -100,6 +103,3 @@ SleepersHold-take_wait core s l holds may =
       fresh_slept = h.fresh_slept;
       fresh_test = h.fresh_test;
     }
-  where
-    nothing : {A : Type 0} {x : A} → None ≡ Some x → ⊥
-    nothing e = cc
