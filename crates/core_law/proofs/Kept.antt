@@ -10,9 +10,12 @@ use Rattle.core_locks.proofs.LocksKept.{LocksHold-body_home, LocksHold-body_out,
 use Rattle.core_locks.proofs.Opening.{BusyHolds-start, LocksHold-start, QueuesHold-start, ShapesHold-start}
 use Rattle.core_locks.proofs.QueuesKept.{QueuesHold-body_home, QueuesHold-body_out, QueuesHold-bump, QueuesHold-claim, QueuesHold-clear_busy, QueuesHold-dequeue_task, QueuesHold-give_queue, QueuesHold-give_task, QueuesHold-give_wait, QueuesHold-give_works, QueuesHold-load_busy, QueuesHold-load_cond, QueuesHold-load_cpu, QueuesHold-load_rq, QueuesHold-load_state, QueuesHold-move_task, QueuesHold-own_state, QueuesHold-queue_task, QueuesHold-release, QueuesHold-set_busy, QueuesHold-store_cpu, QueuesHold-take_queue, QueuesHold-take_task, QueuesHold-take_wait, QueuesHold-take_works}
 use Rattle.core_locks.proofs.ShapesKept.{ShapesHold-body_home, ShapesHold-body_out, ShapesHold-bump, ShapesHold-claim, ShapesHold-clear_busy, ShapesHold-dequeue_task, ShapesHold-give_queue, ShapesHold-give_task, ShapesHold-give_wait, ShapesHold-give_works, ShapesHold-load_busy, ShapesHold-load_cond, ShapesHold-load_cpu, ShapesHold-load_rq, ShapesHold-load_state, ShapesHold-move_task, ShapesHold-own_state, ShapesHold-queue_task, ShapesHold-release, ShapesHold-set_busy, ShapesHold-store_cpu, ShapesHold-take_queue, ShapesHold-take_task, ShapesHold-take_wait, ShapesHold-take_works}
+use Rattle.core_places.proofs.Loads.{PositionsHold-load_busy, PositionsHold-load_rq, PositionsHold-load_state}
 use Rattle.core_places.proofs.Places.{PlacesHold-body_home, PlacesHold-body_out, PlacesHold-bump, PlacesHold-claim, PlacesHold-clear_busy, PlacesHold-dequeue_task, PlacesHold-give_task, PlacesHold-give_works, PlacesHold-load_cpu, PlacesHold-move_task, PlacesHold-queue_task, PlacesHold-release, PlacesHold-set_busy, PlacesHold-store_cpu, PlacesHold-take_queue, PlacesHold-take_task, PlacesHold-take_wait, PlacesHold-take_works}
 use Rattle.core_places.proofs.PlacesByTests.{PlacesHold-give_queue, PlacesHold-give_wait, PlacesHold-load_busy, PlacesHold-load_cond, PlacesHold-load_rq, PlacesHold-load_state, PlacesHold-own_state}
 use Rattle.core_places.proofs.Positions.{PositionsHold-body_home, PositionsHold-body_out, PositionsHold-bump, PositionsHold-claim, PositionsHold-clear_busy, PositionsHold-dequeue_task, PositionsHold-give_task, PositionsHold-give_works, PositionsHold-load_cpu, PositionsHold-move_task, PositionsHold-queue_task, PositionsHold-release, PositionsHold-set_busy, PositionsHold-store_cpu, PositionsHold-take_queue, PositionsHold-take_task, PositionsHold-take_wait, PositionsHold-take_works}
+use Rattle.core_places.proofs.PositionsByTests.{PositionsHold-give_queue, PositionsHold-give_wait, PositionsHold-load_cond, PositionsHold-own_state}
+use Rattle.core_places.proofs.StartOfPlaces.{PlacesHold-start, PositionsHold-start}
 use Rattle.core_sleepers.proofs.Conditions.{SleepersHold-bump, SleepersHold-load_cond, SleepersHold-store_cpu}
 use Rattle.core_sleepers.proofs.Gives.{SleepersHold-give_wait}
 use Rattle.core_sleepers.proofs.Opens.{SleepersHold-start}
