@@ -1,24 +1,23 @@
 -- The laws follow from the invariant.
-use Rattle.std.proofs.Common.{◌≡◌, ◌≢◌, ℕ, zero, suc, ◌+◌, ◌-◌, ◌*◌, ◌%◌, ◌<◌, ◌≤◌, ◌⊎◌, inl, inr, Bool, true, false, List, Option, Some, None, refl, sym, ap, subst, ◌∙◌, if◌then◌else◌, arith}
+use Rattle.std.proofs.Common.{◌≡◌, ◌≢◌, ℕ, ◌+◌, ◌*◌, ◌⊎◌, inl, inr, Bool, true, false, Option, Some, None, refl, sym, subst, ◌∙◌, if◌then◌else◌, arith}
 use Rattle.std.proofs.lemmas.Bool.{cases_eq}
 use Rattle.std.proofs.lemmas.Bool.Decides.{nat_tests}
-use Rattle.core_data.specs.Queue.{Queue}
 use Rattle.core_data.specs.Table.{Table}
-use Rattle.core_gives.specs.Queues.{times, is_at}
+use Rattle.core_gives.specs.Queues.{is_at}
 use Rattle.core_invariant.specs.Invariant.{Holds}
 use Rattle.core_invariant.specs.Journals.{RulesKept}
 use Rattle.core_invariant.specs.Sleepers.{IsOwed, IsSafeSleeper}
 use Rattle.core_journals.specs.Places.{place_of, q_of}
 use Rattle.core_kinds.specs.Steps.{is_sleep, running, waking, dead}
-use Rattle.core_law.specs.Laws.{OneRunAtATime, RunsTakeTurns, StandsOnce, WakesQueueAtMostOnce, NoLostWake, Waits, journals_of}
+use Rattle.core_law.specs.Laws.{OneRunAtATime, StandsOnce, WakesQueueAtMostOnce, NoLostWake, journals_of}
 use Rattle.handoff_data.specs.declared.entry.Entry.{Entry}
 use Rattle.handoff_data.specs.declared.entry.Entry.TheVariants as entry
 use Rattle.handoff_data.specs.declared.place.Q.TheVariants as q
 use Rattle.handoff_data.specs.declared.state.State.{State}
 use Rattle.handoff_data.specs.History.{History}
 use Rattle.handoff_data.specs.Numbers.{Change, Waking, run_of}
-use Rattle.handoff_data.specs.Positions.{Stands, IsIn, IsSomewhere}
-use Rattle.journal_laws.specs.Laws.{AreNumbered, IsRun}
+use Rattle.handoff_data.specs.Positions.{IsSomewhere}
+use Rattle.journal_laws.specs.Laws.{AreNumbered}
 use Rattle.journal_laws.proofs.Kept.{KeepsOrder}
 use Rattle.journal_laws.proofs.Numbering.{Has}
 use Rattle.journal_laws.proofs.Once.{one-position, first-same, second-same}
@@ -88,11 +87,11 @@ at-on core holds t c is =
     let started : core.changes t ≢ 0 = λ new. grind (arith, nat_tests, is, holds.places.new.off t new) in
     grind (arith, nat_tests, is, started)
 
-one-if : (b : Bool) → b ≡ true → (if b then 1 else 0) ≡ 1
+one-if : (b : Bool) → b ≡ true → ◌≡◌ {A = ℕ} (if b then 1 else 0) 1
 one-if true h = refl
 one-if false h = absurd (grind (arith, h))
 
-none-if : (b : Bool) → (b ≡ true → ⊥) → (if b then 1 else 0) ≡ 0
+none-if : (b : Bool) → (b ≡ true → ⊥) → ◌≡◌ {A = ℕ} (if b then 1 else 0) 0
 none-if true h = absurd (h refl)
 none-if false h = refl
 

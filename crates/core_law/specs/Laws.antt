@@ -1,5 +1,5 @@
 -- What the invariant says, in the sentences that an author of a kernel would look for.
-use Rattle.std.specs.Prelude.{◌≡◌, ◌≢◌, ◌+◌, ◌-◌, ◌*◌, ◌<◌, ◌≤◌, ◌⊎◌, ℕ, Bool, true, false, List, Option, Some}
+use Rattle.std.specs.Prelude.{◌≡◌, ◌≢◌, ◌+◌, ◌-◌, ◌*◌, ◌<◌, ◌≤◌, ◌⊎◌, ℕ, Bool, true, false, List, Some}
 use Rattle.core_data.specs.Entries.{has_entry}
 use Rattle.core_data.specs.Queue.{Queue}
 use Rattle.core_data.specs.Table.{Table}
@@ -11,7 +11,7 @@ use Rattle.core_journals.specs.Places.{place_of}
 use Rattle.core_kinds.specs.Steps.{is_sleep}
 use Rattle.handoff_data.specs.History.{History}
 use Rattle.handoff_data.specs.Numbers.{run_of}
-use Rattle.handoff_data.specs.Positions.{Stands, IsIn, IsSomewhere}
+use Rattle.handoff_data.specs.Positions.{Stands, IsSomewhere}
 use Rattle.handoff_data.specs.declared.entry.Entry.TheVariants as entry
 use Rattle.handoff_data.specs.declared.place.Q.TheVariants as q
 use Rattle.journal_laws.specs.Laws.{AreNumbered, IsRun}
