@@ -10,7 +10,7 @@ Ran-push : (core : Table) (events : List Event) (mid : Table) (e : Event) → Ra
 Ran-push core [] mid e ran may = (subst (λ (x : Table). May x e.seat e.step) ran may, ap (λ (x : Table). after x e.seat e.step) ran)
 Ran-push core (x ∷ events) mid e ran may = (ran.0, Ran-push (after core x.seat x.step) events mid e ran.1 may)
 
-taken_one : (events : List Event) (i : ℕ) (e : Event) → i < length events → e ≡ get_or events i e → take i events ++ e ∷ [] ≡ take (i + 1) events
+pub taken_one : (events : List Event) (i : ℕ) (e : Event) → i < length events → e ≡ get_or events i e → take i events ++ e ∷ [] ≡ take (i + 1) events
 taken_one events i e h is = ap (λ (x : Event). take i events ++ x ∷ []) is ∙ sym (take_more events i e h)
 
 pub ran_on : (core : Table) (events : List Event) (i : ℕ) (mid next : Table) (e : Event) → i < length events → e ≡ get_or events i e → Ran core (take i events) mid → May mid e.seat e.step → next ≡ after mid e.seat e.step → Ran core (take (i + 1) events) next

@@ -2,7 +2,8 @@
 
 ghost use Rattle.std.specs.Prelude.{◌≡◌, ◌↔◌, ◌≤◌, Some, IsTrue, OnOk, IfOk, MatchOption, take, length, slice_get};
 ghost use Rattle.core_data.specs.Table.{Table, table};
-ghost use Rattle.handoff_core.specs.Runs.{Ran};
+ghost use Rattle.core_invariant.specs.Invariant.{Holds};
+ghost use Rattle.handoff_core.specs.Runs.{Ran, EachMoves};
 ghost use Rattle.handoff_core.specs.Steps.{May, after, Step};
 ghost use Rattle.handoff_core.specs.declared.event.Event.{Event};
 
@@ -139,10 +140,12 @@ pub struct CoreRun {
 }
 
 /// Takes events up to the first impossible one.
-pub fn run_events(mut core: Core, events: &[Event]) -> Result<CoreRun, NoMemory>
+pub fn law_run(mut core: Core, events: &[Event]) -> Result<CoreRun, NoMemory>
     ensures ran { IfOk result (λ run. Ran (table core) (take run.taken events.now) (table run.core)) }
     ensures within { IfOk result (λ run. run.taken ≤ length events.now) }
     ensures stops { IfOk result (λ run. (e : Event) → slice_get events.now run.taken ≡ Some e → May (table run.core) e.seat e.step → ⊥) }
+    ensures kept { IfOk result (λ run. Holds (table core) → Holds (table run.core)) }
+    ensures moves { IfOk result (λ run. Holds (table core) → EachMoves (table core) (take run.taken events.now)) }
 {
     let mut taken = 0;
     for event in events {

@@ -4,7 +4,7 @@ mod lists;
 mod said;
 mod stops;
 
-use super::{Act, Core, Event, StepKind, run_events, step_core};
+use super::{Act, Core, Event, StepKind, law_run, step_core};
 use handoff_data::{Entry, NoMemory, Shape, State};
 use lists::*;
 use said::Said::*;
@@ -42,7 +42,7 @@ fn start(alloc: Global) -> Result<Core, NoMemory> {
 /// What the events of some lists come to, from the opening core. All of them have to be possible.
 fn run<R: Abort + AllocGlobal>(rt: &R, lists: &[&[Made]]) -> Result<Core, NoMemory> {
     let events = events_of(rt.alloc(), lists)?;
-    let run = run_events(start(rt.alloc())?, events.as_slice())?;
+    let run = law_run(start(rt.alloc())?, events.as_slice())?;
     assert_eq!(rt; run.taken, events.len());
     Ok(run.core)
 }

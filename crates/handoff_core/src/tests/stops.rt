@@ -4,7 +4,7 @@ use super::lists::*;
 use super::said::Said::*;
 use super::said::{Given, Line};
 use super::{events_of, start};
-use crate::run_events;
+use crate::law_run;
 use handoff_data::{CpuNo, NoMemory, State, TaskNo};
 use std::process::Abort;
 use std::test::Fail;
@@ -19,7 +19,7 @@ fn stop<R: Abort + AllocGlobal>(
         let mut events = events_of(rt.alloc(), way)?;
         let possible = events.len();
         events.append(&mut events_of(rt.alloc(), &[&[*act]])?)?;
-        let run = run_events(start(rt.alloc())?, events.as_slice())?;
+        let run = law_run(start(rt.alloc())?, events.as_slice())?;
         assert_eq!(rt; run.taken, possible, "{what}");
     }
     Ok(())

@@ -3,7 +3,7 @@ use Rattle.std.proofs.lemmas.Option.{slice_get_past}
 use Rattle.core_data.specs.Table.{table}
 use Rattle.handoff_core.specs.Steps.{May}
 use Rattle.handoff_core.proofs.RunLemmas.{ran_on}
-use Rattle.handoff_core.proofs.run.run_events.Goals as goal
+use Rattle.handoff_core.proofs.run.law_run.Goals as goal
 
 pub loop-event-preserved : goal.loop-event-preserved
 loop-event-preserved c =
@@ -18,3 +18,9 @@ loop-event-preserved c =
 pub returns-clause-stops : goal.returns-clause-stops
 returns-clause-stops c =
     λ e h may. let none = slice_get_past c.args.events.now c.loop-event.taken (omega arith) in grind (arith, none, h)
+
+pub returns-clause-kept : goal.returns-clause-kept
+returns-clause-kept c = ?
+
+pub returns-clause-moves : goal.returns-clause-moves
+returns-clause-moves c = ?

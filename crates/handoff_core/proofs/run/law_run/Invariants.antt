@@ -1,7 +1,7 @@
 use Rattle.std.proofs.Common.{◌≡◌, take}
 use Rattle.core_data.specs.Table.{table}
 use Rattle.handoff_core.specs.Runs.{Ran}
-use Rattle.handoff_core.proofs.run.run_events.Given as goal
+use Rattle.handoff_core.proofs.run.law_run.Given as goal
 
 abbrev pub invariant-loop-event : goal.invariant-loop-event
 invariant-loop-event l = record {
