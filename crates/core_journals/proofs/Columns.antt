@@ -1,6 +1,6 @@
 -- What the words of tasks say of the journals, after an entry more, or after a store of a word of task t.
-use Rattle.std.proofs.Common.{◌≡◌, ◌≢◌, ℕ, zero, ◌+◌, ◌<◌, ◌≤◌, ◌⊎◌, inl, inr, Option, Some, None, refl, sym, subst, ap, ◌∙◌, arith}
-use Rattle.std.specs.Prelude.{◌%◌, ◌^◌, Bool, true, false, if◌then◌else◌}
+use Rattle.std.proofs.Common.{◌≡◌, ◌≢◌, ℕ, ◌+◌, ◌<◌, ◌≤◌, inl, inr, Option, Some, None, sym, ap, ◌∙◌, arith}
+use Rattle.std.specs.Prelude.{◌^◌, Bool, false, if◌then◌else◌}
 use Rattle.std.proofs.lemmas.Bool.Decides.{nat_tests}
 use Rattle.core_data.specs.Table.{put}
 use Rattle.core_invariant.specs.Journals.{Numbered, LastChanges, Wakes, LastRuns}
@@ -8,8 +8,8 @@ use Rattle.core_invariant.proofs.Logs.{Logged}
 use Rattle.core_journals.proofs.Kept.{IsNoList}
 use Rattle.core_journals.proofs.NewEntries.{same-first, same-second}
 use Rattle.core_journals.proofs.Rows.{rows, LastRow, WakeRow, RunRow, last-row, last-rows, wake-row, wake-rows, run-row, run-rows}
-use Rattle.core_journals.proofs.RowsKept.{LastRow-log, LastRow-lock, LastRow-new, LastRow-wakes, LastRow-clear, LastRow-cpu, WakeRow-log, WakeRow-change, WakeRow-still, WakeRow-wakes, RunRow-log, RunRow-cpu}
-use Rattle.core_kinds.specs.Steps.{waking, dead}
+use Rattle.core_journals.proofs.RowsKept.{LastRow-log, LastRow-lock, LastRow-cpu, WakeRow-log, WakeRow-change, WakeRow-still, WakeRow-wakes, RunRow-log, RunRow-cpu}
+use Rattle.core_kinds.specs.Steps.{waking}
 use Rattle.handoff_data.specs.History.{History}
 use Rattle.handoff_data.specs.Numbers.{change_of, run_of}
 use Rattle.handoff_data.specs.Positions.{Stands}

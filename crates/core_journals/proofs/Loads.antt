@@ -1,11 +1,9 @@
 -- Loads, and the steps of conditions.
-use Rattle.std.proofs.Common.{◌≡◌, ◌≢◌, ℕ, ◌<◌, ◌++◌, ◌∷◌, [], List, length, Option, Some, None, refl, arith}
+use Rattle.std.proofs.Common.{ℕ, ◌<◌, length, Option, Some, None, refl, arith}
 use Rattle.std.specs.Prelude.{◌==◌, ◌&&◌, Bool, true, false}
 use mathlib.Core.Bool.{not}
-use Rattle.core_data.specs.Noted.{noted}
 use Rattle.core_data.specs.Table.{Table}
-use Rattle.core_data.specs.declared.act.Act.{Act}
-use Rattle.core_data.specs.declared.act.Act.TheVariants.{TookTask, Renewed, StoredWord, Matched, SawOff, Claimed, SawClear, SawRest, SawRestOff, SawRestIdle, TookQueue, Queued, Dequeued, Picked, TookWait, OwnStored, Slept, Passed, Bumped, Walked}
+use Rattle.core_data.specs.declared.act.Act.TheVariants.{Matched, SawOff, SawClear, SawRest, SawRestOff, SawRestIdle, Passed}
 use Rattle.core_data.specs.declared.pos.TaskReads.{TaskReads}
 use Rattle.core_invariant.specs.Invariant.{Holds}
 use Rattle.core_invariant.specs.Journals.{JournalsHold}

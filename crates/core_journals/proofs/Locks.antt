@@ -1,5 +1,5 @@
 -- Steps that take and give locks.
-use Rattle.std.proofs.Common.{◌≡◌, ◌≢◌, ℕ, inl, inr, Option, Some, None, List, arith}
+use Rattle.std.proofs.Common.{ℕ, inl, inr, Option, Some, None, List}
 use Rattle.std.specs.Prelude.{◌&&◌, Bool, true, false}
 use Rattle.core_data.specs.Queue.{Queue}
 use Rattle.core_data.specs.Table.{Table, put, put_at}
@@ -7,14 +7,13 @@ use Rattle.core_data.specs.declared.values.TaskVal.{TaskVal}
 use Rattle.core_data.specs.declared.values.WaitEntry.{WaitEntry}
 use Rattle.core_data.specs.declared.values.WorkItem.{WorkItem}
 use Rattle.core_gives.specs.Queues.{MayGiveQueue, give_queue, give_up_if, gives_up}
-use Rattle.core_gives.specs.Waits.{MayGiveWait, give_wait, give_by, give_taken, walked_if, is_walk, sleeper_of}
+use Rattle.core_gives.specs.Waits.{MayGiveWait, give_wait, give_by, walked_if, is_walk}
 use Rattle.core_invariant.specs.Invariant.{Holds}
 use Rattle.core_invariant.specs.Journals.{JournalsHold}
 use Rattle.core_journals.proofs.Columns.{LastChanges-lock, Wakes-lock}
 use Rattle.core_journals.proofs.States.{unlocked-still, unlocked-settled}
-use Rattle.core_kinds.specs.Locks.{MayTakeTask, take_task, MayGiveTask, give_task, MayTakeQueue, take_queue, MayTakeWorks, take_works, MayGiveWorks, give_works, MayTakeWait, take_wait, unseen}
+use Rattle.core_kinds.specs.Locks.{MayTakeTask, take_task, MayGiveTask, give_task, MayTakeQueue, take_queue, MayTakeWorks, take_works, MayGiveWorks, give_works, MayTakeWait, take_wait}
 use Rattle.core_kinds.specs.Running.{MayBodyOut, body_out, MayBodyHome, body_home}
-use Rattle.core_kinds.specs.Steps.{waking}
 
 pub JournalsHold-take_task : (core : Table) (s t : ℕ) → Holds core → MayTakeTask core s t → JournalsHold (take_task core s t)
 JournalsHold-take_task core s t holds may =

@@ -1,12 +1,11 @@
 -- The new entries: each may be the next in its journal.
-use Rattle.std.proofs.Common.{◌≡◌, ◌≢◌, ℕ, ◌+◌, ◌-◌, ◌<◌, ◌≤◌, ◌⊎◌, inl, inr, Option, Some, None, refl, sym, subst, ap, ◌∙◌, arith}
+use Rattle.std.proofs.Common.{◌≡◌, ◌≢◌, ℕ, ◌+◌, ◌-◌, ◌<◌, refl, sym, subst, ◌∙◌, arith}
 use Rattle.std.specs.Prelude.{◌%◌, Bool, true, false}
 use Rattle.core_invariant.specs.Journals.{EachKeeps, Numbered, LastRuns}
-use Rattle.core_journals.proofs.Kept.{IsNoList}
 use Rattle.core_journals.proofs.NewEntries.{unlike-change, unlike-run, unlike-none, highest-change, highest-run, highest-none, wake-found}
 use Rattle.core_journals.proofs.RulesLog.{IsNext}
 use Rattle.handoff_data.specs.History.{History}
-use Rattle.handoff_data.specs.Numbers.{change_of, run_of, identity}
+use Rattle.handoff_data.specs.Numbers.{change_of, run_of}
 use Rattle.handoff_data.specs.Positions.{Stands, IsIn, IsBefore, IsSomewhere}
 use Rattle.handoff_data.specs.Rules.{RisesInJournal, IsQueued, IsSleep, IsListed, IsRunning}
 use Rattle.handoff_data.specs.declared.entry.Entry.{Entry}

@@ -1,11 +1,11 @@
 -- The rules after one entry more, which follows from what stands before it.
-use Rattle.std.proofs.Common.{◌≡◌, ◌≢◌, ℕ, ◌<◌, ◌≤◌, ◌⊎◌, inl, inr, Option, Some, refl, sym, subst, ap, ◌∙◌, arith}
+use Rattle.std.proofs.Common.{◌≡◌, ◌≢◌, ℕ, ◌<◌, inl, inr, Option, Some, refl, sym, subst, ap, ◌∙◌, arith}
 use Rattle.core_invariant.specs.Journals.{EachKeeps, RulesKept}
 use Rattle.core_invariant.proofs.Logs.{Logged}
 use Rattle.core_journals.proofs.Kept.{IsNoList, IsUpTo, below-old, range-old, chained-old, caused-old, alternate-old, leaves-old}
 use Rattle.handoff_data.specs.History.{History}
 use Rattle.handoff_data.specs.Numbers.{change_of, run_of, identity, Identity}
-use Rattle.handoff_data.specs.Positions.{Stands, IsEarlier}
+use Rattle.handoff_data.specs.Positions.{Stands}
 use Rattle.handoff_data.specs.Rules.{InRange, NotRepeated, Chained, Caused, RisesInJournal, RunsAlternate, LeavesWhileRunning}
 use Rattle.handoff_data.specs.declared.entry.Entry.{Entry}
 

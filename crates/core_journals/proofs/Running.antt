@@ -1,12 +1,10 @@
 -- Running steps: stores of the queue word and of the busy word of a task, each with its entry.
-use Rattle.std.proofs.Common.{◌≡◌, ◌≢◌, ℕ, ◌+◌, ◌<◌, ◌⊎◌, inl, inr, ◌++◌, ◌∷◌, [], List, length, Option, Some, None, refl, sym, subst, ap, arith}
-use Rattle.std.specs.Prelude.{◌==◌, ◌^◌, Bool, true, false}
+use Rattle.std.proofs.Common.{◌≡◌, ◌≢◌, ℕ, ◌+◌, ◌<◌, inl, inr, ◌++◌, ◌∷◌, [], length, Option, Some, None, refl, sym, subst, ap, arith}
+use Rattle.std.specs.Prelude.{◌^◌, true, false}
 use Rattle.std.proofs.lemmas.Bool.{cases_eq}
 use Rattle.std.proofs.lemmas.Bool.Decides.{nat_tests}
-use Rattle.core_data.specs.Noted.{noted}
 use Rattle.core_data.specs.Queue.{Queue}
 use Rattle.core_data.specs.Table.{Table, put}
-use Rattle.core_data.specs.declared.act.Act.TheVariants.{Queued, Dequeued}
 use Rattle.core_invariant.proofs.Logs.{Logged, logged, history-tasks, history-cpus}
 use Rattle.core_invariant.specs.Histories.{history}
 use Rattle.core_invariant.specs.Invariant.{Holds}
@@ -17,11 +15,11 @@ use Rattle.core_journals.proofs.Rows.{LastRow, last-row}
 use Rattle.core_journals.proofs.RowsKept.{LastRow-queued, LastRow-moving, LastRow-sleeps, LastRow-dies, LastRow-clear, RunRow-pick, RunRow-finish}
 use Rattle.core_journals.proofs.RulesLog.{IsNext, RulesKept-log}
 use Rattle.core_journals.proofs.States.{waking-sleep, waking-dead, sleep-dead}
-use Rattle.core_kinds.specs.Running.{store_rq, MayQueue, queue_entry, queue_task, MayLeave, MayDequeue, is_dead, dequeue_entry, dequeue_task, MayMove, move_task, MaySetBusy, set_busy, MayClearBusy, clear_busy}
+use Rattle.core_kinds.specs.Running.{store_rq, MayQueue, queue_entry, queue_task, MayLeave, MayDequeue, dequeue_entry, dequeue_task, MayMove, move_task, MaySetBusy, set_busy, MayClearBusy, clear_busy}
 use Rattle.core_kinds.specs.Steps.{waking, dead, is_sleep}
 use Rattle.handoff_data.specs.History.{History}
 use Rattle.handoff_data.specs.Numbers.{change_of, run_of}
-use Rattle.handoff_data.specs.Positions.{Stands, IsIn, IsBefore}
+use Rattle.handoff_data.specs.Positions.{Stands, IsIn}
 use Rattle.handoff_data.specs.Rules.{IsQueued, IsListed, IsRunning}
 use Rattle.handoff_data.specs.declared.entry.Entry.{Entry}
 use Rattle.handoff_data.specs.declared.entry.Entry.TheVariants as entry

@@ -1,9 +1,7 @@
 -- The steps that move no task.
-use Rattle.std.proofs.Common.{◌≡◌, ◌≢◌, ℕ, ◌≤◌, ◌⊎◌, inl, inr, ◌++◌, ◌∷◌, [], Option, Some, None, List, refl, sym, subst, ap, ◌∙◌, arith}
+use Rattle.std.proofs.Common.{◌≡◌, ◌≢◌, ℕ, inl, inr, ◌++◌, ◌∷◌, [], Option, Some, None, List, refl, sym, ap, ◌∙◌}
 use Rattle.std.specs.Prelude.{◌==◌, ◌&&◌, Bool, true, false, if◌then◌else◌}
-use Rattle.std.proofs.lemmas.Bool.{cases_eq}
 use mathlib.Core.Bool.{not}
-use Rattle.core_data.specs.Noted.{noted}
 use Rattle.core_data.specs.Queue.{Queue}
 use Rattle.core_data.specs.Table.{Table, put, put_at}
 use Rattle.core_data.specs.declared.act.Act.TheVariants.{Matched, SawOff, SawClear, SawRest, SawRestOff, SawRestIdle, Passed}
@@ -19,7 +17,7 @@ use Rattle.core_journals.proofs.PlacesKept.{q-lock, q-state, q-cpu, b-idle, same
 use Rattle.core_journals.proofs.Rows.{rows}
 use Rattle.core_journals.proofs.States.{unlocked-still, unlocked-settled}
 use Rattle.core_journals.proofs.Waking.{placed-anew}
-use Rattle.core_journals.specs.Places.{q_of, busy_at, place, place_of, MovesNone, AllStay, OneMoveOrNone}
+use Rattle.core_journals.specs.Places.{place, place_of, OneMoveOrNone}
 use Rattle.core_kinds.specs.Locks.{MayTakeTask, take_task, MayGiveTask, give_task, MayTakeQueue, take_queue, MayTakeWorks, take_works, MayGiveWorks, give_works, MayTakeWait, take_wait}
 use Rattle.core_kinds.specs.Running.{MayBodyOut, body_out, MayBodyHome, body_home}
 use Rattle.core_kinds.specs.Steps.{running, waking, normal, is_match, is_sleep}
