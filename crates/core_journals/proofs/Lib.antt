@@ -1,5 +1,6 @@
 pub mod Columns
 pub mod Kept
+pub mod Lawful
 pub mod Loads
 pub mod Locks
 pub mod NewEntries

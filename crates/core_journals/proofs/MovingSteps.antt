@@ -57,7 +57,8 @@ queue-moves core s c t holds may = elim (cases_eq (core.changes t) 0) [
       | inr r ↦ elim r [
         | inl w ↦
             let idle = woken-idle core s t holds may.task_locked m w.0 w.1 w.2 in
-            onto core s c t (entry.Enq t (core.changes t + 1) c false) may.here idle (q-waking (core.changes t) (core.on_rq t) (core.state t) (core.cpu t) (core.lock t) s m w.0 w.1 may.task_locked, b-idle (core.on_cpu t) (core.cpu t) idle) refl
+            onto core s c t (entry.Enq t (core.changes t + 1) c false) may.here idle
+              (q-waking (core.changes t) (core.on_rq t) (core.state t) (core.cpu t) (core.lock t) s m w.0 w.1 may.task_locked, b-idle (core.on_cpu t) (core.cpu t) idle) refl
         | inr b ↦ absurd (h b)
       ]
     ]))
@@ -101,7 +102,8 @@ dequeue-seen core s t (Some x) holds may q h =
 
 dequeue-own : (core : Table) (s t : ℕ) → Holds core → MayDequeue core s s t → OneMoveOrNone s core (dequeue_task core s s t)
 dequeue-own core s t holds may =
-    let m = dequeue-seen core s t (core.seen s) holds may refl may.seen in inr (record { task = m.task; entry = m.entry; of_task = m.of_task; moves = m.moves; others = m.others; own_journal = m.own_journal; other_journals = m.other_journals })
+    let m = dequeue-seen core s t (core.seen s) holds may refl may.seen in
+    inr (record { task = m.task; entry = m.entry; of_task = m.of_task; moves = m.moves; others = m.others; own_journal = m.own_journal; other_journals = m.other_journals })
 
 pub Moves-dequeue_task : (core : Table) (s c t : ℕ) → Holds core → MayDequeue core s c t → OneMoveOrNone s core (dequeue_task core s c t)
 Moves-dequeue_task core s c t holds may = subst (λ z. MayDequeue core s z t → OneMoveOrNone s core (dequeue_task core s z t)) may.own (dequeue-own core s t holds) may

@@ -1,6 +1,6 @@
 -- The rules after one entry more, which follows from what stands before it.
 use Rattle.std.proofs.Common.{◌≡◌, ◌≢◌, ℕ, ◌<◌, inl, inr, Option, Some, refl, sym, subst, ap, ◌∙◌, arith}
-use Rattle.core_invariant.specs.Journals.{EachKeeps, RulesKept}
+use Rattle.core_invariant.specs.Journals.{EachKeeps, RulesKept, IsPlain, PlainEntries}
 use Rattle.core_invariant.proofs.Logs.{Logged}
 use Rattle.core_journals.proofs.Kept.{IsNoList, IsUpTo, below-old, range-old, chained-old, caused-old, alternate-old, leaves-old}
 use Rattle.handoff_data.specs.History.{History}
@@ -19,6 +19,7 @@ IsHighest number before s e = (t m : ℕ) → number e ≡ Some (t, m) → (i m'
 
 -- The entry may be the next in the journal of s: it keeps each rule.
 pub record IsNext (before : History) (s n : ℕ) (e : Entry) : Type 0 where
+  pub plain : IsPlain e
   pub in_range : InRange before s n e
   pub unlike : IsUnlike before e
   pub chained : Chained before s n e
@@ -82,3 +83,6 @@ RulesKept-log l p new =
       runs_alternate = each-log RunsAlternate l (λ k i x up. alternate-old l k i x) p.runs_alternate new.alternates;
       leaves_while_running = each-log LeavesWhileRunning l (λ k i x up. leaves-old l k i x up) p.leaves_while_running new.leaves;
     }
+
+pub plain-log : {before after : History} {s n : ℕ} {e : Entry} → Logged before after s n e → PlainEntries before → IsPlain e → PlainEntries after
+plain-log l p new k i x h = elim (l.log k i x h) [ inl a ↦ p k i x a | inr b ↦ subst IsPlain (sym b.2) new ]

@@ -31,6 +31,7 @@ nothing core u s i e h =
 unmoved-holds : (core : Table) → Unmoved core → JournalsHold core
 unmoved-holds core u =
     record {
+      plain = λ s i e h. absurd (nothing core u s i e h);
       rules = record {
         in_range = λ s i e h. absurd (nothing core u s i e h);
         not_repeated = λ s i e h. absurd (nothing core u s i e h);

@@ -6,7 +6,8 @@ use Rattle.core_data.specs.Noted.{noted}
 use Rattle.core_data.specs.Queue.{Queue}
 use Rattle.core_data.specs.Table.{Table, put, put_at}
 use Rattle.core_data.specs.declared.act.Act.{Act}
-use Rattle.core_data.specs.declared.act.Act.TheVariants.{TookTask, Renewed, StoredWord, Matched, SawOff, Claimed, SawClear, SawRest, SawRestOff, SawRestIdle, TookQueue, Queued, Dequeued, Picked, TookWait, OwnStored, Slept, Passed, Bumped, Walked}
+use Rattle.core_data.specs.declared.act.Act.TheVariants.{TookTask, Renewed, StoredWord, Matched, SawOff, Claimed, SawClear, SawRest, SawRestOff, SawRestIdle, TookQueue, Queued, Dequeued}
+use Rattle.core_data.specs.declared.act.Act.TheVariants.{Picked, TookWait, OwnStored, Slept, Passed, Bumped, Walked}
 use Rattle.core_data.specs.declared.pos.TaskReads.{TaskReads}
 use Rattle.core_data.specs.declared.values.TaskVal.{TaskVal}
 use Rattle.core_data.specs.declared.values.WaitEntry.{WaitEntry}
@@ -24,7 +25,8 @@ use Rattle.core_kinds.specs.Locks.{MayTakeTask, take_task, MayGiveTask, give_tas
 use Rattle.core_kinds.specs.Running.{MayBodyOut, body_out, MayBodyHome, body_home}
 use Rattle.core_kinds.specs.Steps.{running, waking, normal, is_match, is_sleep}
 use Rattle.core_kinds.specs.Waking.{MayOwnState, own_state, slept_if, ran_if, MayRelease, release}
-use Rattle.core_kinds.specs.Waking.{MayLoad, MayLoadState, load_state, load_this, is_own_read, is_matched, is_refused, noted_if, logged_if, seen_if, load_rq, load_rq_so, load_busy, load_busy_so, load_cpu, MayStoreCpu, store_cpu, MayBump, bump, tested_if, test_by, load_cond}
+use Rattle.core_kinds.specs.Waking.{MayLoad, MayLoadState, load_state, load_this, is_own_read, is_matched, is_refused, noted_if, logged_if, seen_if, load_rq, load_rq_so, load_busy, load_busy_so}
+use Rattle.core_kinds.specs.Waking.{load_cpu, MayStoreCpu, store_cpu, MayBump, bump, tested_if, test_by, load_cond}
 use Rattle.handoff_data.specs.declared.entry.Entry.{Entry}
 use Rattle.handoff_data.specs.declared.entry.Entry.TheVariants as entry
 use Rattle.handoff_data.specs.declared.state.State.{State}
