@@ -92,7 +92,7 @@ read-state : (core : Table) (s t : ℕ) (mask : Option State) (own : Bool) (old 
 read-state core s t mask own old state r =
     let p = r.journals in
     refuse (is_refused state mask) _ s t state (note-passed (not (is_match state normal)) _ s t t (note-saw-rest (not (state.0 == 0x200)) _ s t t (note-matched (is_matched state mask) _ s t t (see own _ s t state (
-      record { journals = record { plain = p.plain; rules = p.rules; numbered = p.numbered; last_changes = p.last_changes; wakes = p.wakes; last_runs = p.last_runs }; seat = r.seat; task = r.task })))))
+    record { journals = record { plain = p.plain; rules = p.rules; numbered = p.numbered; last_changes = p.last_changes; wakes = p.wakes; last_runs = p.last_runs }; seat = r.seat; task = r.task })))))
 
 pub JournalsHold-load_state : (core : Table) (s t : ℕ) (mask : Option State) → Holds core → MayLoadState core s t mask → JournalsHold (load_state core s t mask)
 JournalsHold-load_state core s t mask holds may =
@@ -102,7 +102,7 @@ read-rq : (core : Table) (s t : ℕ) (fresh rests : Bool) (old : TaskReads) (on 
 read-rq core s t fresh rests old on m r =
     let p = r.journals in
     (note-saw-rest-off ((on == 0) && rests) _ s t t (note-saw-off ((on == 0) && fresh) _ s t t (
-      record { journals = record { plain = p.plain; rules = p.rules; numbered = p.numbered; last_changes = p.last_changes; wakes = p.wakes; last_runs = p.last_runs }; seat = r.seat; task = r.task }))).journals
+    record { journals = record { plain = p.plain; rules = p.rules; numbered = p.numbered; last_changes = p.last_changes; wakes = p.wakes; last_runs = p.last_runs }; seat = r.seat; task = r.task }))).journals
 
 pub JournalsHold-load_rq : (core : Table) (s t : ℕ) → Holds core → MayLoad core s t → JournalsHold (load_rq core s t)
 JournalsHold-load_rq core s t holds may =
@@ -112,7 +112,7 @@ read-busy : (core : Table) (s t : ℕ) (rests : Bool) (old : TaskReads) (busy : 
 read-busy core s t rests old busy r =
     let p = r.journals in
     (note-saw-rest-idle (not busy && rests) _ s t t (note-saw-clear (not busy) _ s t t (
-      record { journals = record { plain = p.plain; rules = p.rules; numbered = p.numbered; last_changes = p.last_changes; wakes = p.wakes; last_runs = p.last_runs }; seat = r.seat; task = r.task }))).journals
+    record { journals = record { plain = p.plain; rules = p.rules; numbered = p.numbered; last_changes = p.last_changes; wakes = p.wakes; last_runs = p.last_runs }; seat = r.seat; task = r.task }))).journals
 
 pub JournalsHold-load_busy : (core : Table) (s t : ℕ) → Holds core → MayLoad core s t → JournalsHold (load_busy core s t)
 JournalsHold-load_busy core s t holds may =

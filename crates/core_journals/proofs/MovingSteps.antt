@@ -58,7 +58,7 @@ queue-moves core s c t holds may = elim (cases_eq (core.changes t) 0) [
         | inl w ↦
             let idle = woken-idle core s t holds may.task_locked m w.0 w.1 w.2 in
             onto core s c t (entry.Enq t (core.changes t + 1) c false) may.here idle
-              (q-waking (core.changes t) (core.on_rq t) (core.state t) (core.cpu t) (core.lock t) s m w.0 w.1 may.task_locked, b-idle (core.on_cpu t) (core.cpu t) idle) refl
+            (q-waking (core.changes t) (core.on_rq t) (core.state t) (core.cpu t) (core.lock t) s m w.0 w.1 may.task_locked, b-idle (core.on_cpu t) (core.cpu t) idle) refl
         | inr b ↦ absurd (h b)
       ]
     ]))

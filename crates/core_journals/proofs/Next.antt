@@ -182,8 +182,14 @@ next-finish j {runs = runs} s n t p task cpu odd pick =
 pub running-now : (j : History) {on_cpu : ℕ → Bool} {changes runs cpu : ℕ → ℕ} (s n t : ℕ) → LastRuns j on_cpu runs cpu → Numbered j changes runs → EachKeeps RisesInJournal j → on_cpu t ≡ true → cpu t ≡ s
     → ((i : ℕ) (x : Entry) → Stands j s i x → i < n) → IsRunning j s n t
 running-now j {runs = runs} s n t p numbered rises busy here within =
-    let pick : IsIn j s (entry.Pick t (runs t) s) = subst (λ z. IsIn j z (entry.Pick t (runs t) z)) here (p.busy t busy) in
-    (pick.0, runs t, s, within pick.0 _ pick.1, pick.1, λ k m x later lt g is.
-      let above = (rises s k x g).runs t m is pick.0 (runs t) _ later pick.1 refl in
-      let below = numbered.run s k x t m g is in
-      omega (arith, above, below))
+    let pick : IsIn j s (entry.Pick t (runs t) s) = subst (λ z. IsIn j z (entry.Pick t (runs t) z)) here (p.busy t busy) in (
+      pick.0,
+      runs t,
+      s,
+      within pick.0 _ pick.1,
+      pick.1,
+      λ k m x later lt g is.
+          let above = (rises s k x g).runs t m is pick.0 (runs t) _ later pick.1 refl in
+          let below = numbered.run s k x t m g is in
+          omega (arith, above, below),
+    )

@@ -63,13 +63,13 @@ rises-log : {before after : History} {s n : ℕ} {e : Entry} → Logged before a
 rises-log {before} {after} {s} {n} {e} l p changes runs =
     λ k i x h. elim (l.log k i x h) [
       | inl a ↦ let up = up-old l k i x a in record {
-          changes = λ t m c j m' x' lt g. (p k i x a).changes t m c j m' x' lt (below-old l k i j x' up lt g);
-          runs = λ t m c j m' x' lt g. (p k i x a).runs t m c j m' x' lt (below-old l k i j x' up lt g);
-        }
+        changes = λ t m c j m' x' lt g. (p k i x a).changes t m c j m' x' lt (below-old l k i j x' up lt g);
+        runs = λ t m c j m' x' lt g. (p k i x a).runs t m c j m' x' lt (below-old l k i j x' up lt g);
+      }
       | inr b ↦ let up = up-new s n k i b.1 in record {
-          changes = λ t m c j m' x' lt g. changes t m (ap change_of (sym b.2) ∙ c) j m' x' (subst (λ z. Stands before z j x') b.0 (below-old l k i j x' up lt g));
-          runs = λ t m c j m' x' lt g. runs t m (ap run_of (sym b.2) ∙ c) j m' x' (subst (λ z. Stands before z j x') b.0 (below-old l k i j x' up lt g));
-        }
+        changes = λ t m c j m' x' lt g. changes t m (ap change_of (sym b.2) ∙ c) j m' x' (subst (λ z. Stands before z j x') b.0 (below-old l k i j x' up lt g));
+        runs = λ t m c j m' x' lt g. runs t m (ap run_of (sym b.2) ∙ c) j m' x' (subst (λ z. Stands before z j x') b.0 (below-old l k i j x' up lt g));
+      }
     ]
 
 pub RulesKept-log : {before after : History} {s n : ℕ} {e : Entry} → Logged before after s n e → RulesKept before → IsNext before s n e → RulesKept after

@@ -8,7 +8,6 @@ use Rattle.core_invariant.specs.Invariant.{Holds}
 use Rattle.core_kinds.specs.Steps.{waking, dead, is_sleep, IsRunnable}
 use Rattle.handoff_data.specs.declared.state.State.{State}
 
-
 pub waking-runnable : (x : State) → x ≡ waking → IsRunnable x → ⊥
 waking-runnable x h r = let q = ap (λ (y : State). y.0) h in grind (arith, q, r)
 

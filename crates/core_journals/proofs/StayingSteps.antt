@@ -48,7 +48,7 @@ stays-lock : (core : Table) (t : ℕ) (new : Option ℕ) → Holds core → core
     → place (core.changes u) (core.on_rq u) (core.state u) (core.cpu u) (put core.lock t new u) (core.on_cpu u) ≡ place_of core u
 stays-lock core t new holds still off =
     rows t (λ u b. place (core.changes u) (core.on_rq u) (core.state u) (core.cpu u) (if b then new else core.lock u) (core.on_cpu u) ≡ place_of core u)
-      (same-place _ _ _ _ (q-lock (core.changes t) (core.on_rq t) (core.state t) (core.cpu t) (core.lock t) new (holds.places.on_rq t) still off) refl) (λ u q. refl)
+    (same-place _ _ _ _ (q-lock (core.changes t) (core.on_rq t) (core.state t) (core.cpu t) (core.lock t) new (holds.places.on_rq t) still off) refl) (λ u q. refl)
 
 pub Moves-take_task : (core : Table) (s t : ℕ) → Holds core → MayTakeTask core s t → OneMoveOrNone s core (take_task core s t)
 Moves-take_task core s t holds may =
@@ -108,7 +108,7 @@ stays-state : (core : Table) (t : ℕ) (new : State) → (core.changes t ≢ 0 �
     → place (core.changes u) (core.on_rq u) (put core.state t new u) (core.cpu u) (core.lock u) (core.on_cpu u) ≡ place_of core u
 stays-state core t new h =
     rows t (λ u b. place (core.changes u) (core.on_rq u) (if b then new else core.state u) (core.cpu u) (core.lock u) (core.on_cpu u) ≡ place_of core u)
-      (same-place _ _ _ _ (q-state (core.changes t) (core.on_rq t) (core.state t) new (core.cpu t) (core.lock t) h) refl) (λ u q. refl)
+    (same-place _ _ _ _ (q-state (core.changes t) (core.on_rq t) (core.state t) new (core.cpu t) (core.lock t) h) refl) (λ u q. refl)
 
 stays-slept : (b : Bool) (core next : Table) (s t : ℕ) → Quiet core next → Quiet core (slept_if b next s t)
 stays-slept true core next s t p = record { places = p.places; journals = p.journals }
@@ -201,7 +201,7 @@ Moves-store_cpu core s t c holds may =
     let anew = placed-anew core s t c holds may in
     stays s core _ (record {
       places = rows t (λ u b. place (core.changes u) (core.on_rq u) (core.state u) (if b then c else core.cpu u) (core.lock u) (core.on_cpu u) ≡ place_of core u)
-        (same-place _ _ _ _ (q-cpu (core.changes t) (core.on_rq t) (core.state t) (core.cpu t) c (core.lock t) anew.off) (b-idle (core.on_cpu t) c anew.idle ∙ sym (b-idle (core.on_cpu t) (core.cpu t) anew.idle))) (λ u q. refl);
+          (same-place _ _ _ _ (q-cpu (core.changes t) (core.on_rq t) (core.state t) (core.cpu t) c (core.lock t) anew.off) (b-idle (core.on_cpu t) c anew.idle ∙ sym (b-idle (core.on_cpu t) (core.cpu t) anew.idle))) (λ u q. refl);
       journals = λ k. refl;
     })
 
