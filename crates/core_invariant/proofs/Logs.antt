@@ -93,6 +93,7 @@ logged cpus tasks seats journal s e h =
       | inl p ↦ ap (λ xs. slice_get xs i) (put_here journal s (journal s ++ e ∷ []) k p) ∙ get-push_old (journal s) e i x (ap (λ j. slice_get (journal j) i) (sym p) ∙ g)
       | inr p ↦ ap (λ xs. slice_get xs i) (put_there journal s (journal s ++ e ∷ []) k p) ∙ g
     ]
+
     split : (k i : ℕ) (x : Entry) → k < seats → slice_get (put journal s (journal s ++ e ∷ []) k) i ≡ Some x
         → Stands (history cpus tasks seats journal) k i x ⊎ ((k ≡ s) × (i ≡ length (journal s)) × (x ≡ e))
     split k i x b g = elim (cases_eq k s) [

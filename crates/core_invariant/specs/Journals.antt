@@ -24,6 +24,24 @@ pub record RulesKept (j : History) : Type 0 where
   pub runs_alternate : EachKeeps RunsAlternate j
   pub leaves_while_running : EachKeeps LeavesWhileRunning j
 
+-- the entries of the kinds of step that there are
+abbrev pub IsPlain : Entry → Type 0
+IsPlain (entry.New t m c) = Unit {0}
+IsPlain (entry.Sleep t m c) = Unit {0}
+IsPlain (entry.Wake t m) = Unit {0}
+IsPlain (entry.Enq t m c false) = Unit {0}
+IsPlain (entry.Out t m c) = Unit {0}
+IsPlain (entry.In t m c) = Unit {0}
+IsPlain (entry.Die t m c) = Unit {0}
+IsPlain (entry.Pick t n c) = Unit {0}
+IsPlain (entry.Finish t n c) = Unit {0}
+IsPlain (entry.Refused t state) = Unit {0}
+IsPlain _ = ⊥
+
+-- no other stands in a journal: no task is listed, no mask set, and no processor goes offline
+abbrev pub PlainEntries : History → Type 0
+PlainEntries j = (s i : ℕ) (e : Entry) → Stands j s i e → IsPlain e
+
 -- no entry has a number past that of the word, which is at most 2^60
 pub record Numbered (j : History) (changes runs : ℕ → ℕ) : Type 0 where
   pub change : (s i : ℕ) (e : Entry) (t m : ℕ) → Stands j s i e → change_of e ≡ Some (t, m) → m ≤ changes t
@@ -57,6 +75,7 @@ pub record LastRuns (j : History) (on_cpu : ℕ → Bool) (runs cpu : ℕ → �
   pub idle : (t : ℕ) → on_cpu t ≡ false → runs t ≢ 0 → (c : ℕ) × IsSomewhere j (entry.Finish t (runs t) c)
 
 pub record JournalsHold (core : Table) : Type 0 where
+  pub plain : PlainEntries (history core.cpus core.tasks core.seats core.journal)
   pub rules : RulesKept (history core.cpus core.tasks core.seats core.journal)
   pub numbered : Numbered (history core.cpus core.tasks core.seats core.journal) core.changes core.runs
   pub last_changes : LastChanges (history core.cpus core.tasks core.seats core.journal) core.state core.on_rq core.changes core.cpu core.on_cpu core.lock

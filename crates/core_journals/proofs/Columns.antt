@@ -1,6 +1,6 @@
 -- What the words of tasks say of the journals, after an entry more, or after a store of a word of task t.
-use Rattle.std.proofs.Common.{◌≡◌, ◌≢◌, ℕ, zero, ◌+◌, ◌<◌, ◌≤◌, ◌⊎◌, inl, inr, Option, Some, None, refl, sym, subst, ap, ◌∙◌, arith}
-use Rattle.std.specs.Prelude.{◌%◌, ◌^◌, Bool, true, false, if◌then◌else◌}
+use Rattle.std.proofs.Common.{◌≡◌, ◌≢◌, ℕ, ◌+◌, ◌<◌, ◌≤◌, inl, inr, Option, Some, None, sym, ap, ◌∙◌, arith}
+use Rattle.std.specs.Prelude.{◌^◌, Bool, false, if◌then◌else◌}
 use Rattle.std.proofs.lemmas.Bool.Decides.{nat_tests}
 use Rattle.core_data.specs.Table.{put}
 use Rattle.core_invariant.specs.Journals.{Numbered, LastChanges, Wakes, LastRuns}
@@ -8,8 +8,8 @@ use Rattle.core_invariant.proofs.Logs.{Logged}
 use Rattle.core_journals.proofs.Kept.{IsNoList}
 use Rattle.core_journals.proofs.NewEntries.{same-first, same-second}
 use Rattle.core_journals.proofs.Rows.{rows, LastRow, WakeRow, RunRow, last-row, last-rows, wake-row, wake-rows, run-row, run-rows}
-use Rattle.core_journals.proofs.RowsKept.{LastRow-log, LastRow-lock, LastRow-new, LastRow-wakes, LastRow-clear, LastRow-cpu, WakeRow-log, WakeRow-change, WakeRow-still, WakeRow-wakes, RunRow-log, RunRow-cpu}
-use Rattle.core_kinds.specs.Steps.{waking, dead}
+use Rattle.core_journals.proofs.RowsKept.{LastRow-log, LastRow-lock, LastRow-cpu, WakeRow-log, WakeRow-change, WakeRow-still, WakeRow-wakes, RunRow-log, RunRow-cpu}
+use Rattle.core_kinds.specs.Steps.{waking}
 use Rattle.handoff_data.specs.History.{History}
 use Rattle.handoff_data.specs.Numbers.{change_of, run_of}
 use Rattle.handoff_data.specs.Positions.{Stands}
@@ -99,7 +99,7 @@ pub Wakes-change : {before after : History} {s n : ℕ} {e : Entry} {state : ℕ
     → Wakes before state on_rq changes lock → Wakes after state (put on_rq t on) (put changes t (changes t + 1)) lock
 Wakes-change {after = after} {state = state} {on_rq} {changes} {lock} t on l none other still p =
     wake-rows (rows t (λ u b. WakeRow after u (state u) (if b then on else on_rq u) (if b then changes t + 1 else changes u) (lock u))
-      (WakeRow-change on still (WakeRow-log l none (other t) (wake-row p t))) (λ u q. WakeRow-log l none (other u) (wake-row p u)))
+    (WakeRow-change on still (WakeRow-log l none (other t) (wake-row p t))) (λ u q. WakeRow-log l none (other u) (wake-row p u)))
 
 pub Wakes-lock : {j : History} {state : ℕ → State} {on_rq changes : ℕ → ℕ} {lock : ℕ → Option ℕ} (t : ℕ) (new : Option ℕ) → (on_rq t ≡ 0 → state t ≢ waking)
     → Wakes j state on_rq changes lock → Wakes j state on_rq changes (put lock t new)
@@ -115,7 +115,7 @@ pub Wakes-wake : {before after : History} {s n : ℕ} {state : ℕ → State} {o
     → Wakes before state on_rq changes lock → Wakes after (put state t waking) on_rq changes lock
 Wakes-wake {after = after} {state = state} {on_rq} {changes} {lock} t l off awake locked p =
     wake-rows (rows t (λ u b. WakeRow after u (if b then waking else state u) (on_rq u) (changes u) (lock u)) (WakeRow-wakes l off awake locked (wake-row p t))
-      (λ u q. WakeRow-log l (λ t m c e same. grind (arith, same)) (λ m same. absurd (grind (arith, q, same))) (wake-row p u)))
+    (λ u q. WakeRow-log l (λ t m c e same. grind (arith, same)) (λ m same. absurd (grind (arith, q, same))) (wake-row p u)))
 
 -- the last runs
 

@@ -1,14 +1,11 @@
 -- What a rule says of an entry stays true when a journal gets one entry more at its end.
-use Rattle.std.proofs.Common.{◌≡◌, ◌≢◌, ℕ, ◌-◌, ◌<◌, ◌≤◌, ◌⊎◌, inl, inr, Bool, true, false, Option, Some, None, sym, subst, arith}
+use Rattle.std.proofs.Common.{◌≡◌, ◌≢◌, ℕ, ◌-◌, ◌<◌, ◌≤◌, inl, inr, true, false, Option, sym, subst, arith}
 use Rattle.core_invariant.proofs.Logs.{Logged, in-old, before-old, somewhere-old}
 use Rattle.handoff_data.specs.History.{History}
-use Rattle.handoff_data.specs.Numbers.{change_of, run_of}
-use Rattle.handoff_data.specs.Positions.{Stands, IsIn, IsBefore, IsSomewhere}
+use Rattle.handoff_data.specs.Positions.{Stands}
 use Rattle.handoff_data.specs.Rules.{InRange, Chained, Caused, RunsAlternate, LeavesWhileRunning, IsQueued, IsSleep, IsListed, IsRunning}
 use Rattle.handoff_data.specs.declared.entry.Entry.{Entry}
 use Rattle.handoff_data.specs.declared.entry.Entry.TheVariants as entry
-use Rattle.handoff_data.specs.declared.mask.CpuMask.{CpuMask}
-use Rattle.handoff_data.specs.Mask.{HasCpu}
 use Rattle.std.specs.Prelude.{IfSome}
 
 pub queued-old : {before after : History} {s n : ℕ} {e : Entry} → Logged before after s n e → (t m c : ℕ) → IsQueued before t m c → IsQueued after t m c

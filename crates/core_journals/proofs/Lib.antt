@@ -1,5 +1,8 @@
+pub mod Chains
 pub mod Columns
 pub mod Kept
+pub mod Lawful
+pub mod Legal
 pub mod Loads
 pub mod Locks
 pub mod NewEntries

@@ -1,24 +1,21 @@
 -- The steps that move a task: each is a move of the table.
-use Rattle.std.proofs.Common.{◌≡◌, ◌≢◌, ℕ, ◌+◌, ◌≤◌, ◌⊎◌, inl, inr, ◌++◌, ◌∷◌, [], List, Option, Some, None, refl, sym, subst, ap, ◌∙◌, arith}
-use Rattle.std.specs.Prelude.{◌==◌, Bool, true, false, if◌then◌else◌}
+use Rattle.std.proofs.Common.{◌≡◌, ◌≢◌, ℕ, ◌+◌, inl, inr, ◌++◌, ◌∷◌, [], Option, Some, None, refl, sym, subst, ap, ◌∙◌, arith}
+use Rattle.std.specs.Prelude.{true, false, if◌then◌else◌}
 use Rattle.std.proofs.lemmas.Bool.{cases_eq}
 use Rattle.core_data.specs.Queue.{Queue}
-use Rattle.core_data.specs.Table.{Table, put}
+use Rattle.core_data.specs.Table.{Table}
 use Rattle.core_invariant.proofs.Puts.{put_here, put_there}
 use Rattle.core_invariant.specs.Invariant.{Holds}
 use Rattle.core_journals.proofs.PlacesKept.{here, apart, q-new, q-on, q-moving, q-dead, q-waking, q-asleep, b-busy, b-idle, same-place}
 use Rattle.core_journals.proofs.Running.{queued-some, entry-new, entry-in, entry-enq, entry-sleep, entry-die}
-use Rattle.core_journals.proofs.States.{waking-dead}
 use Rattle.core_journals.proofs.Waking.{claims-sleeper, woken-idle}
-use Rattle.core_journals.specs.Places.{q_of, busy_at, place, place_of, IsMoved, OneMoveOrNone}
+use Rattle.core_journals.specs.Places.{q_of, place, place_of, IsMoved, OneMoveOrNone}
 use Rattle.core_kinds.specs.Running.{store_rq, MayQueue, queue_entry, queue_task, MayLeave, MayDequeue, dequeue_entry, dequeue_task, MayMove, move_task, MaySetBusy, set_busy, MayClearBusy, clear_busy}
 use Rattle.core_kinds.specs.Steps.{waking, dead, is_sleep}
 use Rattle.core_kinds.specs.Waking.{MayClaim, claim}
 use Rattle.handoff_data.specs.Moves.{task_of, MovesFrom, moved, Moves}
 use Rattle.handoff_data.specs.declared.entry.Entry.{Entry}
 use Rattle.handoff_data.specs.declared.entry.Entry.TheVariants as entry
-use Rattle.handoff_data.specs.declared.place.Place.{Place}
-use Rattle.handoff_data.specs.declared.place.Q.{Q}
 use Rattle.handoff_data.specs.declared.place.Q.TheVariants as q
 use Rattle.handoff_data.specs.declared.state.State.{State}
 
@@ -60,7 +57,8 @@ queue-moves core s c t holds may = elim (cases_eq (core.changes t) 0) [
       | inr r ↦ elim r [
         | inl w ↦
             let idle = woken-idle core s t holds may.task_locked m w.0 w.1 w.2 in
-            onto core s c t (entry.Enq t (core.changes t + 1) c false) may.here idle (q-waking (core.changes t) (core.on_rq t) (core.state t) (core.cpu t) (core.lock t) s m w.0 w.1 may.task_locked, b-idle (core.on_cpu t) (core.cpu t) idle) refl
+            onto core s c t (entry.Enq t (core.changes t + 1) c false) may.here idle
+            (q-waking (core.changes t) (core.on_rq t) (core.state t) (core.cpu t) (core.lock t) s m w.0 w.1 may.task_locked, b-idle (core.on_cpu t) (core.cpu t) idle) refl
         | inr b ↦ absurd (h b)
       ]
     ]))
@@ -104,7 +102,8 @@ dequeue-seen core s t (Some x) holds may q h =
 
 dequeue-own : (core : Table) (s t : ℕ) → Holds core → MayDequeue core s s t → OneMoveOrNone s core (dequeue_task core s s t)
 dequeue-own core s t holds may =
-    let m = dequeue-seen core s t (core.seen s) holds may refl may.seen in inr (record { task = m.task; entry = m.entry; of_task = m.of_task; moves = m.moves; others = m.others; own_journal = m.own_journal; other_journals = m.other_journals })
+    let m = dequeue-seen core s t (core.seen s) holds may refl may.seen in
+    inr (record { task = m.task; entry = m.entry; of_task = m.of_task; moves = m.moves; others = m.others; own_journal = m.own_journal; other_journals = m.other_journals })
 
 pub Moves-dequeue_task : (core : Table) (s c t : ℕ) → Holds core → MayDequeue core s c t → OneMoveOrNone s core (dequeue_task core s c t)
 Moves-dequeue_task core s c t holds may = subst (λ z. MayDequeue core s z t → OneMoveOrNone s core (dequeue_task core s z t)) may.own (dequeue-own core s t holds) may

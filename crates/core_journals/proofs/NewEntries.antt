@@ -1,11 +1,9 @@
 -- The numbers of a new entry: no entry that stands has its identity, or a number of its task that is as high.
-use Rattle.std.proofs.Common.{◌≡◌, ◌≢◌, ℕ, zero, ◌+◌, ◌<◌, ◌≤◌, ◌⊎◌, inl, inr, Option, Some, None, refl, sym, subst, ap, ◌∙◌, arith}
-use Rattle.core_data.specs.Table.{put}
+use Rattle.std.proofs.Common.{◌≡◌, ℕ, ◌+◌, Option, Some, None, refl, sym, ap, ◌∙◌, arith}
 use Rattle.core_invariant.specs.Journals.{Numbered}
 use Rattle.core_journals.proofs.RulesLog.{IsUnlike, IsHighest}
 use Rattle.handoff_data.specs.History.{History}
-use Rattle.handoff_data.specs.Numbers.{change_of, run_of, identity, Identity, Change, Run, Waking, Listing, Masking, Leaving, Returning}
-use Rattle.handoff_data.specs.Positions.{Stands}
+use Rattle.handoff_data.specs.Numbers.{change_of, run_of, identity, Identity, Change, Run, Waking}
 use Rattle.handoff_data.specs.declared.entry.Entry.{Entry}
 use Rattle.handoff_data.specs.declared.entry.Entry.TheVariants as entry
 

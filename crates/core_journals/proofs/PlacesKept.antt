@@ -1,8 +1,8 @@
 -- The place of a task, by its words.
-use Rattle.std.proofs.Common.{◌≡◌, ◌≢◌, ℕ, zero, ◌+◌, ◌≤◌, Option, Some, None, refl, sym, subst, ap, ◌∙◌, arith}
-use Rattle.std.specs.Prelude.{◌==◌, Bool, true, false, if◌then◌else◌}
+use Rattle.std.proofs.Common.{◌≡◌, ◌≢◌, ℕ, ◌≤◌, Option, Some, None, refl, subst, ap, ◌∙◌, arith}
+use Rattle.std.specs.Prelude.{◌==◌, Bool, true, false}
 use Rattle.std.proofs.lemmas.Bool.Decides.{nat_tests}
-use Rattle.core_journals.specs.Places.{q_of, busy_at, place}
+use Rattle.core_journals.specs.Places.{q_of, busy_at}
 use Rattle.core_kinds.specs.Steps.{waking, dead, is_sleep}
 use Rattle.handoff_data.specs.declared.place.Place.{Place}
 use Rattle.handoff_data.specs.declared.place.Q.{Q}

@@ -1,5 +1,5 @@
 -- What the words of one task say of the journals.
-use Rattle.std.proofs.Common.{◌≡◌, ◌≢◌, ℕ, ◌<◌, ◌⊎◌, Option, Some, refl, sym, subst, arith}
+use Rattle.std.proofs.Common.{◌≡◌, ◌≢◌, ℕ, ◌<◌, ◌⊎◌, Option, Some, refl, subst, arith}
 use Rattle.std.specs.Prelude.{◌==◌, ◌%◌, Bool, true, false}
 use Rattle.std.proofs.lemmas.Bool.Decides.{nat_tests}
 use Rattle.core_invariant.specs.Journals.{LastChanges, Wakes, LastRuns}

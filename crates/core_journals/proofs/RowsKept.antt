@@ -1,5 +1,5 @@
 -- The row of a task after an entry more, and after a store of one of its words.
-use Rattle.std.proofs.Common.{◌≡◌, ◌≢◌, ℕ, zero, ◌+◌, ◌<◌, ◌⊎◌, inl, inr, Option, Some, None, refl, sym, subst, ap, ◌∙◌, arith}
+use Rattle.std.proofs.Common.{◌≡◌, ◌≢◌, ℕ, ◌+◌, inl, inr, Option, Some, None, refl, sym, subst, arith}
 use Rattle.std.specs.Prelude.{◌%◌, Bool, true, false}
 use Rattle.core_invariant.proofs.Logs.{Logged, in-old, somewhere-old}
 use Rattle.core_journals.proofs.Kept.{IsNoList, queued-old, sleep-old}
@@ -7,7 +7,7 @@ use Rattle.core_journals.proofs.Rows.{LastRow, WakeRow, RunRow}
 use Rattle.core_kinds.specs.Steps.{waking, dead}
 use Rattle.handoff_data.specs.History.{History}
 use Rattle.handoff_data.specs.Positions.{Stands, IsIn, IsSomewhere}
-use Rattle.handoff_data.specs.Rules.{IsQueued, IsSleep}
+use Rattle.handoff_data.specs.Rules.{IsQueued}
 use Rattle.handoff_data.specs.declared.entry.Entry.{Entry}
 use Rattle.handoff_data.specs.declared.entry.Entry.TheVariants as entry
 use Rattle.handoff_data.specs.declared.state.State.{State}

@@ -1,11 +1,11 @@
 -- The rules after one entry more, which follows from what stands before it.
-use Rattle.std.proofs.Common.{◌≡◌, ◌≢◌, ℕ, ◌<◌, ◌≤◌, ◌⊎◌, inl, inr, Option, Some, refl, sym, subst, ap, ◌∙◌, arith}
-use Rattle.core_invariant.specs.Journals.{EachKeeps, RulesKept}
+use Rattle.std.proofs.Common.{◌≡◌, ◌≢◌, ℕ, ◌<◌, inl, inr, Option, Some, refl, sym, subst, ap, ◌∙◌, arith}
+use Rattle.core_invariant.specs.Journals.{EachKeeps, RulesKept, IsPlain, PlainEntries}
 use Rattle.core_invariant.proofs.Logs.{Logged}
 use Rattle.core_journals.proofs.Kept.{IsNoList, IsUpTo, below-old, range-old, chained-old, caused-old, alternate-old, leaves-old}
 use Rattle.handoff_data.specs.History.{History}
 use Rattle.handoff_data.specs.Numbers.{change_of, run_of, identity, Identity}
-use Rattle.handoff_data.specs.Positions.{Stands, IsEarlier}
+use Rattle.handoff_data.specs.Positions.{Stands}
 use Rattle.handoff_data.specs.Rules.{InRange, NotRepeated, Chained, Caused, RisesInJournal, RunsAlternate, LeavesWhileRunning}
 use Rattle.handoff_data.specs.declared.entry.Entry.{Entry}
 
@@ -19,6 +19,7 @@ IsHighest number before s e = (t m : ℕ) → number e ≡ Some (t, m) → (i m'
 
 -- The entry may be the next in the journal of s: it keeps each rule.
 pub record IsNext (before : History) (s n : ℕ) (e : Entry) : Type 0 where
+  pub plain : IsPlain e
   pub in_range : InRange before s n e
   pub unlike : IsUnlike before e
   pub chained : Chained before s n e
@@ -62,13 +63,13 @@ rises-log : {before after : History} {s n : ℕ} {e : Entry} → Logged before a
 rises-log {before} {after} {s} {n} {e} l p changes runs =
     λ k i x h. elim (l.log k i x h) [
       | inl a ↦ let up = up-old l k i x a in record {
-          changes = λ t m c j m' x' lt g. (p k i x a).changes t m c j m' x' lt (below-old l k i j x' up lt g);
-          runs = λ t m c j m' x' lt g. (p k i x a).runs t m c j m' x' lt (below-old l k i j x' up lt g);
-        }
+        changes = λ t m c j m' x' lt g. (p k i x a).changes t m c j m' x' lt (below-old l k i j x' up lt g);
+        runs = λ t m c j m' x' lt g. (p k i x a).runs t m c j m' x' lt (below-old l k i j x' up lt g);
+      }
       | inr b ↦ let up = up-new s n k i b.1 in record {
-          changes = λ t m c j m' x' lt g. changes t m (ap change_of (sym b.2) ∙ c) j m' x' (subst (λ z. Stands before z j x') b.0 (below-old l k i j x' up lt g));
-          runs = λ t m c j m' x' lt g. runs t m (ap run_of (sym b.2) ∙ c) j m' x' (subst (λ z. Stands before z j x') b.0 (below-old l k i j x' up lt g));
-        }
+        changes = λ t m c j m' x' lt g. changes t m (ap change_of (sym b.2) ∙ c) j m' x' (subst (λ z. Stands before z j x') b.0 (below-old l k i j x' up lt g));
+        runs = λ t m c j m' x' lt g. runs t m (ap run_of (sym b.2) ∙ c) j m' x' (subst (λ z. Stands before z j x') b.0 (below-old l k i j x' up lt g));
+      }
     ]
 
 pub RulesKept-log : {before after : History} {s n : ℕ} {e : Entry} → Logged before after s n e → RulesKept before → IsNext before s n e → RulesKept after
@@ -82,3 +83,6 @@ RulesKept-log l p new =
       runs_alternate = each-log RunsAlternate l (λ k i x up. alternate-old l k i x) p.runs_alternate new.alternates;
       leaves_while_running = each-log LeavesWhileRunning l (λ k i x up. leaves-old l k i x up) p.leaves_while_running new.leaves;
     }
+
+pub plain-log : {before after : History} {s n : ℕ} {e : Entry} → Logged before after s n e → PlainEntries before → IsPlain e → PlainEntries after
+plain-log l p new k i x h = elim (l.log k i x h) [ inl a ↦ p k i x a | inr b ↦ subst IsPlain (sym b.2) new ]

@@ -1,12 +1,10 @@
 -- Running steps: stores of the queue word and of the busy word of a task, each with its entry.
-use Rattle.std.proofs.Common.{◌≡◌, ◌≢◌, ℕ, ◌+◌, ◌<◌, ◌⊎◌, inl, inr, ◌++◌, ◌∷◌, [], List, length, Option, Some, None, refl, sym, subst, ap, arith}
-use Rattle.std.specs.Prelude.{◌==◌, ◌^◌, Bool, true, false}
+use Rattle.std.proofs.Common.{◌≡◌, ◌≢◌, ℕ, ◌+◌, ◌<◌, inl, inr, ◌++◌, ◌∷◌, [], length, Option, Some, None, refl, sym, subst, ap, arith}
+use Rattle.std.specs.Prelude.{◌^◌, true, false}
 use Rattle.std.proofs.lemmas.Bool.{cases_eq}
 use Rattle.std.proofs.lemmas.Bool.Decides.{nat_tests}
-use Rattle.core_data.specs.Noted.{noted}
 use Rattle.core_data.specs.Queue.{Queue}
 use Rattle.core_data.specs.Table.{Table, put}
-use Rattle.core_data.specs.declared.act.Act.TheVariants.{Queued, Dequeued}
 use Rattle.core_invariant.proofs.Logs.{Logged, logged, history-tasks, history-cpus}
 use Rattle.core_invariant.specs.Histories.{history}
 use Rattle.core_invariant.specs.Invariant.{Holds}
@@ -15,13 +13,13 @@ use Rattle.core_journals.proofs.Columns.{IsNoWake, Numbered-change, Numbered-run
 use Rattle.core_journals.proofs.Next.{next-new, next-enq, next-in, next-out, next-sleep, next-die, next-pick, next-finish, running-now}
 use Rattle.core_journals.proofs.Rows.{LastRow, last-row}
 use Rattle.core_journals.proofs.RowsKept.{LastRow-queued, LastRow-moving, LastRow-sleeps, LastRow-dies, LastRow-clear, RunRow-pick, RunRow-finish}
-use Rattle.core_journals.proofs.RulesLog.{IsNext, RulesKept-log}
+use Rattle.core_journals.proofs.RulesLog.{IsNext, RulesKept-log, plain-log}
 use Rattle.core_journals.proofs.States.{waking-sleep, waking-dead, sleep-dead}
-use Rattle.core_kinds.specs.Running.{store_rq, MayQueue, queue_entry, queue_task, MayLeave, MayDequeue, is_dead, dequeue_entry, dequeue_task, MayMove, move_task, MaySetBusy, set_busy, MayClearBusy, clear_busy}
+use Rattle.core_kinds.specs.Running.{store_rq, MayQueue, queue_entry, queue_task, MayLeave, MayDequeue, dequeue_entry, dequeue_task, MayMove, move_task, MaySetBusy, set_busy, MayClearBusy, clear_busy}
 use Rattle.core_kinds.specs.Steps.{waking, dead, is_sleep}
 use Rattle.handoff_data.specs.History.{History}
 use Rattle.handoff_data.specs.Numbers.{change_of, run_of}
-use Rattle.handoff_data.specs.Positions.{Stands, IsIn, IsBefore}
+use Rattle.handoff_data.specs.Positions.{Stands, IsIn}
 use Rattle.handoff_data.specs.Rules.{IsQueued, IsListed, IsRunning}
 use Rattle.handoff_data.specs.declared.entry.Entry.{Entry}
 use Rattle.handoff_data.specs.declared.entry.Entry.TheVariants as entry
@@ -56,6 +54,7 @@ stored : (core : Table) (s t on : ℕ) (e : Entry) → s < core.seats → core.c
 stored core s t on e seat room new change no-run no-wake still row p =
     let l = log core s e seat in
     record {
+      plain = plain-log l p.plain new.plain;
       rules = RulesKept-log l p.rules new;
       numbered = Numbered-change t l change no-run room p.numbered;
       last_changes = LastChanges-change t on (core.changes t + 1) l row p.last_changes;
@@ -70,7 +69,7 @@ queue-new core s c t holds may never =
     let p = holds.journals in
     let queued : IsQueued (with_entry core s e) t (core.changes t + 1) (core.cpu t) = subst (λ z. IsQueued (with_entry core s e) t (core.changes t + 1) z) (sym may.here) (inl (s, (length (core.journal s), l.new))) in
     stored core s t 1 e may.seat may.room (next-new (past core) s (length (core.journal s)) t c p.numbered (in_tasks core t may.task) (in_cpus core c may.processor) never) refl refl (λ u m q. grind (arith, q))
-      (λ h. absurd (omega (arith, h))) (LastRow-queued t _ _ _ _ _ queued) p
+    (λ h. absurd (omega (arith, h))) (LastRow-queued t _ _ _ _ _ queued) p
 
 queue-in : (core : Table) (s c t : ℕ) → Holds core → MayQueue core s c t → core.on_rq t ≡ 2 → JournalsHold (store_rq core s t 1 (entry.In t (core.changes t + 1) c))
 queue-in core s c t holds may moving =
@@ -81,7 +80,7 @@ queue-in core s c t holds may moving =
     let out = p.last_changes.moving t s moving may.task_locked in
     let some = queued-some core t holds (λ z. omega (arith, z, moving)) in
     stored core s t 1 e may.seat may.room (next-in (past core) s (length (core.journal s)) t c out.0 p.numbered (in_tasks core t may.task) (in_cpus core c may.processor) some out.1) refl refl (λ u m q. grind (arith, q))
-      (λ h. absurd (omega (arith, h))) (LastRow-queued t _ _ _ _ _ queued) p
+    (λ h. absurd (omega (arith, h))) (LastRow-queued t _ _ _ _ _ queued) p
 
 queue-enq : (core : Table) (s c t : ℕ) → Holds core → MayQueue core s c t → core.changes t ≢ 0 → core.on_rq t ≡ 0 → core.state t ≡ waking → JournalsHold (store_rq core s t 1 (entry.Enq t (core.changes t + 1) c false))
 queue-enq core s c t holds may some off woken =
@@ -93,8 +92,9 @@ queue-enq core s c t holds may some off woken =
     let wake = p.wakes.present t s off woken may.task_locked in
     let unlisted : (IsListed (past core) t (core.changes t) → ⊥) = λ h. let r = p.wakes.listed h.2.0 h.2.1.0 t (core.changes t) h.0 h.1 h.2.1.1 in omega (arith, r) in
     stored core s t 1 e may.seat may.room
-      (next-enq (past core) s (length (core.journal s)) t c p.numbered (in_tasks core t may.task) (in_cpus core c may.processor) some sleep (wake.0, within core s wake.0 _ may.seat wake.1, wake.1) unlisted) refl refl (λ u m q. grind (arith, q))
-      (λ h. absurd (omega (arith, h))) (LastRow-queued t _ _ _ _ _ queued) p
+    (next-enq (past core) s (length (core.journal s)) t c p.numbered (in_tasks core t may.task) (in_cpus core c may.processor)
+    some sleep (wake.0, within core s wake.0 _ may.seat wake.1, wake.1) unlisted) refl refl (λ u m q. grind (arith, q))
+    (λ h. absurd (omega (arith, h))) (LastRow-queued t _ _ _ _ _ queued) p
 
 pub entry-new : (changes on t c : ℕ) → changes ≡ 0 → entry.New t (changes + 1) c ≡ queue_entry changes on t c
 entry-new changes on t c h = grind (arith, nat_tests, h)
@@ -119,7 +119,7 @@ queue-some core s c t holds may = elim (cases_eq (core.changes t) 0) [
 
 pub JournalsHold-queue_task : (core : Table) (s c t : ℕ) → Holds core → MayQueue core s c t → JournalsHold (queue_task core s c t)
 JournalsHold-queue_task core s c t holds may =
-    let p = queue-some core s c t holds may in record { rules = p.rules; numbered = p.numbered; last_changes = p.last_changes; wakes = p.wakes; last_runs = p.last_runs }
+    let p = queue-some core s c t holds may in record { plain = p.plain; rules = p.rules; numbered = p.numbered; last_changes = p.last_changes; wakes = p.wakes; last_runs = p.last_runs }
 
 -- the current task runs, by the journal of its seat
 runs-here : (core : Table) (s t : ℕ) → Holds core → s < core.seats → core.current s ≡ Some t → IsRunning (past core) s (length (core.journal s)) t
@@ -135,10 +135,10 @@ dequeue-sleep core s t holds may asleep =
     let some = queued-some core t holds (λ z. let r = may.queued in omega (arith, z, r)) in
     let queued = subst (λ z. IsQueued (past core) t (core.changes t) z) may.here (p.last_changes.queued t may.queued) in
     let sleep : IsIn (with_entry core s e) (core.cpu t) (entry.Sleep t (core.changes t + 1) (core.cpu t)) =
-        subst (λ z. IsIn (with_entry core s e) z (entry.Sleep t (core.changes t + 1) z)) (sym may.here) (length (core.journal s), l.new) in
+    subst (λ z. IsIn (with_entry core s e) z (entry.Sleep t (core.changes t + 1) z)) (sym may.here) (length (core.journal s), l.new) in
     stored core s t 0 e may.seat may.room
-      (next-sleep (past core) s (length (core.journal s)) t p.numbered (in_tasks core t may.task) (in_cpus core s may.processor) some queued (runs-here core s t holds may.seat may.current)) refl refl (λ u m q. grind (arith, q))
-      (λ h w. waking-sleep (core.state t) w asleep) (LastRow-sleeps t _ _ _ _ _ (sleep-dead (core.state t) asleep) sleep) p
+    (next-sleep (past core) s (length (core.journal s)) t p.numbered (in_tasks core t may.task) (in_cpus core s may.processor) some queued (runs-here core s t holds may.seat may.current)) refl refl (λ u m q. grind (arith, q))
+    (λ h w. waking-sleep (core.state t) w asleep) (LastRow-sleeps t _ _ _ _ _ (sleep-dead (core.state t) asleep) sleep) p
 
 dequeue-die : (core : Table) (s t : ℕ) → Holds core → MayDequeue core s s t → core.state t ≡ dead → JournalsHold (store_rq core s t 0 (entry.Die t (core.changes t + 1) s))
 dequeue-die core s t holds may ended =
@@ -148,10 +148,10 @@ dequeue-die core s t holds may ended =
     let some = queued-some core t holds (λ z. let r = may.queued in omega (arith, z, r)) in
     let queued = subst (λ z. IsQueued (past core) t (core.changes t) z) may.here (p.last_changes.queued t may.queued) in
     let die : IsIn (with_entry core s e) (core.cpu t) (entry.Die t (core.changes t + 1) (core.cpu t)) =
-        subst (λ z. IsIn (with_entry core s e) z (entry.Die t (core.changes t + 1) z)) (sym may.here) (length (core.journal s), l.new) in
+    subst (λ z. IsIn (with_entry core s e) z (entry.Die t (core.changes t + 1) z)) (sym may.here) (length (core.journal s), l.new) in
     stored core s t 0 e may.seat may.room
-      (next-die (past core) s (length (core.journal s)) t p.numbered (in_tasks core t may.task) (in_cpus core s may.processor) some queued (runs-here core s t holds may.seat may.current)) refl refl (λ u m q. grind (arith, q))
-      (λ h w. waking-dead (core.state t) w ended) (LastRow-dies t _ _ _ _ _ ended die) p
+    (next-die (past core) s (length (core.journal s)) t p.numbered (in_tasks core t may.task) (in_cpus core s may.processor) some queued (runs-here core s t holds may.seat may.current)) refl refl (λ u m q. grind (arith, q))
+    (λ h w. waking-dead (core.state t) w ended) (LastRow-dies t _ _ _ _ _ ended die) p
 
 pub entry-sleep : (x : State) (changes t c : ℕ) → is_sleep x ≡ true → entry.Sleep t (changes + 1) c ≡ dequeue_entry (Some x) changes t c
 entry-sleep x changes t c h = grind (arith, nat_tests, h)
@@ -170,7 +170,7 @@ dequeue-seen core s t (Some x) holds may q h =
 
 dequeue-own : (core : Table) (s t : ℕ) → Holds core → MayDequeue core s s t → JournalsHold (dequeue_task core s s t)
 dequeue-own core s t holds may =
-    let p = dequeue-seen core s t (core.seen s) holds may refl may.seen in record { rules = p.rules; numbered = p.numbered; last_changes = p.last_changes; wakes = p.wakes; last_runs = p.last_runs }
+    let p = dequeue-seen core s t (core.seen s) holds may refl may.seen in record { plain = p.plain; rules = p.rules; numbered = p.numbered; last_changes = p.last_changes; wakes = p.wakes; last_runs = p.last_runs }
 
 pub JournalsHold-dequeue_task : (core : Table) (s c t : ℕ) → Holds core → MayDequeue core s c t → JournalsHold (dequeue_task core s c t)
 JournalsHold-dequeue_task core s c t holds may = subst (λ z. MayDequeue core s z t → JournalsHold (dequeue_task core s z t)) may.own (dequeue-own core s t holds) may
@@ -183,8 +183,8 @@ JournalsHold-move_task core s c t val holds may =
     let some = queued-some core t holds (λ z. let r = may.queued in omega (arith, z, r)) in
     let queued = subst (λ z. IsQueued (past core) t (core.changes t) z) may.here (old.last_changes.queued t may.queued) in
     let p = stored core s t 2 e may.seat may.room (next-out (past core) s (length (core.journal s)) t c old.numbered (in_tasks core t may.task) (in_cpus core c may.processor) some queued) refl refl (λ u m q. grind (arith, q))
-      (λ h. absurd (omega (arith, h))) (LastRow-moving s t _ _ _ c _ _ may.task_locked (length (core.journal s), l.new)) old in
-    record { rules = p.rules; numbered = p.numbered; last_changes = p.last_changes; wakes = p.wakes; last_runs = p.last_runs }
+    (λ h. absurd (omega (arith, h))) (LastRow-moving s t _ _ _ c _ _ may.task_locked (length (core.journal s), l.new)) old in
+    record { plain = p.plain; rules = p.rules; numbered = p.numbered; last_changes = p.last_changes; wakes = p.wakes; last_runs = p.last_runs }
 
 busy-own : (core : Table) (s t : ℕ) (val : Queue) → Holds core → MaySetBusy core s s t val → JournalsHold (set_busy core s s t)
 busy-own core s t val holds may =
@@ -195,8 +195,9 @@ busy-own core s t val holds may =
     let changes = LastChanges-log l p.last_changes in
     let row = subst (λ o. LastRow (with_entry core s e) t (core.state t) o (core.changes t) (core.cpu t) true (core.lock t)) (sym may.queued) (LastRow-queued t _ _ _ _ _ (changes.queued t may.queued)) in
     let pick : IsIn (with_entry core s e) (core.cpu t) (entry.Pick t (core.runs t + 1) (core.cpu t)) =
-        subst (λ z. IsIn (with_entry core s e) z (entry.Pick t (core.runs t + 1) z)) (sym may.here) (length (core.journal s), l.new) in
+    subst (λ z. IsIn (with_entry core s e) z (entry.Pick t (core.runs t + 1) z)) (sym may.here) (length (core.journal s), l.new) in
     record {
+      plain = plain-log l p.plain new.plain;
       rules = RulesKept-log l p.rules new;
       numbered = Numbered-run t l refl refl may.room p.numbered;
       last_changes = LastChanges-busy t true row changes;
@@ -219,6 +220,7 @@ JournalsHold-clear_busy core s t holds may =
     let new = next-finish (past core) s (length (core.journal s)) t p.numbered (in_tasks core t may.task) (in_cpus core s cpu) (p.last_runs.busy_odd t busy) (pick.0, within core s pick.0 _ may.seat pick.1, pick.1) in
     let changes = LastChanges-log l p.last_changes in
     record {
+      plain = plain-log l p.plain new.plain;
       rules = RulesKept-log l p.rules new;
       numbered = Numbered-run t l refl refl may.room p.numbered;
       last_changes = LastChanges-busy t false (LastRow-clear (last-row changes t)) changes;

@@ -1,9 +1,8 @@
 -- The opening core, whose journals are empty.
-use Rattle.std.proofs.Common.{◌≡◌, ◌≢◌, ℕ, zero, suc, ◌<◌, ◌⊎◌, inl, inr, [], List, Option, Some, None, refl, sym, subst, ap, ◌∙◌, arith}
-use Rattle.std.specs.Prelude.{◌+◌, Bool, true, false, replicate, slice_get}
+use Rattle.std.proofs.Common.{◌≡◌, ℕ, zero, suc, [], None, refl, sym, subst, ap, ◌∙◌, arith}
+use Rattle.std.specs.Prelude.{◌+◌, false, replicate, slice_get}
 use Rattle.core_data.specs.Opening.{IsStart, first_task, first_cpu, first_cond, first_seat}
 use Rattle.core_data.specs.Table.{Table, column, table_of, journal_of}
-use Rattle.core_data.specs.declared.seat.SeatCore.{SeatCore}
 use Rattle.core_data.specs.declared.words.TaskWords.{TaskWords}
 use Rattle.core_invariant.proofs.Logs.{of_stands}
 use Rattle.core_invariant.specs.Journals.{JournalsHold}
@@ -32,6 +31,7 @@ nothing core u s i e h =
 unmoved-holds : (core : Table) → Unmoved core → JournalsHold core
 unmoved-holds core u =
     record {
+      plain = λ s i e h. absurd (nothing core u s i e h);
       rules = record {
         in_range = λ s i e h. absurd (nothing core u s i e h);
         not_repeated = λ s i e h. absurd (nothing core u s i e h);

@@ -1,13 +1,12 @@
 -- No state is two of those that steps tell apart; and what the invariant says of the state of a task off its queue.
-use Rattle.std.proofs.Common.{◌≡◌, ◌≢◌, ℕ, ◌⊎◌, inl, inr, Option, Some, None, ap, arith}
-use Rattle.std.specs.Prelude.{true, false}
+use Rattle.std.proofs.Common.{◌≡◌, ◌≢◌, ℕ, inl, inr, None, ap, arith}
+use Rattle.std.specs.Prelude.{true}
 use Rattle.std.proofs.lemmas.Bool.{cases_eq}
 use Rattle.std.proofs.lemmas.Bool.Decides.{nat_tests}
 use Rattle.core_data.specs.Table.{Table}
 use Rattle.core_invariant.specs.Invariant.{Holds}
-use Rattle.core_kinds.specs.Steps.{running, waking, dead, is_sleep, IsRunnable}
+use Rattle.core_kinds.specs.Steps.{waking, dead, is_sleep, IsRunnable}
 use Rattle.handoff_data.specs.declared.state.State.{State}
-
 
 pub waking-runnable : (x : State) → x ≡ waking → IsRunnable x → ⊥
 waking-runnable x h r = let q = ap (λ (y : State). y.0) h in grind (arith, q, r)

@@ -1,12 +1,13 @@
 -- The steps that move no task.
-use Rattle.std.proofs.Common.{◌≡◌, ◌≢◌, ℕ, ◌≤◌, ◌⊎◌, inl, inr, ◌++◌, ◌∷◌, [], Option, Some, None, List, refl, sym, subst, ap, ◌∙◌, arith}
+use Rattle.std.proofs.Common.{◌≡◌, ◌≢◌, ℕ, inl, inr, ◌++◌, ◌∷◌, [], Option, Some, None, List, refl, sym, ap, ◌∙◌}
 use Rattle.std.specs.Prelude.{◌==◌, ◌&&◌, Bool, true, false, if◌then◌else◌}
-use Rattle.std.proofs.lemmas.Bool.{cases_eq}
 use mathlib.Core.Bool.{not}
 use Rattle.core_data.specs.Noted.{noted}
 use Rattle.core_data.specs.Queue.{Queue}
 use Rattle.core_data.specs.Table.{Table, put, put_at}
-use Rattle.core_data.specs.declared.act.Act.TheVariants.{Matched, SawOff, SawClear, SawRest, SawRestOff, SawRestIdle, Passed}
+use Rattle.core_data.specs.declared.act.Act.{Act}
+use Rattle.core_data.specs.declared.act.Act.TheVariants.{TookTask, Renewed, StoredWord, Matched, SawOff, Claimed, SawClear, SawRest, SawRestOff, SawRestIdle, TookQueue, Queued, Dequeued}
+use Rattle.core_data.specs.declared.act.Act.TheVariants.{Picked, TookWait, OwnStored, Slept, Passed, Bumped, Walked}
 use Rattle.core_data.specs.declared.pos.TaskReads.{TaskReads}
 use Rattle.core_data.specs.declared.values.TaskVal.{TaskVal}
 use Rattle.core_data.specs.declared.values.WaitEntry.{WaitEntry}
@@ -19,11 +20,13 @@ use Rattle.core_journals.proofs.PlacesKept.{q-lock, q-state, q-cpu, b-idle, same
 use Rattle.core_journals.proofs.Rows.{rows}
 use Rattle.core_journals.proofs.States.{unlocked-still, unlocked-settled}
 use Rattle.core_journals.proofs.Waking.{placed-anew}
-use Rattle.core_journals.specs.Places.{q_of, busy_at, place, place_of, MovesNone, AllStay, OneMoveOrNone}
+use Rattle.core_journals.specs.Places.{place, place_of, OneMoveOrNone}
 use Rattle.core_kinds.specs.Locks.{MayTakeTask, take_task, MayGiveTask, give_task, MayTakeQueue, take_queue, MayTakeWorks, take_works, MayGiveWorks, give_works, MayTakeWait, take_wait}
 use Rattle.core_kinds.specs.Running.{MayBodyOut, body_out, MayBodyHome, body_home}
 use Rattle.core_kinds.specs.Steps.{running, waking, normal, is_match, is_sleep}
-use Rattle.core_kinds.specs.Waking.{MayOwnState, own_state, slept_if, ran_if, MayRelease, release, MayLoad, MayLoadState, load_state, load_this, is_own_read, is_matched, is_refused, noted_if, logged_if, seen_if, load_rq, load_rq_so, load_busy, load_busy_so, load_cpu, MayStoreCpu, store_cpu, MayBump, bump, tested_if, test_by, load_cond}
+use Rattle.core_kinds.specs.Waking.{MayOwnState, own_state, slept_if, ran_if, MayRelease, release}
+use Rattle.core_kinds.specs.Waking.{MayLoad, MayLoadState, load_state, load_this, is_own_read, is_matched, is_refused, noted_if, logged_if, seen_if, load_rq, load_rq_so, load_busy, load_busy_so}
+use Rattle.core_kinds.specs.Waking.{load_cpu, MayStoreCpu, store_cpu, MayBump, bump, tested_if, test_by, load_cond}
 use Rattle.handoff_data.specs.declared.entry.Entry.{Entry}
 use Rattle.handoff_data.specs.declared.entry.Entry.TheVariants as entry
 use Rattle.handoff_data.specs.declared.state.State.{State}
@@ -45,7 +48,7 @@ stays-lock : (core : Table) (t : ℕ) (new : Option ℕ) → Holds core → core
     → place (core.changes u) (core.on_rq u) (core.state u) (core.cpu u) (put core.lock t new u) (core.on_cpu u) ≡ place_of core u
 stays-lock core t new holds still off =
     rows t (λ u b. place (core.changes u) (core.on_rq u) (core.state u) (core.cpu u) (if b then new else core.lock u) (core.on_cpu u) ≡ place_of core u)
-      (same-place _ _ _ _ (q-lock (core.changes t) (core.on_rq t) (core.state t) (core.cpu t) (core.lock t) new (holds.places.on_rq t) still off) refl) (λ u q. refl)
+    (same-place _ _ _ _ (q-lock (core.changes t) (core.on_rq t) (core.state t) (core.cpu t) (core.lock t) new (holds.places.on_rq t) still off) refl) (λ u q. refl)
 
 pub Moves-take_task : (core : Table) (s t : ℕ) → Holds core → MayTakeTask core s t → OneMoveOrNone s core (take_task core s t)
 Moves-take_task core s t holds may =
@@ -105,7 +108,7 @@ stays-state : (core : Table) (t : ℕ) (new : State) → (core.changes t ≢ 0 �
     → place (core.changes u) (core.on_rq u) (put core.state t new u) (core.cpu u) (core.lock u) (core.on_cpu u) ≡ place_of core u
 stays-state core t new h =
     rows t (λ u b. place (core.changes u) (core.on_rq u) (if b then new else core.state u) (core.cpu u) (core.lock u) (core.on_cpu u) ≡ place_of core u)
-      (same-place _ _ _ _ (q-state (core.changes t) (core.on_rq t) (core.state t) new (core.cpu t) (core.lock t) h) refl) (λ u q. refl)
+    (same-place _ _ _ _ (q-state (core.changes t) (core.on_rq t) (core.state t) new (core.cpu t) (core.lock t) h) refl) (λ u q. refl)
 
 stays-slept : (b : Bool) (core next : Table) (s t : ℕ) → Quiet core next → Quiet core (slept_if b next s t)
 stays-slept true core next s t p = record { places = p.places; journals = p.journals }
@@ -126,11 +129,31 @@ Moves-release core s t holds may =
 
 -- loads
 
-stays-noted : (b : Bool) (core next : Table) (s t : ℕ) → Quiet core next
-    → Quiet core (noted_if b next s (Matched t)) × Quiet core (noted_if b next s (SawOff t)) × Quiet core (noted_if b next s (SawClear t)) × Quiet core (noted_if b next s (SawRest t))
-    × Quiet core (noted_if b next s (SawRestOff t)) × Quiet core (noted_if b next s (SawRestIdle t)) × Quiet core (noted_if b next s (Passed t))
-stays-noted true core next s t p = (record { places = p.places; journals = p.journals }, record { places = p.places; journals = p.journals }, record { places = p.places; journals = p.journals }, record { places = p.places; journals = p.journals }, record { places = p.places; journals = p.journals }, record { places = p.places; journals = p.journals }, record { places = p.places; journals = p.journals })
-stays-noted false core next s t p = (p, p, p, p, p, p, p)
+stays-act : (core next : Table) (s : ℕ) (act : Act) → Quiet core next → Quiet core (noted next s act)
+stays-act core next s (TookTask n) p = record { places = p.places; journals = p.journals }
+stays-act core next s (Renewed n) p = record { places = p.places; journals = p.journals }
+stays-act core next s (StoredWord n) p = record { places = p.places; journals = p.journals }
+stays-act core next s (Matched n) p = record { places = p.places; journals = p.journals }
+stays-act core next s (SawOff n) p = record { places = p.places; journals = p.journals }
+stays-act core next s (Claimed n) p = record { places = p.places; journals = p.journals }
+stays-act core next s (SawClear n) p = record { places = p.places; journals = p.journals }
+stays-act core next s (SawRest n) p = record { places = p.places; journals = p.journals }
+stays-act core next s (SawRestOff n) p = record { places = p.places; journals = p.journals }
+stays-act core next s (SawRestIdle n) p = record { places = p.places; journals = p.journals }
+stays-act core next s (TookQueue n) p = record { places = p.places; journals = p.journals }
+stays-act core next s (Queued n) p = record { places = p.places; journals = p.journals }
+stays-act core next s (Dequeued n) p = record { places = p.places; journals = p.journals }
+stays-act core next s (Picked n) p = record { places = p.places; journals = p.journals }
+stays-act core next s (TookWait n) p = record { places = p.places; journals = p.journals }
+stays-act core next s (OwnStored n) p = record { places = p.places; journals = p.journals }
+stays-act core next s (Slept n) p = record { places = p.places; journals = p.journals }
+stays-act core next s (Passed n) p = record { places = p.places; journals = p.journals }
+stays-act core next s (Bumped n) p = record { places = p.places; journals = p.journals }
+stays-act core next s (Walked n) p = record { places = p.places; journals = p.journals }
+
+stays-noted : (b : Bool) (core next : Table) (s : ℕ) (act : Act) → Quiet core next → Quiet core (noted_if b next s act)
+stays-noted true core next s act p = stays-act core next s act p
+stays-noted false core next s act p = p
 
 stays-seen : (b : Bool) (core next : Table) (s : ℕ) (state : State) → Quiet core next → Quiet core (seen_if b next s state)
 stays-seen true core next s state p = record { places = p.places; journals = p.journals }
@@ -148,19 +171,24 @@ stays-refused false core next s t state p = stays s core next p
 
 stays-read : (core : Table) (s t : ℕ) (mask : Option State) (own : Bool) (old : TaskReads) (state : State) → OneMoveOrNone s core (load_this core s t mask own old state)
 stays-read core s t mask own old state =
-    stays-refused (is_refused state mask) core _ s t state ((stays-noted (not (is_match state normal)) core _ s t ((stays-noted (not (state.0 == 0x200)) core _ s t ((stays-noted (is_matched state mask) core _ s t (stays-seen own core _ s state (record { places = λ t. refl; journals = λ k. refl }))).0)).3)).6)
+    let seen = stays-seen own core _ s state (record { places = λ t. refl; journals = λ k. refl }) in
+    let matched = stays-noted (is_matched state mask) core _ s (Matched t) seen in
+    let rest = stays-noted (not (state.0 == 0x200)) core _ s (SawRest t) matched in
+    stays-refused (is_refused state mask) core _ s t state (stays-noted (not (is_match state normal)) core _ s (Passed t) rest)
 
 pub Moves-load_state : (core : Table) (s t : ℕ) (mask : Option State) → Holds core → MayLoadState core s t mask → OneMoveOrNone s core (load_state core s t mask)
 Moves-load_state core s t mask holds may = stays-read core s t mask (is_own_read core s t) (core.reads s t) (core.state t)
 
 stays-read_rq : (core : Table) (s t : ℕ) (fresh rests : Bool) (old : TaskReads) (on m : ℕ) → Quiet core (load_rq_so core s t fresh rests old on m)
-stays-read_rq core s t fresh rests old on m = (stays-noted ((on == 0) && rests) core _ s t ((stays-noted ((on == 0) && fresh) core _ s t (record { places = λ t. refl; journals = λ k. refl })).1)).4
+stays-read_rq core s t fresh rests old on m =
+    stays-noted ((on == 0) && rests) core _ s (SawRestOff t) (stays-noted ((on == 0) && fresh) core _ s (SawOff t) (record { places = λ t. refl; journals = λ k. refl }))
 
 pub Moves-load_rq : (core : Table) (s t : ℕ) → Holds core → MayLoad core s t → OneMoveOrNone s core (load_rq core s t)
 Moves-load_rq core s t holds may = stays s core _ (stays-read_rq core s t (core.unstored s t) (core.rest_state s t) (core.reads s t) (core.on_rq t) (core.changes t))
 
 stays-read_busy : (core : Table) (s t : ℕ) (rests : Bool) (old : TaskReads) (busy : Bool) → Quiet core (load_busy_so core s t rests old busy)
-stays-read_busy core s t rests old busy = (stays-noted (not busy && rests) core _ s t ((stays-noted (not busy) core _ s t (record { places = λ t. refl; journals = λ k. refl })).2)).5
+stays-read_busy core s t rests old busy =
+    stays-noted (not busy && rests) core _ s (SawRestIdle t) (stays-noted (not busy) core _ s (SawClear t) (record { places = λ t. refl; journals = λ k. refl }))
 
 pub Moves-load_busy : (core : Table) (s t : ℕ) → Holds core → MayLoad core s t → OneMoveOrNone s core (load_busy core s t)
 Moves-load_busy core s t holds may = stays s core _ (stays-read_busy core s t (core.rest_off s t) (core.reads s t) (core.on_cpu t))
@@ -173,7 +201,7 @@ Moves-store_cpu core s t c holds may =
     let anew = placed-anew core s t c holds may in
     stays s core _ (record {
       places = rows t (λ u b. place (core.changes u) (core.on_rq u) (core.state u) (if b then c else core.cpu u) (core.lock u) (core.on_cpu u) ≡ place_of core u)
-        (same-place _ _ _ _ (q-cpu (core.changes t) (core.on_rq t) (core.state t) (core.cpu t) c (core.lock t) anew.off) (b-idle (core.on_cpu t) c anew.idle ∙ sym (b-idle (core.on_cpu t) (core.cpu t) anew.idle))) (λ u q. refl);
+          (same-place _ _ _ _ (q-cpu (core.changes t) (core.on_rq t) (core.state t) (core.cpu t) c (core.lock t) anew.off) (b-idle (core.on_cpu t) c anew.idle ∙ sym (b-idle (core.on_cpu t) (core.cpu t) anew.idle))) (λ u q. refl);
       journals = λ k. refl;
     })
 

@@ -1,5 +1,5 @@
 -- Stores of a task's state and of its processor word.
-use Rattle.std.proofs.Common.{◌≡◌, ◌≢◌, ℕ, ◌+◌, ◌<◌, ◌⊎◌, inl, inr, ◌++◌, ◌∷◌, [], List, length, Option, Some, None, refl, sym, subst, ap, ◌∙◌, arith}
+use Rattle.std.proofs.Common.{◌≡◌, ◌≢◌, ℕ, inl, inr, length, Some, refl, sym, subst, ap, arith}
 use Rattle.std.specs.Prelude.{◌==◌, Bool, true, false}
 use Rattle.std.proofs.lemmas.Bool.{cases_eq}
 use Rattle.core_data.specs.Table.{Table}
@@ -9,7 +9,7 @@ use Rattle.core_journals.proofs.Columns.{Numbered-log, LastChanges-log, LastChan
 use Rattle.core_journals.proofs.Next.{next-wake}
 use Rattle.core_journals.proofs.Rows.{LastRow, last-row}
 use Rattle.core_journals.proofs.RowsKept.{LastRow-queued, LastRow-new, LastRow-wakes}
-use Rattle.core_journals.proofs.RulesLog.{RulesKept-log}
+use Rattle.core_journals.proofs.RulesLog.{RulesKept-log, plain-log}
 use Rattle.core_journals.proofs.Running.{past, log, in_tasks}
 use Rattle.core_journals.proofs.States.{waking-runnable, waking-sleep, waking-dead, sleep-dead}
 use Rattle.core_kinds.specs.Steps.{running, waking, dead, is_sleep}
@@ -25,11 +25,11 @@ queued-row core t state p queued =
     subst (λ o. LastRow (past core) t state o (core.changes t) (core.cpu t) (core.on_cpu t) (core.lock t)) (sym queued) (LastRow-queued t _ _ _ _ _ (p.last_changes.queued t queued))
 
 slept : (b : Bool) (core : Table) (s t : ℕ) → JournalsHold core → JournalsHold (slept_if b core s t)
-slept true core s t p = record { rules = p.rules; numbered = p.numbered; last_changes = p.last_changes; wakes = p.wakes; last_runs = p.last_runs }
+slept true core s t p = record { plain = p.plain; rules = p.rules; numbered = p.numbered; last_changes = p.last_changes; wakes = p.wakes; last_runs = p.last_runs }
 slept false core s t p = p
 
 ran : (b : Bool) (core : Table) (s t : ℕ) → JournalsHold core → JournalsHold (ran_if b core s t)
-ran true core s t p = record { rules = p.rules; numbered = p.numbered; last_changes = p.last_changes; wakes = p.wakes; last_runs = p.last_runs }
+ran true core s t p = record { plain = p.plain; rules = p.rules; numbered = p.numbered; last_changes = p.last_changes; wakes = p.wakes; last_runs = p.last_runs }
 ran false core s t p = p
 
 pub JournalsHold-own_state : (core : Table) (s t : ℕ) (state : State) → Holds core → MayOwnState core s t state → JournalsHold (own_state core s t state)
@@ -37,6 +37,7 @@ JournalsHold-own_state core s t state holds may =
     let p = holds.journals in
     let off : (core.on_rq t ≡ 0 → ⊥) = λ h. let r = may.queued in omega (arith, h, r) in
     ran (state.0 == 0) _ s t (slept (is_sleep state) _ s t (record {
+      plain = p.plain;
       rules = p.rules;
       numbered = p.numbered;
       last_changes = LastChanges-state t state (queued-row core t state p may.queued) p.last_changes;
@@ -64,6 +65,7 @@ JournalsHold-claim core s t holds may =
     let new = next-wake (past core) s (length (core.journal s)) t (core.changes t) (in_tasks core t may.task) (p.last_changes.off t sleeper.2 sleeper.0 alive) first in
     let changes = LastChanges-log l p.last_changes in
     record {
+      plain = plain-log l p.plain new.plain;
       rules = RulesKept-log l p.rules new;
       numbered = Numbered-log l refl refl p.numbered;
       last_changes = LastChanges-state t waking (LastRow-wakes alive (last-row changes t)) changes;
@@ -78,6 +80,7 @@ running-waking h = let q = ap (λ (y : State). y.0) h in omega (arith, q)
 release-queued : (core : Table) (s t : ℕ) → JournalsHold core → core.on_rq t ≡ 1 → JournalsHold (release core s t)
 release-queued core s t p queued =
     record {
+      plain = p.plain;
       rules = p.rules;
       numbered = p.numbered;
       last_changes = LastChanges-state t running (queued-row core t running p queued) p.last_changes;
@@ -89,6 +92,7 @@ release-new : (core : Table) (s t : ℕ) → Holds core → core.changes t ≡ 0
 release-new core s t holds never =
     let p = holds.journals in
     record {
+      plain = p.plain;
       rules = p.rules;
       numbered = p.numbered;
       last_changes = LastChanges-state t running (LastRow-new running never (last-row p.last_changes t)) p.last_changes;
@@ -138,6 +142,7 @@ JournalsHold-store_cpu core s t c holds may =
     let p = holds.journals in
     let place = placed-anew core s t c holds may in
     record {
+      plain = p.plain;
       rules = p.rules;
       numbered = p.numbered;
       last_changes = LastChanges-cpu t c place.off (λ h. place.idle) place.woken p.last_changes;
