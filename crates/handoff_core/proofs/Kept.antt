@@ -1,12 +1,11 @@
 -- Each event keeps the invariant, and is one move of one task or none.
-use Rattle.std.proofs.Common.{◌≡◌, ℕ, ◌+◌, ◌<◌, length, take, get_or, sym, List, [], ◌∷◌, ◌++◌, subst}
+use Rattle.std.proofs.Common.{◌≡◌, ℕ, take, sym, List, [], ◌∷◌, subst}
 use Rattle.core_data.specs.Table.{Table}
 use Rattle.core_invariant.specs.Invariant.{Holds}
 use Rattle.core_journals.proofs.MovingSteps.{Moves-queue_task, Moves-dequeue_task, Moves-move_task, Moves-set_busy, Moves-clear_busy, Moves-claim}
 use Rattle.core_journals.proofs.StayingSteps.{Moves-take_task, Moves-give_task, Moves-take_queue, Moves-give_queue, Moves-take_wait, Moves-give_wait, Moves-take_works, Moves-give_works, Moves-body_out, Moves-body_home, Moves-own_state, Moves-release, Moves-load_state, Moves-load_rq, Moves-load_busy, Moves-load_cpu, Moves-store_cpu, Moves-bump, Moves-load_cond}
 use Rattle.core_journals.specs.Places.{OneMoveOrNone}
 use Rattle.core_law.proofs.Kept.{Holds-start, Holds-take_task, Holds-give_task, Holds-take_queue, Holds-give_queue, Holds-take_wait, Holds-give_wait, Holds-take_works, Holds-give_works, Holds-body_out, Holds-body_home, Holds-queue_task, Holds-dequeue_task, Holds-move_task, Holds-set_busy, Holds-clear_busy, Holds-own_state, Holds-claim, Holds-release, Holds-load_state, Holds-load_rq, Holds-load_busy, Holds-load_cpu, Holds-store_cpu, Holds-bump, Holds-load_cond}
-use Rattle.handoff_core.proofs.RunLemmas.{taken_one}
 use Rattle.handoff_core.specs.Reached.{IsReached}
 use Rattle.handoff_core.specs.Runs.{Ran, EachMoves}
 use Rattle.handoff_core.specs.Steps.{May, after}
@@ -82,8 +81,10 @@ Moves-ran core [] next holds ran = tt
 Moves-ran core (e ∷ events) next holds ran =
     (Moves-after core e.seat e.step holds ran.0, Moves-ran (after core e.seat e.step) events next (Holds-after core e.seat e.step holds ran.0) ran.1)
 
-pub moves_of : (core : Table) (events : List Event) (next : Table) → Ran core events next → Holds core → EachMoves core events
-moves_of core events next ran holds = Moves-ran core events next holds ran
-
 pub holds_of : (core : Table) (events : List Event) (next : Table) → Ran core events next → Holds core → Holds next
 holds_of core events next ran holds = Holds-ran core events next holds ran
+
+-- the events taken so far
+pub moves_taken : (core : Table) (events : List Event) (taken index : ℕ) (next : Table) → taken ≡ index → Ran core (take index events) next → Holds core → EachMoves core (take taken events)
+moves_taken core events taken index next same ran holds =
+    subst (λ (n : ℕ). EachMoves core (take n events)) (sym same) (Moves-ran core (take index events) next holds ran)

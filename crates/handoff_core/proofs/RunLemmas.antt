@@ -1,5 +1,5 @@
 -- A run goes on by one step.
-use Rattle.std.proofs.Common.{◌≡◌, ℕ, ◌+◌, ◌<◌, length, take, get_or, sym, ◌∙◌, List, [], ◌∷◌, ◌++◌, refl, subst, ap}
+use Rattle.std.proofs.Common.{◌≡◌, ℕ, ◌+◌, ◌<◌, length, take, get_or, sym, ◌∙◌, List, [], ◌∷◌, ◌++◌, subst, ap}
 use Rattle.std.proofs.lemmas.List.{take_more}
 use Rattle.core_data.specs.Table.{Table}
 use Rattle.handoff_core.specs.Runs.{Ran}

@@ -18,8 +18,8 @@ pub use core_data::{
 };
 pub use event::Event;
 pub use laws::{
-    each_step_keeps_the_invariant, no_lost_wake, one_run_at_a_time, opening_core_holds, stands_once,
-    wakes_queue_at_most_once,
+    each_step_keeps_the_invariant, no_lost_wake, one_run_at_a_time, opening_core_holds,
+    stands_once, wakes_queue_at_most_once,
 };
 pub use run::{CoreRun, law_run, step_core};
 pub use step::StepKind;

@@ -2,6 +2,7 @@ use Rattle.std.proofs.Common.{arith, rules, ◌<◌, length}
 use Rattle.std.proofs.lemmas.Option.{slice_get_past}
 use Rattle.core_data.specs.Table.{table}
 use Rattle.handoff_core.specs.Steps.{May}
+use Rattle.handoff_core.proofs.Kept.{holds_of, moves_taken}
 use Rattle.handoff_core.proofs.RunLemmas.{ran_on}
 use Rattle.handoff_core.proofs.run.law_run.Goals as goal
 
@@ -20,7 +21,13 @@ returns-clause-stops c =
     λ e h may. let none = slice_get_past c.args.events.now c.loop-event.taken (omega arith) in grind (arith, none, h)
 
 pub returns-clause-kept : goal.returns-clause-kept
-returns-clause-kept c = ?
+returns-clause-kept c = holds_of _ _ _ c.loop-event.invariant.ran
 
 pub returns-clause-moves : goal.returns-clause-moves
-returns-clause-moves c = ?
+returns-clause-moves c = moves_taken (table c.args.core) c.args.events.now _ _ _ c.loop-event.invariant.taken c.loop-event.invariant.ran
+
+pub returns-then-not-may_happen-clause-kept : goal.returns-then-not-may_happen-clause-kept
+returns-then-not-may_happen-clause-kept c = holds_of _ _ _ c.loop-event.invariant.ran
+
+pub returns-then-not-may_happen-clause-moves : goal.returns-then-not-may_happen-clause-moves
+returns-then-not-may_happen-clause-moves c = moves_taken (table c.args.core) c.args.events.now _ _ _ c.loop-event.invariant.taken c.loop-event.invariant.ran
