@@ -182,7 +182,8 @@ times-le core c queue once here cur k =
           ]
     ]
 
-pub fits : (core : Core) (c : ℕ) (queue : Queue) → IsOnce queue.waiting → AreHere (table core) c queue → IsCurHere (table core) c queue → count_by (is_row_at c) core.tasks.items ≡ runnable_count queue → IsQueueOf (table core).on_rq (table core).cpu c queue
+pub fits : (core : Core) (c : ℕ) (queue : Queue) → IsOnce queue.waiting → AreHere (table core) c queue → IsCurHere (table core) c queue
+    → count_by (is_row_at c) core.tasks.items ≡ runnable_count queue → IsQueueOf (table core).on_rq (table core).cpu c queue
 fits core c queue once here cur count k =
     let n = (table core).tasks in
     let words : ℕ → ℕ = λ (j : ℕ). one_if (is_at (table core).on_rq (table core).cpu c j) in

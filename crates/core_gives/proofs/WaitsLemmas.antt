@@ -82,7 +82,8 @@ pub each-entry : (entries : List WaitEntry) (P : WaitEntry → Type 0) → ((i :
 each-entry entries P at x h = let found = entry-place entries x h in at found.0 x (slice_get_within entries found.0 x found.1) found.1
 
 -- what holds of the entries before place n, and of the one there, holds of those before place n + 1
-pub more-entries : (entries : List WaitEntry) (P : WaitEntry → Type 0) (n : ℕ) (d : WaitEntry) → n < length entries → ((i : ℕ) (x : WaitEntry) → i < n → slice_get entries i ≡ Some x → P x) → P (get_or entries n d) → (i : ℕ) (x : WaitEntry) → i < n + 1 → slice_get entries i ≡ Some x → P x
+pub more-entries : (entries : List WaitEntry) (P : WaitEntry → Type 0) (n : ℕ) (d : WaitEntry) → n < length entries → ((i : ℕ) (x : WaitEntry) → i < n → slice_get entries i ≡ Some x → P x)
+    → P (get_or entries n d) → (i : ℕ) (x : WaitEntry) → i < n + 1 → slice_get entries i ≡ Some x → P x
 more-entries entries P n d lt below here =
     more entries P n below (λ x at. let e : get_or entries n d ≡ x = get_or_from_slice_get entries n x d at in subst P e here)
 
@@ -95,12 +96,14 @@ from-place entries i d lt =
     let e : suc i ≡ i + 1 = omega arith in
     subst (λ (j : ℕ). drop i entries ≡ get_or entries i d ∷ drop j entries) e (drop-cons entries i d lt)
 
-pub once-open : (entries : List WaitEntry) (i : ℕ) (d : WaitEntry) → i < length entries → HasEachOnce (drop i entries) → (has_task (take (length entries - (i + 1)) (drop (i + 1) entries)) (get_or entries i d).t ≡ false) × HasEachOnce (drop (i + 1) entries)
+pub once-open : (entries : List WaitEntry) (i : ℕ) (d : WaitEntry) → i < length entries → HasEachOnce (drop i entries)
+    → (has_task (take (length entries - (i + 1)) (drop (i + 1) entries)) (get_or entries i d).t ≡ false) × HasEachOnce (drop (i + 1) entries)
 once-open entries i d lt h =
     let both : (has_task (drop (i + 1) entries) (get_or entries i d).t ≡ false) × HasEachOnce (drop (i + 1) entries) = subst (λ (xs : List WaitEntry). HasEachOnce xs) (from-place entries i d lt) h in
     (ap (λ (xs : List WaitEntry). has_task xs (get_or entries i d).t) (take_rest entries (i + 1)) ∙ both.0, both.1)
 
-pub once-close : (entries : List WaitEntry) (i : ℕ) (d : WaitEntry) → i < length entries → has_task (take (length entries - (i + 1)) (drop (i + 1) entries)) (get_or entries i d).t ≡ false → HasEachOnce (drop (i + 1) entries) → HasEachOnce (drop i entries)
+pub once-close : (entries : List WaitEntry) (i : ℕ) (d : WaitEntry) → i < length entries → has_task (take (length entries - (i + 1)) (drop (i + 1) entries)) (get_or entries i d).t ≡ false
+    → HasEachOnce (drop (i + 1) entries) → HasEachOnce (drop i entries)
 once-close entries i d lt other rest =
     let none : has_task (drop (i + 1) entries) (get_or entries i d).t ≡ false = ap (λ (xs : List WaitEntry). has_task xs (get_or entries i d).t) (sym (take_rest entries (i + 1))) ∙ other in
     subst (λ (xs : List WaitEntry). HasEachOnce xs) (sym (from-place entries i d lt)) (none, rest)

@@ -77,7 +77,8 @@ fn is_current(core: &Core, t: TaskNo) -> bool
 
 /// Whether the task in `cur` may run, or runs.
 fn is_cur_runnable(core: &Core, queue: &QueueVal) -> bool
-    ensures { IsTrue result ↔ ((t : ℕ) → queue.now.cur ≡ Some t → IsRunnable ((table core.now).state t) ⊎ ((s : ℕ) × ((table core.now).current s ≡ Some t))) }
+    ensures { IsTrue result ↔ ((t : ℕ) → queue.now.cur ≡ Some t →
+        IsRunnable ((table core.now).state t) ⊎ ((s : ℕ) × ((table core.now).current s ≡ Some t))) }
 {
     match queue.cur {
         Some(t) => is_runnable(core, t) || is_current(core, t),
@@ -97,7 +98,8 @@ fn is_left_of(core: &Core, queue: &QueueVal) -> bool
 
 /// Whether seat s has the lock of the queue of processor c.
 fn has_lock(core: &Core, s: SeatNo, c: CpuNo) -> bool
-    ensures { IsTrue result ↔ ((s < (table core.now).seats) × (c < (table core.now).cpus) × ((table core.now).queue_lock c ≡ Some s)) }
+    ensures { IsTrue result ↔
+        ((s < (table core.now).seats) × (c < (table core.now).cpus) × ((table core.now).queue_lock c ≡ Some s)) }
 {
     (s as usize) < seats(core) && (c as usize) < cpus(core) && queue_lock(core, c) == Some(s)
 }

@@ -31,7 +31,9 @@ fn is_same_run(taken: &QueueVal, given: &QueueVal) -> bool
 /// Whether the seat has the queue out, and leaves `cur` and `left` of another processor's queue as they were taken.
 fn leaves_run(core: &Core, s: SeatNo, c: CpuNo, queue: &QueueVal) -> bool
     requires { s < (table core.now).seats }
-    ensures { IsTrue result ↔ (IsSome ((table core.now).queue_out s c) × (s ≢ c → (taken : Queue) → (table core.now).queue_out s c ≡ Some taken → (queue.now.cur ≡ taken.cur) × (queue.now.left ≡ taken.left))) }
+    ensures { IsTrue result ↔ (IsSome ((table core.now).queue_out s c)
+        × (s ≢ c → (taken : Queue) → (table core.now).queue_out s c ≡ Some taken →
+        (queue.now.cur ≡ taken.cur) × (queue.now.left ≡ taken.left))) }
 {
     match queue_out(core, s, c) {
         Some(taken) => s == c || is_same_run(taken, queue),
@@ -49,7 +51,9 @@ fn is_given_up(core: &Core, s: SeatNo, queue: &QueueVal, t: TaskNo) -> bool
 /// Whether the seat's current task, if it has one, goes on or is given up.
 fn keeps_or_gives_up(core: &Core, s: SeatNo, queue: &QueueVal) -> bool
     requires { s < (table core.now).seats }
-    ensures { IsTrue result ↔ ((t : ℕ) → (table core.now).current s ≡ Some t → (queue.now.cur ≡ Some t) ⊎ ((queue.now.cur ≡ None) × (queue.now.left ≡ Some t) × MayGiveUp (table core.now) s t)) }
+    ensures { IsTrue result ↔ ((t : ℕ) → (table core.now).current s ≡ Some t →
+        (queue.now.cur ≡ Some t)
+        ⊎ ((queue.now.cur ≡ None) × (queue.now.left ≡ Some t) × MayGiveUp (table core.now) s t)) }
 {
     match current(core, s) {
         Some(t) => queue.cur == Some(t) || is_given_up(core, s, queue, t),

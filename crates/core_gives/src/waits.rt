@@ -1,11 +1,13 @@
 //! Giving a wait queue: which entries may be put in and taken out, and what the seat then knows.
 
-ghost use Rattle.std.specs.Prelude.{◌≡◌, ◌<◌, ◌==◌, ◌&&◌, ◌⊎◌, ◌↔◌, ℕ, IsTrue, IsSome, Some, None, OnOk, IfOk, true, false};
+ghost use Rattle.std.specs.Prelude.{◌≡◌, ◌<◌, ◌==◌, ◌&&◌, ◌⊎◌, ◌↔◌, ℕ};
+ghost use Rattle.std.specs.Prelude.{IsTrue, IsSome, Some, None, OnOk, IfOk, true, false};
 ghost use Rattle.std.specs.List.{list_any};
 ghost use Rattle.core_data.specs.Entries.{has_entry};
 ghost use Rattle.core_data.specs.Table.{Table, table, put, put_at};
 ghost use Rattle.core_data.specs.declared.values.WaitEntry.{WaitEntry};
-ghost use Rattle.core_gives.specs.Waits.{has_task, HasEachOnce, IsPutIn, IsTakenOut, MayGiveWait, give_wait, is_walk, sleeper_of, walked_if};
+ghost use Rattle.core_gives.specs.Waits.{has_task, HasEachOnce, IsPutIn, IsTakenOut};
+ghost use Rattle.core_gives.specs.Waits.{MayGiveWait, give_wait, is_walk, sleeper_of, walked_if};
 
 use core_data::{Act, Core, WaitEntry, WaitVal, has_entry};
 use core_stores::{
@@ -83,7 +85,8 @@ fn was_taken_or_put_in(
 /// Whether each entry that is given was taken, or may be put in.
 fn are_put_in(core: &Core, s: SeatNo, k: CondNo, taken: &[WaitEntry], given: &[WaitEntry]) -> bool
     requires { s < (table core.now).seats }
-    ensures { IsTrue result ↔ ((x : WaitEntry) → has_entry given.now x ≡ true → has_entry taken.now x ≡ false → IsPutIn (table core.now) s k x) }
+    ensures { IsTrue result ↔ ((x : WaitEntry) →
+        has_entry given.now x ≡ true → has_entry taken.now x ≡ false → IsPutIn (table core.now) s k x) }
 {
     for x in given {
         if !was_taken_or_put_in(core, s, k, taken, x) {
@@ -124,7 +127,8 @@ fn are_taken_out(
     given: &[WaitEntry],
 ) -> bool
     requires { s < (table core.now).seats }
-    ensures { IsTrue result ↔ ((x : WaitEntry) → has_entry taken.now x ≡ true → has_entry given.now x ≡ false → IsTakenOut (table core.now) s k x) }
+    ensures { IsTrue result ↔ ((x : WaitEntry) →
+        has_entry taken.now x ≡ true → has_entry given.now x ≡ false → IsTakenOut (table core.now) s k x) }
 {
     for x in taken {
         if !is_given_or_taken_out(core, s, k, given, x) {
@@ -136,7 +140,8 @@ fn are_taken_out(
 
 /// Whether seat s has the lock of the wait queue of condition k.
 fn has_lock(core: &Core, s: SeatNo, k: CondNo) -> bool
-    ensures { IsTrue result ↔ ((s < (table core.now).seats) × (k < (table core.now).conds) × ((table core.now).wait_lock k ≡ Some s)) }
+    ensures { IsTrue result ↔
+        ((s < (table core.now).seats) × (k < (table core.now).conds) × ((table core.now).wait_lock k ≡ Some s)) }
 {
     (s as usize) < seats(core) && (k as usize) < conds(core) && wait_lock(core, k) == Some(s)
 }
@@ -144,7 +149,12 @@ fn has_lock(core: &Core, s: SeatNo, k: CondNo) -> bool
 /// Whether entries may be given in the place of those that were taken.
 fn may_change(core: &Core, s: SeatNo, k: CondNo, taken: &WaitVal, given: &WaitVal) -> bool
     requires { s < (table core.now).seats }
-    ensures { IsTrue result ↔ (HasEachOnce given.now × ((x : WaitEntry) → has_entry given.now x ≡ true → has_entry taken.now x ≡ false → IsPutIn (table core.now) s k x) × ((x : WaitEntry) → has_entry taken.now x ≡ true → has_entry given.now x ≡ false → IsTakenOut (table core.now) s k x) × ((x : WaitEntry) → has_entry given.now x ≡ true → x.t < (table core.now).tasks)) }
+    ensures { IsTrue result ↔ (HasEachOnce given.now
+        × ((x : WaitEntry) →
+        has_entry given.now x ≡ true → has_entry taken.now x ≡ false → IsPutIn (table core.now) s k x)
+        × ((x : WaitEntry) →
+        has_entry taken.now x ≡ true → has_entry given.now x ≡ false → IsTakenOut (table core.now) s k x)
+        × ((x : WaitEntry) → has_entry given.now x ≡ true → x.t < (table core.now).tasks)) }
 {
     let taken = taken.entries.as_slice();
     let given = given.entries.as_slice();
@@ -201,7 +211,8 @@ fn is_walk(core: &Core, s: SeatNo, k: CondNo, taken: &[WaitEntry]) -> bool
 /// Whether this give ends a walk that the seat owes.
 fn walks(core: &Core, s: SeatNo, k: CondNo, taken: &[WaitEntry]) -> bool
     requires { s < (table core.now).seats }
-    ensures { result ≡ ((table core.now).owes s k && ((table core.now).retaken s k && is_walk ((table core.now).passed s k) taken.now)) }
+    ensures { let now = table core.now in
+        result ≡ (now.owes s k && (now.retaken s k && is_walk (now.passed s k) taken.now)) }
 {
     owes(core, s, k) && retaken(core, s, k) && is_walk(core, s, k, taken)
 }
@@ -219,7 +230,12 @@ fn taken_entries(core: &Core, s: SeatNo, k: CondNo) -> Result<WaitVal, NoMemory>
 /// Gives the lock, and puts the entries home.
 fn put_home(core: &mut Core, s: SeatNo, k: CondNo, given: WaitVal)
     requires { (s < (table core.old).seats) × (k < (table core.old).conds) }
-    ensures { table core.new ≡ record (table core.old) { wait_lock = put (table core.old).wait_lock k None; wait = put (table core.old).wait k (Some given); wait_out = put_at (table core.old).wait_out s k None } }
+    ensures { let old = table core.old in
+        table core.new ≡ record old {
+          wait_lock = put old.wait_lock k None;
+          wait = put old.wait k (Some given);
+          wait_out = put_at old.wait_out s k None;
+        } }
 {
     put_wait_lock(core, k, None);
     put_wait(core, k, given);

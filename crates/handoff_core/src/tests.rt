@@ -292,15 +292,8 @@ fn owes<R: Abort>(rt: &R, core: &Core, seat: usize) -> bool {
 // A seat that raised the condition owes it until it gives the wait queue with each entry passed.
 #[test]
 fn a_walk_that_skips_an_entry_is_still_owed(rt: HostRuntime) -> Result<(), Fail> {
-    let sleeps = [START_0.as_slice(), PICK_0.as_slice(), PREPARE_0.as_slice()];
     let skips = [(1, Bump(0)), (1, TakeWait(0)), (1, GiveWait(0, SLEEPER_0))];
-    assert!(rt;
-        owes(
-            &rt,
-            &run(&rt, &[sleeps[0], sleeps[1], sleeps[2], &skips])?,
-            1
-        )
-    );
+    assert!(rt; owes(&rt, &run(&rt, &[&START_0, &PICK_0, &PREPARE_0, &skips])?, 1));
     let early = [
         (1, TakeWait(0)),
         (1, Bump(0)),
@@ -308,13 +301,7 @@ fn a_walk_that_skips_an_entry_is_still_owed(rt: HostRuntime) -> Result<(), Fail>
         (1, LoadState(0, None)),
         (1, GiveWait(0, SLEEPER_0)),
     ];
-    assert!(rt;
-        owes(
-            &rt,
-            &run(&rt, &[sleeps[0], sleeps[1], sleeps[2], &early])?,
-            1
-        )
-    );
+    assert!(rt; owes(&rt, &run(&rt, &[&START_0, &PICK_0, &PREPARE_0, &early])?, 1));
     let whole = [
         (1, Bump(0)),
         (1, TakeWait(0)),
@@ -322,13 +309,7 @@ fn a_walk_that_skips_an_entry_is_still_owed(rt: HostRuntime) -> Result<(), Fail>
         (1, LoadState(0, None)),
         (1, GiveWait(0, SLEEPER_0)),
     ];
-    assert!(rt;
-        !owes(
-            &rt,
-            &run(&rt, &[sleeps[0], sleeps[1], sleeps[2], &whole])?,
-            1
-        )
-    );
+    assert!(rt; !owes(&rt, &run(&rt, &[&START_0, &PICK_0, &PREPARE_0, &whole])?, 1));
     Ok(())
 }
 

@@ -257,10 +257,9 @@ fn a_task_is_given_as_it_was_taken(rt: HostRuntime) -> Result<(), Fail> {
 
 #[test]
 fn a_queue_says_what_the_words_say(rt: HostRuntime) -> Result<(), Fail> {
-    let start = START_0.as_slice();
     stop(
         &rt,
-        &[&start[..5]],
+        &[&START_0[..5]],
         &[
             ("a queued task left out", (0, GiveQueue(0, EMPTY))),
             ("a task that isn't queued", (0, GiveQueue(0, WAIT_01))),
@@ -300,17 +299,17 @@ fn a_queue_says_what_the_words_say(rt: HostRuntime) -> Result<(), Fail> {
         &[&START_0, &MOVE_0, &[(0, TakeQueue(0))]],
         &[("picked from another processor", (0, SetBusy(0, 0, RUN_0)))],
     )?;
-    let wake = ENQUEUE_0.as_slice();
-    let off = [
-        START_0.as_slice(),
-        PICK_0.as_slice(),
-        PREPARE_0.as_slice(),
-        LEAVE_0.as_slice(),
-        CLEAR_0.as_slice(),
-    ];
     stop(
         &rt,
-        &[off[0], off[1], off[2], off[3], off[4], &CLAIM_0, &wake[..5]],
+        &[
+            &START_0,
+            &PICK_0,
+            &PREPARE_0,
+            &LEAVE_0,
+            &CLEAR_0,
+            &CLAIM_0,
+            &ENQUEUE_0[..5],
+        ],
         &[(
             "a task that waits with TASK_WAKING",
             (1, GiveQueue(0, LEFT_0_WAIT_0)),
@@ -319,13 +318,13 @@ fn a_queue_says_what_the_words_say(rt: HostRuntime) -> Result<(), Fail> {
     stop(
         &rt,
         &[
-            off[0],
-            off[1],
-            off[2],
-            off[3],
-            off[4],
+            &START_0,
+            &PICK_0,
+            &PREPARE_0,
+            &LEAVE_0,
+            &CLEAR_0,
             &CLAIM_0,
-            &wake[..5],
+            &ENQUEUE_0[..5],
             &[(1, LoadBusy(0))],
         ],
         &[("moved with TASK_WAKING", (1, MoveTask(0, 0, WAIT_0)))],
@@ -345,16 +344,9 @@ fn no_task_is_picked_that_may_not_run(rt: HostRuntime) -> Result<(), Fail> {
         (0, TakeQueue(0)),
         (0, QueueTask(0, 0)),
     ];
-    let off = [
-        START_0.as_slice(),
-        PICK_0.as_slice(),
-        PREPARE_0.as_slice(),
-        LEAVE_0.as_slice(),
-        CLEAR_0.as_slice(),
-    ];
     stop(
         &rt,
-        &[off[0], off[1], off[2], off[3], off[4], &own_wake],
+        &[&START_0, &PICK_0, &PREPARE_0, &LEAVE_0, &CLEAR_0, &own_wake],
         &[
             ("picked with TASK_WAKING", (0, SetBusy(0, 0, LEFT_0_RUN_0))),
             ("next with TASK_WAKING", (0, GiveQueue(0, LEFT_0_RUN_0))),
@@ -362,7 +354,14 @@ fn no_task_is_picked_that_may_not_run(rt: HostRuntime) -> Result<(), Fail> {
     )?;
     stop(
         &rt,
-        &[off[0], off[1], off[2], off[3], off[4], &[(0, TakeQueue(0))]],
+        &[
+            &START_0,
+            &PICK_0,
+            &PREPARE_0,
+            &LEAVE_0,
+            &CLEAR_0,
+            &[(0, TakeQueue(0))],
+        ],
         &[("picked asleep", (0, SetBusy(0, 0, LEFT_0_RUN_0)))],
     )?;
     stop(
@@ -405,10 +404,9 @@ fn no_task_is_picked_that_may_not_run(rt: HostRuntime) -> Result<(), Fail> {
 
 #[test]
 fn a_body_is_out_with_its_own_seat(rt: HostRuntime) -> Result<(), Fail> {
-    let running = [START_0.as_slice(), PICK_0.as_slice()];
     stop(
         &rt,
-        &running,
+        &[&START_0, &PICK_0],
         &[
             ("the body of another seat's task", (1, BodyOut(0))),
             ("a body home that is home", (0, BodyHome(0, false))),
@@ -417,7 +415,7 @@ fn a_body_is_out_with_its_own_seat(rt: HostRuntime) -> Result<(), Fail> {
     )?;
     stop(
         &rt,
-        &[running[0], running[1], &[(0, BodyOut(0))]],
+        &[&START_0, &PICK_0, &[(0, BodyOut(0))]],
         &[
             ("a body out twice", (0, BodyOut(0))),
             ("put home by another seat", (1, BodyHome(0, false))),
@@ -425,11 +423,7 @@ fn a_body_is_out_with_its_own_seat(rt: HostRuntime) -> Result<(), Fail> {
     )?;
     stop(
         &rt,
-        &[
-            running[0],
-            running[1],
-            &[(0, BodyOut(0)), (0, TakeQueue(0))],
-        ],
+        &[&START_0, &PICK_0, &[(0, BodyOut(0)), (0, TakeQueue(0))]],
         &[(
             "given up with its body out",
             (0, GiveQueue(0, LEFT_0_WAIT_0)),
@@ -438,8 +432,8 @@ fn a_body_is_out_with_its_own_seat(rt: HostRuntime) -> Result<(), Fail> {
     stop(
         &rt,
         &[
-            running[0],
-            running[1],
+            &START_0,
+            &PICK_0,
             &[(0, BodyOut(0)), (0, BodyHome(0, true)), (0, BodyOut(0))],
         ],
         &[("a body that has ended goes on", (0, BodyHome(0, false)))],
@@ -449,10 +443,9 @@ fn a_body_is_out_with_its_own_seat(rt: HostRuntime) -> Result<(), Fail> {
 
 #[test]
 fn a_task_stores_its_own_state(rt: HostRuntime) -> Result<(), Fail> {
-    let running = [START_0.as_slice(), PICK_0.as_slice()];
     stop(
         &rt,
-        &running,
+        &[&START_0, &PICK_0],
         &[
             ("another seat's task", (1, OwnState(0, SLEEPS))),
             ("TASK_WAKING", (0, OwnState(0, State::TASK_WAKING))),
@@ -460,22 +453,21 @@ fn a_task_stores_its_own_state(rt: HostRuntime) -> Result<(), Fail> {
     )?;
     stop(
         &rt,
-        &[running[0], running[1], &[(0, TakeTask(0))]],
+        &[&START_0, &PICK_0, &[(0, TakeTask(0))]],
         &[("dead before its body has ended", (0, OwnState(0, DEAD)))],
     )?;
     stop(
         &rt,
         &[
-            running[0],
-            running[1],
+            &START_0,
+            &PICK_0,
             &[(0, BodyOut(0)), (0, BodyHome(0, true))],
         ],
         &[("dead without its lock", (0, OwnState(0, DEAD)))],
     )?;
-    let leave = LEAVE_0.as_slice();
     stop(
         &rt,
-        &[running[0], running[1], &PREPARE_0, &leave[..3]],
+        &[&START_0, &PICK_0, &PREPARE_0, &LEAVE_0[..3]],
         &[
             ("a state after it left its queue", (0, OwnState(0, RUNS))),
             ("off its queue twice", (0, DequeueTask(0, 0))),
@@ -486,17 +478,16 @@ fn a_task_stores_its_own_state(rt: HostRuntime) -> Result<(), Fail> {
 
 #[test]
 fn a_task_leaves_by_a_state_that_was_read(rt: HostRuntime) -> Result<(), Fail> {
-    let running = [START_0.as_slice(), PICK_0.as_slice()];
     stop(
         &rt,
-        &[running[0], running[1], &PREPARE_0, &[(0, TakeQueue(0))]],
+        &[&START_0, &PICK_0, &PREPARE_0, &[(0, TakeQueue(0))]],
         &[("no state read", (0, DequeueTask(0, 0)))],
     )?;
     stop(
         &rt,
         &[
-            running[0],
-            running[1],
+            &START_0,
+            &PICK_0,
             &[(0, TakeQueue(0)), (0, LoadState(0, None))],
         ],
         &[("TASK_RUNNING read", (0, DequeueTask(0, 0)))],
@@ -504,8 +495,8 @@ fn a_task_leaves_by_a_state_that_was_read(rt: HostRuntime) -> Result<(), Fail> {
     stop(
         &rt,
         &[
-            running[0],
-            running[1],
+            &START_0,
+            &PICK_0,
             &PREPARE_0,
             &[
                 (0, TakeQueue(0)),
@@ -531,49 +522,42 @@ fn a_task_leaves_by_a_state_that_was_read(rt: HostRuntime) -> Result<(), Fail> {
 
 #[test]
 fn a_waker_claims_what_it_read_as_off(rt: HostRuntime) -> Result<(), Fail> {
-    let off = [
-        START_0.as_slice(),
-        PICK_0.as_slice(),
-        PREPARE_0.as_slice(),
-        LEAVE_0.as_slice(),
-    ];
-    let claim = CLAIM_0.as_slice();
     stop(
         &rt,
-        &[off[0], off[1], off[2], off[3], &claim[..2]],
+        &[&START_0, &PICK_0, &PREPARE_0, &LEAVE_0, &CLAIM_0[..2]],
         &[("on_rq not read", (1, StoreWaking(0)))],
     )?;
     stop(
         &rt,
         &[
-            off[0],
-            off[1],
-            off[2],
-            off[3],
+            &START_0,
+            &PICK_0,
+            &PREPARE_0,
+            &LEAVE_0,
             &[(1, TakeTask(0)), (1, LoadState(0, None)), (1, LoadRq(0))],
         ],
         &[("no state that matches a mask", (1, StoreWaking(0)))],
     )?;
     stop(
         &rt,
-        &[off[0], off[1], off[2], &claim[..3]],
+        &[&START_0, &PICK_0, &PREPARE_0, &CLAIM_0[..3]],
         &[("read as queued", (1, StoreWaking(0)))],
     )?;
     stop(
         &rt,
         &[
-            off[0],
-            off[1],
-            off[2],
-            off[3],
-            &claim[..3],
+            &START_0,
+            &PICK_0,
+            &PREPARE_0,
+            &LEAVE_0,
+            &CLAIM_0[..3],
             &[(1, GiveTask(0, AS_TAKEN))],
         ],
         &[("the lock was given", (1, StoreWaking(0)))],
     )?;
     stop(
         &rt,
-        &[off[0], off[1], off[2], off[3], claim],
+        &[&START_0, &PICK_0, &PREPARE_0, &LEAVE_0, &CLAIM_0],
         &[
             ("claimed twice", (1, StoreWaking(0))),
             ("given on its way", (1, GiveTask(0, AS_TAKEN))),
@@ -583,11 +567,11 @@ fn a_waker_claims_what_it_read_as_off(rt: HostRuntime) -> Result<(), Fail> {
     stop(
         &rt,
         &[
-            off[0],
-            off[1],
-            off[2],
-            off[3],
-            claim,
+            &START_0,
+            &PICK_0,
+            &PREPARE_0,
+            &LEAVE_0,
+            &CLAIM_0,
             &[(1, LoadBusy(0)), (1, TakeQueue(0))],
         ],
         &[("queued while it is busy", (1, QueueTask(0, 0)))],
@@ -595,10 +579,10 @@ fn a_waker_claims_what_it_read_as_off(rt: HostRuntime) -> Result<(), Fail> {
     stop(
         &rt,
         &[
-            off[0],
-            off[1],
-            off[2],
-            off[3],
+            &START_0,
+            &PICK_0,
+            &PREPARE_0,
+            &LEAVE_0,
             &CLEAR_0,
             &[(1, TakeTask(0)), (1, LoadBusy(0)), (1, TakeQueue(0))],
         ],
@@ -612,13 +596,12 @@ fn a_waker_claims_what_it_read_as_off(rt: HostRuntime) -> Result<(), Fail> {
 
 #[test]
 fn a_waker_stores_running_under_both_locks(rt: HostRuntime) -> Result<(), Fail> {
-    let asleep = [START_0.as_slice(), PICK_0.as_slice(), PREPARE_0.as_slice()];
     stop(
         &rt,
         &[
-            asleep[0],
-            asleep[1],
-            asleep[2],
+            &START_0,
+            &PICK_0,
+            &PREPARE_0,
             &[(1, TakeTask(0)), (1, LoadState(0, NORMAL))],
         ],
         &[("without the queue's lock", (1, StoreRunning(0)))],
@@ -626,9 +609,9 @@ fn a_waker_stores_running_under_both_locks(rt: HostRuntime) -> Result<(), Fail> 
     stop(
         &rt,
         &[
-            asleep[0],
-            asleep[1],
-            asleep[2],
+            &START_0,
+            &PICK_0,
+            &PREPARE_0,
             &[(1, TakeTask(0)), (1, TakeQueue(0))],
         ],
         &[("without a state that matches", (1, StoreRunning(0)))],
@@ -636,9 +619,9 @@ fn a_waker_stores_running_under_both_locks(rt: HostRuntime) -> Result<(), Fail> 
     stop(
         &rt,
         &[
-            asleep[0],
-            asleep[1],
-            asleep[2],
+            &START_0,
+            &PICK_0,
+            &PREPARE_0,
             &[
                 (1, TakeTask(0)),
                 (1, LoadState(0, NORMAL)),
@@ -651,9 +634,9 @@ fn a_waker_stores_running_under_both_locks(rt: HostRuntime) -> Result<(), Fail> 
     stop(
         &rt,
         &[
-            asleep[0],
-            asleep[1],
-            asleep[2],
+            &START_0,
+            &PICK_0,
+            &PREPARE_0,
             &[
                 (0, TakeTask(0)),
                 (0, LoadState(0, NORMAL)),
@@ -712,11 +695,9 @@ fn a_task_is_moved_that_waits(rt: HostRuntime) -> Result<(), Fail> {
 
 #[test]
 fn entries_are_put_in_and_taken_out_by_those_who_may(rt: HostRuntime) -> Result<(), Fail> {
-    let running = [START_0.as_slice(), PICK_0.as_slice()];
-    let prepare = PREPARE_0.as_slice();
     stop(
         &rt,
-        &[running[0], running[1], &prepare[..2]],
+        &[&START_0, &PICK_0, &PREPARE_0[..2]],
         &[
             (
                 "two entries of a task",
@@ -731,8 +712,8 @@ fn entries_are_put_in_and_taken_out_by_those_who_may(rt: HostRuntime) -> Result<
     stop(
         &rt,
         &[
-            running[0],
-            running[1],
+            &START_0,
+            &PICK_0,
             &[(0, OwnState(0, SLEEPS)), (0, TakeWait(0))],
         ],
         &[(
@@ -742,7 +723,7 @@ fn entries_are_put_in_and_taken_out_by_those_who_may(rt: HostRuntime) -> Result<
     )?;
     stop(
         &rt,
-        &[running[0], running[1], prepare, &[(1, TakeWait(0))]],
+        &[&START_0, &PICK_0, &PREPARE_0, &[(1, TakeWait(0))]],
         &[
             (
                 "an entry of a task that wasn't passed",
@@ -754,9 +735,9 @@ fn entries_are_put_in_and_taken_out_by_those_who_may(rt: HostRuntime) -> Result<
     stop(
         &rt,
         &[
-            running[0],
-            running[1],
-            prepare,
+            &START_0,
+            &PICK_0,
+            &PREPARE_0,
             &[(1, TakeWait(0)), (1, LoadState(0, None))],
         ],
         &[(

@@ -20,7 +20,8 @@ returns-then-not-was_taken_or_put_in c =
 pub loop-x-preserved : goal.loop-x-preserved
 loop-x-preserved c =
     let d : WaitEntry = record { t = 0; exclusive = false } in
-    more-entries c.args.given.now (λ x. (has_entry c.args.taken.now x ≡ false → IsPutIn (table c.args.core.now) c.args.s c.args.k x)) c.loop-x.x-index d c.loop-x-test.true c.loop-x.invariant (c.was_taken_or_put_in.ensures.0 c.if-not-was_taken_or_put_in.false)
+    more-entries c.args.given.now (λ x. (has_entry c.args.taken.now x ≡ false → IsPutIn (table c.args.core.now) c.args.s c.args.k x)) c.loop-x.x-index d c.loop-x-test.true c.loop-x.invariant
+    (c.was_taken_or_put_in.ensures.0 c.if-not-was_taken_or_put_in.false)
 
 pub returns : goal.returns
 returns c =

@@ -20,7 +20,8 @@ returns-then-not-is_given_or_taken_out c =
 pub loop-x-preserved : goal.loop-x-preserved
 loop-x-preserved c =
     let d : WaitEntry = record { t = 0; exclusive = false } in
-    more-entries c.args.taken.now (λ x. (has_entry c.args.given.now x ≡ false → IsTakenOut (table c.args.core.now) c.args.s c.args.k x)) c.loop-x.x-index d c.loop-x-test.true c.loop-x.invariant (c.is_given_or_taken_out.ensures.0 c.if-not-is_given_or_taken_out.false)
+    more-entries c.args.taken.now (λ x. (has_entry c.args.given.now x ≡ false → IsTakenOut (table c.args.core.now) c.args.s c.args.k x)) c.loop-x.x-index d c.loop-x-test.true c.loop-x.invariant
+    (c.is_given_or_taken_out.ensures.0 c.if-not-is_given_or_taken_out.false)
 
 pub returns : goal.returns
 returns c =
