@@ -1,0 +1,5 @@
+pub mod FitsLemmas
+pub mod Places
+pub mod Rows
+pub mod WaitsLemmas
+pub mod WorksLemmas

@@ -1,0 +1,10 @@
+pub mod Busy
+pub mod Histories
+pub mod Invariant
+pub mod Journals
+pub mod Locks
+pub mod Places
+pub mod Positions
+pub mod Queues
+pub mod Shapes
+pub mod Sleepers

@@ -1,0 +1,66 @@
+-- What the invariant says, in the sentences that an author of a kernel would look for.
+use Rattle.std.specs.Prelude.{◌≡◌, ◌≢◌, ◌+◌, ◌-◌, ◌*◌, ◌<◌, ◌≤◌, ◌⊎◌, ℕ, Bool, true, false, List, Some}
+use Rattle.core_data.specs.Entries.{has_entry}
+use Rattle.core_data.specs.Queue.{Queue}
+use Rattle.core_data.specs.Table.{Table}
+use Rattle.core_data.specs.declared.values.WaitEntry.{WaitEntry}
+use Rattle.core_gives.specs.Queues.{times}
+use Rattle.core_invariant.specs.Histories.{history}
+use Rattle.core_invariant.specs.Sleepers.{IsOwed, shared_entry}
+use Rattle.core_journals.specs.Places.{place_of}
+use Rattle.core_kinds.specs.Steps.{is_sleep}
+use Rattle.handoff_data.specs.History.{History}
+use Rattle.handoff_data.specs.Numbers.{run_of}
+use Rattle.handoff_data.specs.Positions.{Stands, IsSomewhere}
+use Rattle.handoff_data.specs.declared.entry.Entry.TheVariants as entry
+use Rattle.handoff_data.specs.declared.place.Q.TheVariants as q
+use Rattle.journal_laws.specs.Laws.{AreNumbered, IsRun}
+
+-- the journals of the core's seats
+abbrev pub journals_of : Table → History
+journals_of core = history core.cpus core.tasks core.seats core.journal
+
+-- The picks and finishes of t have the numbers from 1 to the last, each once. The odd ones are picks, and each even one
+-- is a finish, in the journal of the pick before it and behind it.
+pub record RunsTakeTurns (j : History) (t last : ℕ) : Type 0 where
+  pub numbered : AreNumbered run_of j t last
+  pub begins : (k : ℕ) → 2 * k + 1 ≤ last → (c : ℕ) × IsSomewhere j (entry.Pick t (2 * k + 1) c)
+  pub ends : (k : ℕ) → 2 * k + 2 ≤ last → IsRun j t (2 * k + 1) (2 * k + 2)
+
+-- No task is current at two seats, and the runs of each take turns.
+pub record OneRunAtATime (core : Table) : Type 0 where
+  pub one_seat : (s s' t : ℕ) → core.current s ≡ Some t → core.current s' ≡ Some t → s ≡ s'
+  pub in_turn : (t : ℕ) → RunsTakeTurns (journals_of core) t (core.runs t)
+
+-- A task that is queued on a processor stands once in the queue of that processor, in `waiting` or as `cur`, and in no
+-- other queue; a task that isn't stands in none. A queue that is out counts as it was taken, for the tasks that its
+-- holder neither put on a queue nor took off one since.
+pub record StandsOnce (core : Table) : Type 0 where
+  pub here : (t c : ℕ) (val : Queue) → (place_of core t).q ≡ q.On c → core.queue c ≡ Some val → times val t ≡ 1
+  pub nowhere_else : (t c : ℕ) (val : Queue) → (place_of core t).q ≢ q.On c → core.queue c ≡ Some val → times val t ≡ 0
+  pub here_out : (s t c : ℕ) (taken : Queue) → core.queue_out s c ≡ Some taken → core.added s c t ≡ false → core.dropped s c t ≡ false
+      → (place_of core t).q ≡ q.On c → times taken t ≡ 1
+  pub nowhere_else_out : (s t c : ℕ) (taken : Queue) → core.queue_out s c ≡ Some taken → core.added s c t ≡ false → core.dropped s c t ≡ false
+      → (place_of core t).q ≢ q.On c → times taken t ≡ 0
+
+-- For each wake there is at most one queueing with the next number, and none of another wake.
+pub record WakesQueueAtMostOnce (j : History) : Type 0 where
+  pub one_queueing : (t m seat index seat' index' c c' : ℕ) (by_list by_list' : Bool)
+      → Stands j seat index (entry.Enq t m c by_list) → Stands j seat' index' (entry.Enq t m c' by_list') → (seat ≡ seat') × (index ≡ index')
+  pub woken : (t m c : ℕ) (by_list : Bool) → IsSomewhere j (entry.Enq t m c by_list) → (0 < m) × IsSomewhere j (entry.Wake t (m - 1))
+  pub one_wake : (t m seat index seat' index' : ℕ) → Stands j seat index (entry.Wake t m) → Stands j seat' index' (entry.Wake t m)
+      → (seat ≡ seat') × (index ≡ index')
+
+-- t has an entry in the wait queue of k that isn't exclusive, at home or as it was taken
+abbrev pub Waits : Table → ℕ → ℕ → Type 0
+Waits core k t =
+    ((entries : List WaitEntry) × (core.wait k ≡ Some entries) × (has_entry entries (shared_entry t) ≡ true))
+    ⊎ ((s : ℕ) × (taken : List WaitEntry) × (core.wait_out s k ≡ Some taken) × (has_entry taken (shared_entry t) ≡ true))
+
+-- No lost wake: where such a task is off its queue in a sleep state, and what it tested differs from the condition, some
+-- seat owes the condition, and since it last raised it, hasn't taken the lock of the wait queue, or hasn't passed the
+-- task since it last took that lock.
+abbrev pub NoLostWake : Table → Type 0
+NoLostWake core =
+    (k t tested : ℕ) → Waits core k t → core.on_rq t ≡ 0 → is_sleep (core.state t) ≡ true
+    → core.test (core.cpu t) t k ≡ Some tested → tested ≢ core.cond k → IsOwed core.owes core.retaken core.passed k t

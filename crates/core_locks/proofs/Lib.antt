@@ -1,0 +1,13 @@
+pub mod AddedParts
+pub mod Branches
+pub mod BusyKept
+pub mod Found
+pub mod Guards
+pub mod LocksKept
+pub mod Opening
+pub mod QueueParts
+pub mod QueuesKept
+pub mod Rows
+pub mod Runners
+pub mod ShapesKept
+pub mod Values

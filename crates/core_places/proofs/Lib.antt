@@ -1,0 +1,17 @@
+pub mod Claimed
+pub mod Facts
+pub mod Idle
+pub mod LastReads
+pub mod Loads
+pub mod Marks
+pub mod Matched
+pub mod NewTasks
+pub mod OffTasks
+pub mod Places
+pub mod PlacesByTests
+pub mod Positions
+pub mod PositionsByTests
+pub mod Resting
+pub mod Running
+pub mod Seen
+pub mod StartOfPlaces

@@ -1,0 +1,114 @@
+-- Each kind of step whose effect hangs on a test, but for the loads of a task's words, keeps what a seat may rely on.
+use Rattle.std.proofs.Common.{◌≡◌, ◌≢◌, ℕ, ◌⊎◌, inl, inr, List, Bool, true, false, Option, Some, None, refl, ◌∙◌, arith}
+use Rattle.std.proofs.lemmas.Bool.{cases_eq}
+use Rattle.std.proofs.lemmas.Bool.Decides.{nat_tests}
+use Rattle.core_data.specs.Noted.{noted}
+use Rattle.core_data.specs.Queue.{Queue}
+use Rattle.core_data.specs.Table.{Table, put, put_at}
+use Rattle.core_data.specs.declared.act.Act.TheVariants.{OwnStored}
+use Rattle.core_data.specs.declared.values.WaitEntry.{WaitEntry}
+use Rattle.core_gives.specs.Queues.{MayGiveQueue, give_queue, gives_up, give_up_if}
+use Rattle.core_gives.specs.Waits.{MayGiveWait, give_wait, give_by, walked_if}
+use Rattle.core_invariant.proofs.Puts.{put_there}
+use Rattle.core_invariant.specs.Histories.{history}
+use Rattle.core_invariant.specs.Invariant.{Holds}
+use Rattle.core_invariant.specs.Positions.{PositionsHold}
+use Rattle.core_kinds.specs.Locks.{unseen}
+use Rattle.core_kinds.specs.Steps.{waking, dead, stored_word, kept_reads}
+use Rattle.core_kinds.specs.Waking.{MayOwnState, own_state, IsOwnState, slept_if, ran_if, MayBump, load_cond, test_by, tested_if}
+use Rattle.core_places.proofs.Claimed.{ClaimedTasks-state}
+use Rattle.core_places.proofs.Facts.{one_seat}
+use Rattle.core_places.proofs.Idle.{IdleTasks-give}
+use Rattle.core_places.proofs.LastReads.{CpusRead-same, ReadsTold-forget, WakingStored-state, MovingStored-stored}
+use Rattle.core_places.proofs.Matched.{MatchedTasks-state}
+use Rattle.core_places.proofs.Resting.{RestingTasks-state}
+use Rattle.core_places.proofs.Seen.{SeenStates-give, SeenStates-own}
+use Rattle.handoff_data.specs.declared.state.State.{State}
+
+slept : (b : Bool) (core : Table) (s t : ℕ) → PositionsHold core → PositionsHold (slept_if b core s t)
+slept true core s t p = assumption p
+slept false core s t p = p
+
+ran : (b : Bool) (core : Table) (s t : ℕ) → PositionsHold core → PositionsHold (ran_if b core s t)
+ran true core s t p = assumption p
+ran false core s t p = p
+
+walked : (b : Bool) (core : Table) (s k : ℕ) → PositionsHold core → PositionsHold (walked_if b core s k)
+walked true core s k p = assumption p
+walked false core s k p = p
+
+tested : (b : Bool) (core : Table) (s t k v : ℕ) → PositionsHold core → PositionsHold (tested_if b core s t k v)
+tested true core s t k v p = assumption p
+tested false core s t k v p = p
+
+tested_by : (o : Option ℕ) (core : Table) (s k : ℕ) → PositionsHold core → PositionsHold (test_by core s o k)
+tested_by None core s k p = p
+tested_by (Some t) core s k p = tested (core.slept s t) core s t k (core.cond k) p
+
+pub PositionsHold-load_cond : (core : Table) (s k : ℕ) → Holds core → MayBump core s k → PositionsHold (load_cond core s k)
+PositionsHold-load_cond core s k holds may = tested_by (core.current s) core s k holds.positions
+
+wait-put : (core : Table) (s : ℕ) (lock : ℕ → Option ℕ) (wait : ℕ → Option (List WaitEntry)) (out : ℕ → ℕ → Option (List WaitEntry)) (asleep : ℕ → ℕ → Bool) → PositionsHold core
+    → PositionsHold (record core { wait_lock = lock; wait = wait; wait_out = out; asleep = put core.asleep s asleep })
+wait-put core s lock wait out asleep p = assumption p
+
+given_by : (o : Option (List WaitEntry)) (core : Table) (s k : ℕ) (given : List WaitEntry) → PositionsHold core → PositionsHold (give_by core s k given o)
+given_by None core s k given p = p
+given_by (Some taken) core s k given p = walked _ _ s k (wait-put core s (put core.wait_lock k None) (put core.wait k (Some given)) (put_at core.wait_out s k None) _ p)
+
+pub PositionsHold-give_wait : (core : Table) (s k : ℕ) (given : List WaitEntry) → Holds core → MayGiveWait core s k given → PositionsHold (give_wait core s k given)
+PositionsHold-give_wait core s k given holds may = given_by (core.wait_out s k) core s k given holds.positions
+
+own_awake : (core : Table) (s t : ℕ) (state : State) → IsOwnState core s t state → state ≢ waking
+own_awake core s t state (inl a) h = grind (arith, a, h)
+own_awake core s t state (inr (inl a)) h = grind (arith, nat_tests, a, h)
+own_awake core s t state (inr (inr a)) h = grind (arith, a.0, h)
+
+own_alive : (core : Table) (s t : ℕ) (state : State) → core.on_rq t ≡ 1 → IsOwnState core s t state → (core.lock t ≡ Some s) ⊎ ((core.on_rq t ≡ 1) × (state ≢ dead))
+own_alive core s t state queued (inl a) = inr (queued, λ h. grind (arith, a, h))
+own_alive core s t state queued (inr (inl a)) = inr (queued, λ h. grind (arith, nat_tests, a, h))
+own_alive core s t state queued (inr (inr a)) = inl a.1
+
+pub PositionsHold-own_state : (core : Table) (s t : ℕ) (state : State) → Holds core → MayOwnState core s t state → PositionsHold (own_state core s t state)
+PositionsHold-own_state core s t state holds may =
+    let p = holds.positions in
+    let j = history core.cpus core.tasks core.seats core.journal in
+    let r = kept_reads t (core.reads s t) in
+    let awake = own_awake core s t state may.allowed in
+    let q : PositionsHold (noted (stored_word (record core { state = put core.state t state; seen = put core.seen s None }) s t) s (OwnStored t)) = assumption (
+      p,
+      MatchedTasks-state core.state core.on_rq core.changes core.lock core.unstored core.saw_off s t state p.matched (own_alive core s t state may.queued may.allowed),
+      ClaimedTasks-state core.state core.on_rq core.on_cpu core.lock core.claimed core.clear t state p.claimed (inl (λ h. let z = may.queued in omega arith)),
+      RestingTasks-state core.state core.on_rq core.on_cpu core.lock core.rest_state core.rest_off core.rest_idle s t state p.resting (inr awake),
+      SeenStates-own core.cpus core.state core.on_rq core.queue_lock core.current core.seen s t state p.seen (one_seat core s t holds may.current),
+      CpusRead-same core.cpu core.lock core.reads s t r p.cpu refl,
+      ReadsTold-forget j core.cpu core.lock core.reads s t r p.reads refl,
+      WakingStored-state core.state core.on_rq core.lock core.stored s t state p.waking_stored (inr awake),
+      MovingStored-stored core.on_rq core.lock core.stored s t p.moving_stored,
+    ) in
+    ran _ _ s t (slept _ _ s t q)
+
+given_up : (core : Table) (s c : ℕ) (queue : Queue) (b : Bool) → gives_up s c queue ≡ b → Holds core → MayGiveQueue core s c queue → PositionsHold (unseen (give_up_if b (record core {
+  queue_lock = put core.queue_lock c None;
+  queue = put core.queue c (Some queue);
+  queue_out = put_at core.queue_out s c None;
+}) s) s c)
+given_up core s c queue false up holds may =
+    let p = holds.positions in
+    assumption (
+      p,
+      SeenStates-give core.cpus core.state core.on_rq core.queue_lock core.current core.current core.seen s c p.seen may.locked (λ k u h. h),
+      IdleTasks-give core.on_rq core.cpu core.on_cpu core.queue_lock core.current core.current core.idle core.added c p.idle (λ k u h. inl h),
+    )
+given_up core s c queue true up holds may =
+    let p = holds.positions in
+    let own : s ≡ c = grind (arith, nat_tests, up) in
+    assumption (
+      p,
+      SeenStates-give core.cpus core.state core.on_rq core.queue_lock core.current (put core.current s None) core.seen s c p.seen may.locked (λ k u h. grind (arith, nat_tests, h)),
+      IdleTasks-give core.on_rq core.cpu core.on_cpu core.queue_lock core.current (put core.current s None) core.idle core.added c p.idle
+          (λ k u h. elim (cases_eq k s) [ inl q ↦ inr (holds.busy.runner.current_here k u h ∙ (q ∙ own)) | inr q ↦ inl (put_there core.current s None k q ∙ h) ]),
+    )
+
+pub PositionsHold-give_queue : (core : Table) (s c : ℕ) (queue : Queue) → Holds core → MayGiveQueue core s c queue → PositionsHold (give_queue core s c queue)
+PositionsHold-give_queue core s c queue holds may = given_up core s c queue (gives_up s c queue) refl holds may

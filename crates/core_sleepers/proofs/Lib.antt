@@ -1,0 +1,12 @@
+pub mod Conditions
+pub mod Entries
+pub mod Gives
+pub mod Moves
+pub mod Opens
+pub mod Passes
+pub mod Placed
+pub mod Plain
+pub mod Safe
+pub mod Still
+pub mod Stores
+pub mod Takes

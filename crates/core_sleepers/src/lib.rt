@@ -1,0 +1,2 @@
+//! Steps keep sleepers safe: lemmas.
+#![tactic(auto)]

@@ -1,0 +1,6 @@
+use Rattle.core_law.proofs.Laws.{one-run_at_a_time}
+use Rattle.handoff_core.proofs.Kept.{Holds-reached}
+use Rattle.handoff_core.proofs.laws.one_run_at_a_time.Goals as goal
+
+pub returns : goal.returns
+returns c = λ core reached. one-run_at_a_time core (Holds-reached core reached)

@@ -1,0 +1,47 @@
+//! What holds of every core that a machine can come to, as laws: each function's contract is the sentence over all
+//! cores and all lists of events, and there is nothing to run.
+
+ghost use Rattle.core_data.specs.Opening.{IsStart};
+ghost use Rattle.core_data.specs.Table.{Table};
+ghost use Rattle.core_invariant.specs.Invariant.{Holds};
+ghost use Rattle.core_journals.specs.Places.{OneMoveOrNone};
+ghost use Rattle.core_law.specs.Laws.{OneRunAtATime, StandsOnce, WakesQueueAtMostOnce, NoLostWake, journals_of};
+ghost use Rattle.handoff_core.specs.Reached.{IsReached};
+ghost use Rattle.handoff_core.specs.Steps.{Step};
+ghost use Rattle.handoff_core.specs.declared.event.Event.{Event};
+ghost use Rattle.handoff_data.specs.Shape.{IsShape};
+ghost use Rattle.handoff_data.specs.declared.shape.Shape.{Shape};
+
+/// The opening core of every shape meets the invariant.
+pub fn opening_core_holds()
+    ensures { (shape : Shape) (core : Table) → IsShape shape → IsStart shape core → Holds core }
+{}
+
+/// Each possible event leads from a core that meets the invariant to one that does, and is one move of one task by
+/// the table of moves, with its entry in the seat's journal, or moves no task.
+pub fn each_step_keeps_the_invariant()
+    ensures { (core : Table) (event : Event) (next : Table) → Holds core → Step core event next → Holds next × OneMoveOrNone event.seat core next }
+{}
+
+/// No task is current at two seats; and over all journals the picks and finishes of a task alternate by their
+/// numbers, each finish in the journal of its pick.
+pub fn one_run_at_a_time()
+    ensures { (core : Table) → IsReached core → OneRunAtATime core }
+{}
+
+/// A task that is queued on a processor stands once in the queue of that processor, and in no other.
+pub fn stands_once()
+    ensures { (core : Table) → IsReached core → StandsOnce core }
+{}
+
+/// For each wake there is at most one queueing with the next number, and none of another wake.
+pub fn wakes_queue_at_most_once()
+    ensures { (core : Table) → IsReached core → WakesQueueAtMostOnce (journals_of core) }
+{}
+
+/// A sleeper whose test differs from its condition has a seat that owes it a wake: a task with an entry that isn't
+/// exclusive, off its queue in a sleep state, whose test isn't the condition's value, has a seat that raised the
+/// condition and since then hasn't taken the wait queue's lock, or hasn't passed the task since it last did.
+pub fn no_lost_wake()
+    ensures { (core : Table) → IsReached core → NoLostWake core }
+{}

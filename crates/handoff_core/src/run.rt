@@ -1,0 +1,159 @@
+//! Events and runs of events.
+
+ghost use Rattle.std.specs.Prelude.{◌≡◌, ◌↔◌, ◌≤◌, Some, IsTrue, OnOk, IfOk, MatchOption, take, length, slice_get};
+ghost use Rattle.core_data.specs.Table.{Table, table};
+ghost use Rattle.core_invariant.specs.Invariant.{Holds};
+ghost use Rattle.handoff_core.specs.Runs.{Ran, EachMoves};
+ghost use Rattle.handoff_core.specs.Steps.{May, after, Step};
+ghost use Rattle.handoff_core.specs.declared.event.Event.{Event};
+
+use crate::event::Event;
+use crate::step::StepKind;
+use core_data::{Core, copy_core};
+use core_gives::{give_queue, give_wait, may_give_queue, may_give_wait, may_give_works};
+use core_kinds::{
+    body_home, body_out, bump, claim, clear_busy, dequeue_task, give_task, give_works, load_busy,
+    load_cond, load_cpu, load_rq, load_state, may_body_home, may_body_out, may_bump, may_claim,
+    may_clear_busy, may_dequeue, may_give_task, may_load, may_load_state, may_move, may_own_state,
+    may_queue, may_release, may_set_busy, may_store_cpu, may_take_queue, may_take_task,
+    may_take_wait, may_take_works, move_task, own_state, queue_task, release, set_busy, store_cpu,
+    take_queue, take_task, take_wait, take_works,
+};
+use handoff_data::{NoMemory, SeatNo};
+
+/// Whether an event is possible.
+fn may_happen(core: &Core, event: &Event) -> bool
+    ensures { IsTrue result ↔ May (table core.now) event.now.seat event.now.step }
+{
+    let s = event.seat;
+    match &event.step {
+        StepKind::TakeTask { t } => may_take_task(core, s, *t),
+        StepKind::GiveTask {
+            t,
+            val,
+            stood,
+            done,
+        } => may_give_task(core, s, *t, *val, *stood, *done),
+        StepKind::TakeQueue { c } => may_take_queue(core, s, *c),
+        StepKind::GiveQueue { c, val } => may_give_queue(core, s, *c, val),
+        StepKind::TakeWait { k } => may_take_wait(core, s, *k),
+        StepKind::GiveWait { k, val } => may_give_wait(core, s, *k, val),
+        StepKind::TakeWorks { c } => may_take_works(core, s, *c),
+        StepKind::GiveWorks { c, val } => may_give_works(core, s, *c, val),
+        StepKind::BodyOut { t } => may_body_out(core, s, *t),
+        StepKind::BodyHome { t, ended } => may_body_home(core, s, *t, *ended),
+        StepKind::StoreRqOn { c, t } => may_queue(core, s, *c, *t),
+        StepKind::StoreRqOff { c, t } => may_dequeue(core, s, *c, *t),
+        StepKind::StoreRqMoving { c, t, val } => may_move(core, s, *c, *t, val),
+        StepKind::SetBusy { c, t, val } => may_set_busy(core, s, *c, *t, val),
+        StepKind::ClearBusy { t } => may_clear_busy(core, s, *t),
+        StepKind::OwnState { t, state } => may_own_state(core, s, *t, *state),
+        StepKind::StoreWaking { t } => may_claim(core, s, *t),
+        StepKind::StoreRunning { t } => may_release(core, s, *t),
+        StepKind::LoadState { t, mask } => may_load_state(core, s, *t, *mask),
+        StepKind::LoadRq { t } => may_load(core, s, *t),
+        StepKind::LoadBusy { t } => may_load(core, s, *t),
+        StepKind::LoadCpu { t } => may_load(core, s, *t),
+        StepKind::StoreCpu { t, c } => may_store_cpu(core, s, *t, *c),
+        StepKind::Bump { k } => may_bump(core, s, *k),
+        StepKind::LoadCond { k } => may_bump(core, s, *k),
+    }
+}
+
+/// Makes a possible event happen.
+fn happen(core: &mut Core, event: &Event) -> Result<(), NoMemory>
+    requires { May (table core.old) event.now.seat event.now.step }
+    ensures { OnOk result (table core.new ≡ after (table core.old) event.now.seat event.now.step) }
+{
+    let s = event.seat;
+    match &event.step {
+        StepKind::TakeTask { t } => take_task(core, s, *t),
+        StepKind::GiveTask {
+            t,
+            val,
+            stood: _,
+            done: _,
+        } => {
+            give_task(core, s, *t, *val);
+            Ok(())
+        }
+        StepKind::TakeQueue { c } => take_queue(core, s, *c),
+        StepKind::GiveQueue { c, val } => {
+            let val = val.clone()?;
+            give_queue(core, s, *c, val);
+            Ok(())
+        }
+        StepKind::TakeWait { k } => take_wait(core, s, *k),
+        StepKind::GiveWait { k, val } => {
+            let val = val.clone()?;
+            give_wait(core, s, *k, val)
+        }
+        StepKind::TakeWorks { c } => take_works(core, s, *c),
+        StepKind::GiveWorks { c, val } => {
+            let val = val.clone()?;
+            give_works(core, s, *c, val);
+            Ok(())
+        }
+        StepKind::BodyOut { t } => {
+            body_out(core, s, *t);
+            Ok(())
+        }
+        StepKind::BodyHome { t, ended } => {
+            body_home(core, s, *t, *ended);
+            Ok(())
+        }
+        StepKind::StoreRqOn { c, t } => queue_task(core, s, *c, *t),
+        StepKind::StoreRqOff { c, t } => dequeue_task(core, s, *c, *t),
+        StepKind::StoreRqMoving { c, t, val } => move_task(core, s, *c, *t, val),
+        StepKind::SetBusy { c, t, val: _ } => set_busy(core, s, *c, *t),
+        StepKind::ClearBusy { t } => clear_busy(core, s, *t),
+        StepKind::OwnState { t, state } => own_state(core, s, *t, *state),
+        StepKind::StoreWaking { t } => claim(core, s, *t),
+        StepKind::StoreRunning { t } => release(core, s, *t),
+        StepKind::LoadState { t, mask } => load_state(core, s, *t, *mask),
+        StepKind::LoadRq { t } => load_rq(core, s, *t),
+        StepKind::LoadBusy { t } => load_busy(core, s, *t),
+        StepKind::LoadCpu { t } => load_cpu(core, s, *t),
+        StepKind::StoreCpu { t, c } => store_cpu(core, s, *t, *c),
+        StepKind::Bump { k } => bump(core, s, *k),
+        StepKind::LoadCond { k } => load_cond(core, s, *k),
+    }
+}
+
+/// The core after an event, or none where the event isn't possible in this core.
+pub fn step_core(core: &Core, event: &Event) -> Result<Option<Core>, NoMemory>
+    ensures { IfOk result (λ o. MatchOption o (May (table core.now) event.now.seat event.now.step → ⊥) (λ next. Step (table core.now) event.now (table next))) }
+{
+    if !may_happen(core, event) {
+        return Ok(None);
+    }
+    let mut next = copy_core(core)?;
+    happen(&mut next, event)?;
+    Ok(Some(next))
+}
+
+/// What a run of events came to: the core after those that were taken, and how many these are.
+#[derive(Debug, Drop)]
+pub struct CoreRun {
+    pub core: Core,
+    pub taken: usize,
+}
+
+/// Takes events up to the first impossible one.
+pub fn law_run(mut core: Core, events: &[Event]) -> Result<CoreRun, NoMemory>
+    ensures ran { IfOk result (λ run. Ran (table core) (take run.taken events.now) (table run.core)) }
+    ensures within { IfOk result (λ run. run.taken ≤ length events.now) }
+    ensures stops { IfOk result (λ run. (e : Event) → slice_get events.now run.taken ≡ Some e → May (table run.core) e.seat e.step → ⊥) }
+    ensures kept { IfOk result (λ run. Holds (table core) → Holds (table run.core)) }
+    ensures moves { IfOk result (λ run. Holds (table core) → EachMoves (table core) (take run.taken events.now)) }
+{
+    let mut taken = 0;
+    for event in events {
+        if !may_happen(&core, event) {
+            return Ok(CoreRun { core, taken });
+        }
+        happen(&mut core, event)?;
+        taken += 1;
+    }
+    Ok(CoreRun { core, taken })
+}

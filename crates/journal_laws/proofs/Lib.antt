@@ -1,0 +1,6 @@
+pub mod Kept
+pub mod Once
+pub mod Numbering
+pub mod ChangeLaws
+pub mod RunLaws
+pub mod WakeLaws
