@@ -1,0 +1,5 @@
+pub mod Once
+pub mod Numbering
+pub mod ChangeLaws
+pub mod RunLaws
+pub mod WakeLaws
