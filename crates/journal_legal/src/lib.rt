@@ -9,3 +9,6 @@ pub use handoff_data::{Entry, Journal, Journals, NoMemory, SeatNo, TaskNo};
 pub use law::one_verdict;
 pub use verdict::Verdict;
 pub use walk::legal;
+
+#[cfg(test)]
+mod tests;

@@ -23,6 +23,4 @@ pub use top::wakerun;
 #[cfg(test)]
 mod check_tests;
 #[cfg(test)]
-mod rule_tests;
-#[cfg(test)]
 mod tests;

@@ -1,6 +1,7 @@
 // Each rule: short journals in which an entry breaks just that one, and a neighbour that breaks none. Expected answers are
 // those of the rules, found by hand. In the texts ` ; ` stands for a line end, and the first lines are left out.
 use super::*;
+use journal_text::read_journal;
 use std::alloc::AllocError;
 use std::process::Abort;
 use std::test::Fail;
@@ -25,13 +26,13 @@ fn text_of<R: AllocGlobal>(
     Ok(text)
 }
 
-// What `check` answers of this text.
-fn answer<R: AllocGlobal>(rt: &R, text: Vec<u8>) -> Result<Status, AllocError> {
-    let mut source = MemSource::new(text, Vec::new(rt.alloc()));
-    let mut sink = MemSink::new(rt.alloc(), Vec::new(rt.alloc()));
-    let mut words = Vec::new(rt.alloc());
-    words.push(String::from_str(rt.alloc(), "check")?)?;
-    Ok(wakerun(rt.alloc(), words.as_slice(), &mut source, &mut sink))
+// The verdict on this text, if it is one of journals.
+fn verdict<R: AllocGlobal>(rt: &R, text: &[u8]) -> Option<Verdict> {
+    let journals = read_journal(rt.alloc(), text).ok()?;
+    if journals.seats.len() > 20 {
+        return None;
+    }
+    legal(rt.alloc(), &journals).ok()
 }
 
 type Case = (u32, u32, u32, &'static str, u32, u64);
@@ -43,12 +44,12 @@ fn expect_broken<R: Abort + AllocGlobal>(
 ) -> Result<(), AllocError> {
     for (cpus, tasks, seats, entries, seat, index) in cases {
         let text = text_of(rt, (*cpus, *tasks, *seats), entries)?;
-        let fault = JournalFault::Entry {
+        let bad = Verdict::FirstBad {
             seat: *seat,
             index: *index,
             rule,
         };
-        assert_eq!(rt; answer(rt, text)?, Status::Illegal(fault), "{entries}");
+        assert_eq!(rt; verdict(rt, text.as_slice()), Some(bad), "{entries}");
     }
     Ok(())
 }
@@ -59,7 +60,11 @@ fn expect_kept<R: Abort + AllocGlobal>(
 ) -> Result<(), AllocError> {
     for (cpus, tasks, seats, entries) in cases {
         let text = text_of(rt, (*cpus, *tasks, *seats), entries)?;
-        assert_eq!(rt; answer(rt, text)?, Status::Ok, "{entries}");
+        assert_eq!(rt;
+            verdict(rt, text.as_slice()),
+            Some(Verdict::Legal),
+            "{entries}"
+        );
     }
     Ok(())
 }
