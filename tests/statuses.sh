@@ -1,6 +1,7 @@
 #!/bin/sh
 # What the built program prints to standard error and with what status it ends, for each answer that a command can show;
-# and the report of each script in examples/.
+# the report of each script in examples/, and the answer on
+# each text of journals in examples/journals/.
 # Run it after `rt ci`, which leaves the program in crates/wakerun/out.
 top=$(CDPATH='' cd -- "$(dirname -- "$0")/.." && pwd) || exit 1
 program=$top/crates/wakerun/out/wakerun
@@ -43,6 +44,22 @@ for script in "$top"/examples/*.wake; do
     cmp -s "${script%.wake}.report" "$work/out" || { failed=$((failed + 1)); echo "$script: wrong report"; }
 done
 
+# The answer on legal journals is printed to standard output; on others nothing is, and the status is 6.
+for journal in "$top"/examples/journals/*.journal; do
+    answer=$(cat "${journal%.journal}.answer")
+    run "$journal" "$work/out" check
+    case $answer in
+        legal*)
+            expect "$journal" 0 ''
+            cmp -s "${journal%.journal}.answer" "$work/out" || { failed=$((failed + 1)); echo "$journal: wrong line"; }
+            ;;
+        *)
+            expect "$journal" 6 "$answer"
+            [ ! -s "$work/out" ] || { failed=$((failed + 1)); echo "$journal: something was written"; }
+            ;;
+    esac
+done
+
 run "$work/bad" "$work/out" run
 expect 'no script' 1 'wakerun: line 2: 2 UnknownWord'
 [ ! -s "$work/out" ] || { failed=$((failed + 1)); echo 'no script: something was written'; }
@@ -52,6 +69,8 @@ run "$work/hi" "$work/out"
 expect 'no words' 2 "$usage"
 run "$work/hi" "$work/out" run run
 expect 'two words' 2 "$usage"
+run "$work/hi" "$work/out" check run
+expect 'two commands' 2 "$usage"
 run "$work/hi" "$work/out" "$(printf 'run\377')"
 expect 'a word that is no text' 2 "$usage"
 
@@ -61,6 +80,15 @@ run "$work/hi" /dev/full run
 expect 'a full device' 4 'wakerun: write fault'
 run "$work/bad" /dev/full run
 expect 'no script, and a full device' 1 'wakerun: line 2: 2 UnknownWord'
+
+run "$work" "$work/out" check
+expect 'a folder in the place of journals' 3 'wakerun: read fault'
+run "$top/examples/journals/one_task.journal" /dev/full check
+expect 'legal journals, and a full device' 4 'wakerun: write fault'
+run "$top/examples/journals/no_wake.journal" /dev/full check
+expect 'illegal journals, and a full device' 6 'wakerun: illegal seat 0 entry 4 rule 4'
+run "$work/hi" "$work/out" check
+expect 'a script in the place of journals' 6 'wakerun: journal line 1'
 
 echo "statuses: $passed passed, $failed failed"
 [ "$failed" = 0 ]

@@ -1,3 +1,4 @@
+pub mod Bounds
 pub mod Digits
 pub mod EntryBack
 pub mod FieldLaws

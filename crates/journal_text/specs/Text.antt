@@ -1,6 +1,7 @@
 -- What a whole text says: journals, or the first line that may not stand where it does.
 use Rattle.std.specs.Prelude.{◌≡◌, ◌==◌, ◌+◌, ◌-◌, ℕ, Bool, List, [], ◌∷◌, Option, Some, None, Result, Ok, Err, length, nat_lt, nat_le, if◌then◌else◌}
-use Rattle.std.specs.List.{slice_split}
+use Rattle.std.specs.List.{slice_split, sum_by}
+use Rattle.handoff_data.specs.declared.entry.Entry.{Entry}
 use Rattle.handoff_data.specs.History.{History}
 use Rattle.journal_text.specs.declared.heading.Stage.{Stage}
 use Rattle.journal_text.specs.declared.heading.Stage.TheVariants as stage
@@ -60,3 +61,11 @@ reading bytes = parts_from 1 byte_limit blank_progress (slice_split is_feed byte
 abbrev pub IsFault : JournalError → Result History ℕ → Type 0
 IsFault (errors.Text line) said = said ≡ Err line
 IsFault errors.NoMemory said = Unit {0}
+
+-- how many entries these journals have
+abbrev pub entries_in : List (List Entry) → ℕ
+entries_in seats = sum_by (λ (entries : List Entry). length entries) seats
+
+-- how many entries the journals have
+abbrev pub entry_count : History → ℕ
+entry_count j = entries_in j.seats

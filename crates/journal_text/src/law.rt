@@ -1,13 +1,19 @@
 //! What is written is read.
 
-ghost use Rattle.std.specs.Prelude.{◌≡◌, ◌≤◌, Ok, length};
+ghost use Rattle.std.specs.Prelude.{◌≡◌, ◌≤◌, ◌+◌, ℕ, List, Ok, length};
 ghost use Rattle.handoff_data.specs.History.{History};
 ghost use Rattle.journal_text.specs.Readable.{AreReadable, text_of};
 ghost use Rattle.journal_text.specs.Spelling.{spelling};
-ghost use Rattle.journal_text.specs.Text.{byte_limit, reading};
+ghost use Rattle.journal_text.specs.Text.{byte_limit, entry_count, reading};
 
 /// Reading what was written gives the journals back, where they are in the reader's ranges and the text is within
 /// its limit.
 pub fn written_is_read()
     ensures { (j : History) → AreReadable j → length (text_of (spelling j)) ≤ byte_limit → reading (text_of (spelling j)) ≡ Ok j }
+{}
+
+/// A text of journals is within the limit, and says at most one journal or one entry a line. A law: the call does nothing.
+pub fn texts_are_bounded()
+    ensures within { (bytes : List ℕ) (j : History) → reading bytes ≡ Ok j → length bytes ≤ byte_limit }
+    ensures few { (bytes : List ℕ) (j : History) → reading bytes ≡ Ok j → length j.seats + entry_count j ≤ length bytes + 1 }
 {}

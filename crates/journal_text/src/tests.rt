@@ -102,3 +102,109 @@ fn journals_are_written_in_one_way(rt: HostRuntime) -> Result<(), Fail> {
     }
     Ok(())
 }
+
+// The text of one processor, one task and one seat whose journal has this line.
+fn with_line<R: AllocGlobal>(rt: &R, line: &str) -> Result<String, NoMemory> {
+    let text = format!(in rt.alloc(); "journal 1\ncpus 1\ntasks 1\nseats 1\nseat 0\n{line}\nend\n")?;
+    Ok(text)
+}
+
+#[test]
+fn lines_of_no_form_are_refused(rt: HostRuntime) -> Result<(), Fail> {
+    let lines = [
+        "sleeps 0 1 0",
+        "New 0 1 0",
+        "new",
+        "new 0 1",
+        "new 0 1 0 0",
+        "new 0 x 0",
+        "new 0 -1 0",
+        "new 0 +1 0",
+        "new 0 1a 0",
+        "new 0\r 1 0",
+        "new 0 1 4294967296",
+        "wake 0 18446744073709551616",
+        "wake 0 000000000000000000001",
+        "wake 0 1 0",
+        "list 0 1 0",
+        "list 0 1 0 18446744073709551616",
+        "enq 0 1 0",
+        "enq 0 1 0 listed",
+        "enq 0 1 0 list 0",
+        "mask 0 1",
+        "mask 0 1 ,3",
+        "mask 0 1 3,,4",
+        "mask 0 1 0-3",
+        "mask 0 1 -,3",
+        "mask 0 1 3 4",
+        "stood 0 0 1",
+        "stood 0 0 1 --",
+        "done 0",
+        "refused 0",
+        "offline 0",
+        "up 0 x",
+        "seat",
+        "seat 0",
+        "seat 2",
+        "end 1",
+        "journal 1",
+        "cpus 1",
+    ];
+    for line in lines {
+        let text = with_line(&rt, line)?;
+        assert_eq!(rt; refused_line(&rt, text.as_str())?, 6, "{line}");
+    }
+    Ok(())
+}
+
+#[test]
+fn lines_are_spelled_with_some_freedom(rt: HostRuntime) -> Result<(), Fail> {
+    let lines = [
+        "wake 0 18446744073709551615",
+        "wake 0 00000000000000000001",
+        "wake \t 0\t\t1\r\r",
+        "new 4294967295 18446744073709551615 4294967295",
+        "mask 0 1 015,0,0,003,15",
+        "stood 0 0 1 4294967295",
+        "refused 0 065535",
+        "",
+        " \t \r",
+    ];
+    for line in lines {
+        let text = with_line(&rt, line)?;
+        assert_eq!(rt; refused_line(&rt, text.as_str())?, 0, "{line}");
+    }
+    Ok(())
+}
+
+#[test]
+fn first_lines_and_last_ones_have_their_places(rt: HostRuntime) -> Result<(), Fail> {
+    let table = [
+        ("\r\n", 2),
+        ("Journal 1\n", 1),
+        ("journal\n", 1),
+        ("journal 1 1\n", 1),
+        ("journal 1\ntasks 1\n", 2),
+        ("journal 1\ncpus 0\n", 2),
+        ("journal 1\ncpus 2\ntasks 1\nseats 1\n", 4),
+        ("journal 1\ncpus 1\ntasks 1\nseats 1\nseat 1\n", 5),
+        ("journal 1\ncpus 1\ntasks 1\nseats 1\nnew 0 1 0\n", 5),
+        (
+            "journal 1\ncpus 1\ntasks 1\nseats 1\nseat 0\nend\nend\n",
+            7,
+        ),
+        (
+            "journal 1\ncpus 1\ntasks 1\nseats 1\nseat 0\nend\n\t\n \r\n.",
+            9,
+        ),
+        (
+            "journal 1\ncpus 1\ntasks 1\nseats 2\nseat 0\nseat 0\n",
+            6,
+        ),
+        ("journal 1\ncpus 16\ntasks 200\nseats 20\nseat 0", 6),
+    ];
+    for (text, line) in table {
+        assert_eq!(rt; refused_line(&rt, text)?, line, "{text}");
+    }
+    Ok(())
+}

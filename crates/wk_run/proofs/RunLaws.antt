@@ -7,11 +7,12 @@ use Rattle.task_script.specs.declared.script.Script.{Script}
 use Rattle.task_script.specs.Script.{IsScript}
 use Rattle.wk_run.specs.Input.{ReadsInput}
 use Rattle.wk_run.specs.Run.{ReadsFault}
+use Rattle.wk_run.specs.declared.journal_fault.JournalFault.{JournalFault}
 use Rattle.wk_run.specs.declared.status.Status.{Status}
 use Rattle.wk_run.specs.declared.status.Status.TheVariants as status
 
 -- what was read is all that the source told, where that is no longer than the limit
-read_all : (limit : ℕ) (bytes read : List ℕ) (left : Option (List ℕ)) → length bytes ≤ limit → ReadsInput limit (Some bytes) left read → bytes ≡ read
+pub read_all : (limit : ℕ) (bytes read : List ℕ) (left : Option (List ℕ)) → length bytes ≤ limit → ReadsInput limit (Some bytes) left read → bytes ≡ read
 read_all limit bytes read None within input = absurd input.taken
 read_all limit bytes read (Some rest) within input =
     let whole : bytes ≡ read ++ rest = input.taken in
@@ -25,11 +26,12 @@ script-read bytes script left line code is refused =
     let same : bytes ≡ refused.read = read_all _ bytes refused.read left is.within refused.input in
     refused.no_script script (subst (λ (b : List ℕ). IsScript b script) same is)
 
--- the answers that are left where these four can't be
-pub answers-left : (s : Status) → (s ≡ status.Usage → ⊥) → (s ≡ status.ReadFault → ⊥) → (s ≡ status.WriteFault → ⊥) → ((line code : ℕ) → s ≡ status.BadScript line code → ⊥) → (s ≡ status.Ok) ⊎ (s ≡ status.NoMemory)
-answers-left status.Ok usage read write bad = inl refl
-answers-left (status.BadScript line code) usage read write bad = absurd (bad line code refl)
-answers-left status.Usage usage read write bad = absurd (usage refl)
-answers-left status.ReadFault usage read write bad = absurd (read refl)
-answers-left status.WriteFault usage read write bad = absurd (write refl)
-answers-left status.NoMemory usage read write bad = inr refl
+-- the answers that are left where these can't be
+pub answers-left : (s : Status) → (s ≡ status.Usage → ⊥) → (s ≡ status.ReadFault → ⊥) → (s ≡ status.WriteFault → ⊥) → ((line code : ℕ) → s ≡ status.BadScript line code → ⊥) → ((why : JournalFault) → s ≡ status.Illegal why → ⊥) → (s ≡ status.Ok) ⊎ (s ≡ status.NoMemory)
+answers-left status.Ok usage read write bad illegal = inl refl
+answers-left (status.BadScript line code) usage read write bad illegal = absurd (bad line code refl)
+answers-left status.Usage usage read write bad illegal = absurd (usage refl)
+answers-left status.ReadFault usage read write bad illegal = absurd (read refl)
+answers-left status.WriteFault usage read write bad illegal = absurd (write refl)
+answers-left status.NoMemory usage read write bad illegal = inr refl
+answers-left (status.Illegal why) usage read write bad illegal = absurd (illegal why refl)

@@ -5,4 +5,5 @@ pub mod Words
 pub mod Status
 pub mod Named
 pub mod Run
+pub mod Check
 pub mod ReadError

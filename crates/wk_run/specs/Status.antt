@@ -1,7 +1,7 @@
 -- The exit status of an answer.
 use Rattle.std.specs.Prelude.{ℕ}
 use Rattle.wk_run.specs.declared.status.Status.{Status}
-use Rattle.wk_run.specs.declared.status.Status.TheVariants.{Ok, BadScript, Usage, ReadFault, WriteFault, NoMemory}
+use Rattle.wk_run.specs.declared.status.Status.TheVariants.{Ok, BadScript, Usage, ReadFault, WriteFault, NoMemory, Illegal}
 
 abbrev pub code_of : Status → ℕ
 code_of Ok = 0
@@ -10,3 +10,4 @@ code_of Usage = 2
 code_of ReadFault = 3
 code_of WriteFault = 4
 code_of NoMemory = 5
+code_of (Illegal fault) = 6

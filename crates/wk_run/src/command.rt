@@ -6,6 +6,7 @@ ghost use Rattle.task_script.specs.declared.script.ScriptError.TheVariants.{Bad}
 ghost use Rattle.task_script.specs.declared.script.ScriptFault.{ScriptFault};
 ghost use Rattle.task_script.specs.declared.script.TaskDef.{TaskDef};
 ghost use Rattle.wk_run.specs.Ends.{Rose};
+ghost use Rattle.wk_run.specs.declared.journal_fault.JournalFault.{JournalFault as Fault};
 ghost use Rattle.wk_run.specs.Run.{report_of, ReadsFault, WritesReport, WritesReportPart};
 
 use crate::ends::{Sink, Source};
@@ -20,6 +21,7 @@ use task_script::{SCRIPT_LIMIT, ScriptError, TaskDef, read_script};
 // Reads a script, runs it and writes its report. Nothing is written before the whole report is there.
 pub(crate) fn run_cmd<S: Source, K: Sink>(alloc: Global, input: &mut S, out: &mut K) -> Status
     ensures read { result ≢ Status.Usage }
+    ensures no_journals { (fault : Fault) → result ≢ Status.Illegal fault }
     ensures ok { result ≡ Status.Ok → WritesReport (S.remaining input.old) (S.remaining input.new) (K.taken out.old) (K.taken out.new) }
     ensures bad_script { (line code : ℕ) → result ≡ Status.BadScript line code
         → ReadsFault (S.remaining input.old) (S.remaining input.new) line code }

@@ -1,6 +1,7 @@
 // How a run ended.
 ghost use Rattle.std.specs.Prelude.{◌≡◌};
 
+use crate::journal_fault::JournalFault;
 use std::fmt;
 
 /// How a run ended.
@@ -18,6 +19,8 @@ pub enum Status {
     WriteFault,
     /// Memory was refused.
     NoMemory,
+    /// The bytes that were read aren't legal journals.
+    Illegal(JournalFault),
 }
 
 impl Status {
@@ -34,6 +37,7 @@ impl Status {
             Status::ReadFault => 3,
             Status::WriteFault => 4,
             Status::NoMemory => 5,
+            Status::Illegal(_) => 6,
         }
     }
 }
@@ -51,6 +55,15 @@ impl fmt::Display for Status {
             Status::ReadFault => write!(f, "wakerun: read fault"),
             Status::WriteFault => write!(f, "wakerun: write fault"),
             Status::NoMemory => write!(f, "wakerun: no memory"),
+            Status::Illegal(JournalFault::Text { line }) => {
+                write!(f, "wakerun: journal line {line}")
+            }
+            Status::Illegal(JournalFault::Entry { seat, index, rule }) => {
+                write!(f, "wakerun: illegal seat {seat} entry {index} rule {rule}")
+            }
+            Status::Illegal(JournalFault::Unended { t }) => {
+                write!(f, "wakerun: task {t} not ended")
+            }
         }
     }
 }

@@ -169,6 +169,7 @@ fn statuses_have_their_numbers(rt: HostRuntime) {
         Status::ReadFault,
         Status::WriteFault,
         Status::NoMemory,
+        Status::Illegal(JournalFault::Unended { t: 0 }),
     ];
     for (code, status) in statuses.iter().enumerate() {
         assert_eq!(rt; usize::from(status.code()), code);

@@ -1,22 +1,27 @@
 // The top call, which does all that the program does.
 ghost use Rattle.std.specs.Prelude.{◌≡◌, ◌≢◌, ◌⊎◌, ◌↔◌, ◌≤◌, ℕ, Some, List};
+ghost use Rattle.handoff_data.specs.History.{History};
 ghost use Rattle.task_script.specs.Script.{IsScript};
 ghost use Rattle.task_script.specs.declared.script.Script.{Script};
+ghost use Rattle.wk_run.specs.Check.{IsLegalText, ReadsIllegal, WritesVerdict, WritesVerdictPart};
 ghost use Rattle.wk_run.specs.Ends.{Rose};
 ghost use Rattle.wk_run.specs.Run.{ReadsFault, WritesReport, WritesReportPart};
-ghost use Rattle.wk_run.specs.Words.{IsRun};
+ghost use Rattle.wk_run.specs.Words.{IsRun, IsCheck, HasReading};
+ghost use Rattle.wk_run.specs.declared.journal_fault.JournalFault.{JournalFault as Fault};
 
+use crate::check::check_cmd;
 use crate::command::run_cmd;
 use crate::ends::{Sink, Source};
 use crate::status::Status;
-use crate::words::is_run;
+use crate::words::is_command;
 use std::alloc::Global;
 
-/// Does what the words of the command line ask for: `run` reads a script from `input` and writes its report to `out`.
+/// Does what the words of the command line ask for: `run` reads a script from `input` and writes its report to `out`,
+/// and `check` reads journals and writes how many entries they have, where they are one legal history.
 ///
 /// It waits for nobody and returns. `words` are the words behind the program's name. Of several answers that would
-/// fit, the first of `Usage`, `ReadFault`, `BadScript` and `WriteFault` is given, and `NoMemory` in the place of any
-/// but `Usage`.
+/// fit, the first of `Usage`, `ReadFault`, `BadScript` or `Illegal`, and `WriteFault` is given, and `NoMemory` in the
+/// place of any but `Usage`.
 pub fn wakerun<S: Source, K: Sink>(
     alloc: Global,
     words: &[String],
@@ -24,35 +29,52 @@ pub fn wakerun<S: Source, K: Sink>(
     out: &mut K,
 ) -> Status
     // The words have no reading: nothing was read or written.
-    ensures usage { (result ≡ Status.Usage) ↔ ¬ (IsRun words.now) }
+    ensures usage { (result ≡ Status.Usage) ↔ ¬ (HasReading words.now) }
     ensures unread { result ≡ Status.Usage → input.new ≡ input.old }
 
-    // The source was read to its end, the bytes are a script, and the sink took exactly its report.
-    ensures ok { result ≡ Status.Ok → WritesReport (S.remaining input.old) (S.remaining input.new) (K.taken out.old) (K.taken out.new) }
+    // The source was read to its end, the bytes are a script, and the sink took exactly its report; or they are a text
+    // of legal journals, and the sink took exactly the line with the number of their entries.
+    ensures run_ok { IsRun words.now → result ≡ Status.Ok
+        → WritesReport (S.remaining input.old) (S.remaining input.new) (K.taken out.old) (K.taken out.new) }
+    ensures check_ok { IsCheck words.now → result ≡ Status.Ok
+        → WritesVerdict (S.remaining input.old) (S.remaining input.new) (K.taken out.old) (K.taken out.new) }
 
-    // The source was read to its end or to one byte past the limit, the bytes are no script, and this is their first
-    // fault.
+    // The source was read to its end or to one byte past the limit. The bytes are no script, and this is their first
+    // fault; or they are no text of legal journals, and this is why.
     ensures bad_script { (line code : ℕ) → result ≡ Status.BadScript line code
-        → ReadsFault (S.remaining input.old) (S.remaining input.new) line code }
+        → IsRun words.now × ReadsFault (S.remaining input.old) (S.remaining input.new) line code }
+    ensures illegal { (fault : Fault) → result ≡ Status.Illegal fault
+        → IsCheck words.now × ReadsIllegal (S.remaining input.old) (S.remaining input.new) fault }
 
-    // A fault of an end is the cause of the answer that names it. What was taken is then the front of the report.
+    // A fault of an end is the cause of the answer that names it. What was taken is then the front of the output.
     ensures read_fault { result ≡ Status.ReadFault → Rose (S.faults input.old) (S.faults input.new) }
-    ensures write_fault { result ≡ Status.WriteFault → Rose (K.faults out.old) (K.faults out.new)
-        × WritesReportPart (S.remaining input.old) (S.remaining input.new) (K.taken out.old) (K.taken out.new) }
+    ensures write_fault { result ≡ Status.WriteFault → Rose (K.faults out.old) (K.faults out.new) }
+    ensures run_part { IsRun words.now → result ≡ Status.WriteFault
+        → WritesReportPart (S.remaining input.old) (S.remaining input.new) (K.taken out.old) (K.taken out.new) }
+    ensures check_part { IsCheck words.now → result ≡ Status.WriteFault
+        → WritesVerdictPart (S.remaining input.old) (S.remaining input.new) (K.taken out.old) (K.taken out.new) }
 
     // With every other answer the sink is as before, and each count rises only with the answer that names it.
     ensures unwritten { result ≢ Status.Ok → result ≢ Status.WriteFault → out.new ≡ out.old }
     ensures source_quiet { result ≢ Status.ReadFault → S.faults input.new ≡ S.faults input.old }
     ensures sink_quiet { result ≢ Status.WriteFault → K.faults out.new ≡ K.faults out.old }
 
-    // Words that read, bytes that are a script, and no rise of a count give the report, or want of memory.
-    ensures complete { IsRun words.now → (bytes : List ℕ) → (script : Script)
+    // Words that read, bytes that are a script or legal journals, and no rise of a count give the whole output, or want
+    // of memory.
+    ensures run_complete { IsRun words.now → (bytes : List ℕ) → (script : Script)
         → S.remaining input.old ≡ Some bytes → IsScript bytes script
         → ¬ (Rose (S.faults input.old) (S.faults input.new)) → ¬ (Rose (K.faults out.old) (K.faults out.new))
         → (result ≡ Status.Ok) ⊎ (result ≡ Status.NoMemory) }
+    ensures check_complete { IsCheck words.now → (bytes : List ℕ) → (journals : History)
+        → S.remaining input.old ≡ Some bytes → IsLegalText bytes journals
+        → ¬ (Rose (S.faults input.old) (S.faults input.new)) → ¬ (Rose (K.faults out.old) (K.faults out.new))
+        → (result ≡ Status.Ok) ⊎ (result ≡ Status.NoMemory) }
 {
-    if !is_run(words) {
-        return Status::Usage;
+    if is_command(words, "run") {
+        return run_cmd(alloc, input, out);
     }
-    run_cmd(alloc, input, out)
+    if is_command(words, "check") {
+        return check_cmd(alloc, input, out);
+    }
+    Status::Usage
 }

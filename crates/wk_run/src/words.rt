@@ -1,19 +1,18 @@
 // The words of the command line.
-ghost use Rattle.std.specs.Prelude.{◌≡◌, ◌↔◌, IsTrue, codes, string_bytes};
-ghost use Rattle.wk_run.specs.Words.{IsRun};
+ghost use Rattle.std.specs.Prelude.{◌≡◌, ◌↔◌, [], ◌∷◌, IsTrue, map, string_bytes};
 
-// Whether the words are the one word `run`.
-pub(crate) fn is_run(words: &[String]) -> bool
-    ensures { IsTrue result ↔ IsRun words.now }
+// Whether the words are this one word.
+pub(crate) fn is_command(words: &[String], name: &str) -> bool
+    ensures { IsTrue result ↔ (map string_bytes words.now ≡ name.now ∷ []) }
 {
     match words {
-        [word] => is_run_word(word),
+        [word] => is_word(word, name),
         _ => false,
     }
 }
 
-fn is_run_word(word: &String) -> bool
-    ensures { IsTrue result ↔ (string_bytes word.now ≡ codes "run") }
+fn is_word(word: &String, name: &str) -> bool
+    ensures { IsTrue result ↔ (string_bytes word.now ≡ name.now) }
 {
-    word.as_str() == "run"
+    word.as_str() == name
 }
