@@ -7,11 +7,15 @@ use mathlib.Core.Bool.{not}
 use Rattle.std.proofs.lemmas.List.{take_more}
 use Rattle.core_data.specs.Acts.{sort_of, number_of, is_act, since_from, since, with_act}
 use Rattle.core_data.specs.declared.act.Act.{Act}
-use Rattle.core_data.specs.declared.act.Act.TheVariants.{TookTask, Renewed, StoredWord, Matched, SawOff, Claimed, SawClear, SawRest, SawRestOff, SawRestIdle, TookQueue, Queued, Dequeued, Picked, TookWait, OwnStored, Slept, Passed, Bumped, Walked}
+use Rattle.core_data.specs.declared.act.Act.TheVariants.{TookTask, Renewed, StoredWord, Matched, SawOff, Claimed, SawClear, SawRest, SawRestOff, SawRestIdle, TookQueue, Queued, Dequeued, Picked}
+use Rattle.core_data.specs.declared.act.Act.TheVariants.{TookWait, OwnStored, Slept, Passed, Bumped, Walked}
 
 -- the step of a sort and a number
 abbrev step_of : ℕ → ℕ → Act
-step_of k n = if k == 0 then TookTask n else if k == 1 then Renewed n else if k == 2 then StoredWord n else if k == 3 then Matched n else if k == 4 then SawOff n else if k == 5 then Claimed n else if k == 6 then SawClear n else if k == 7 then SawRest n else if k == 8 then SawRestOff n else if k == 9 then SawRestIdle n else if k == 10 then TookQueue n else if k == 11 then Queued n else if k == 12 then Dequeued n else if k == 13 then Picked n else if k == 14 then TookWait n else if k == 15 then OwnStored n else if k == 16 then Slept n else if k == 17 then Passed n else if k == 18 then Bumped n else Walked n
+step_of k n = if k == 0 then TookTask n else if k == 1 then Renewed n else if k == 2 then StoredWord n else if k == 3 then Matched n else if k == 4 then SawOff n
+    else if k == 5 then Claimed n else if k == 6 then SawClear n else if k == 7 then SawRest n else if k == 8 then SawRestOff n else if k == 9 then SawRestIdle n
+    else if k == 10 then TookQueue n else if k == 11 then Queued n else if k == 12 then Dequeued n else if k == 13 then Picked n else if k == 14 then TookWait n
+    else if k == 15 then OwnStored n else if k == 16 then Slept n else if k == 17 then Passed n else if k == 18 then Bumped n else Walked n
 
 step_of-act : (a : Act) → step_of (sort_of a) (number_of a) ≡ a
 step_of-act (TookTask n) = refl
@@ -92,5 +96,6 @@ since-with fact end act xs =
     ∙ chosen (is_act fact act) (is_act end act) _ _ (λ f e. without fact end act false xs f e)
 
 -- one step further along the list
-pub since_more : (fact end : Act) (xs : List Act) (i : ℕ) (d : Act) → i < length xs → since fact end (take (i + 1) xs) ≡ (if is_act fact (get_or xs i d) then true else if is_act end (get_or xs i d) then false else since fact end (take i xs))
+pub since_more : (fact end : Act) (xs : List Act) (i : ℕ) (d : Act) → i < length xs → since fact end (take (i + 1) xs)
+    ≡ (if is_act fact (get_or xs i d) then true else if is_act end (get_or xs i d) then false else since fact end (take i xs))
 since_more fact end xs i d lt = ap (λ ys. since fact end ys) (take_more xs i d lt) ∙ since_from-append fact end false (take i xs) (get_or xs i d ∷ [])

@@ -1,6 +1,6 @@
 -- No task waits twice in a queue.
-use Rattle.std.proofs.Common.{◌≡◌, ℕ, ◌+◌, ◌≤◌, ◌==◌, ◌++◌, ◌∷◌, [], List, Bool, true, false, Option, Some, None, refl, sym, ap, subst, ◌∙◌, nat_eq, length, length-append, arith}
-use Rattle.std.specs.Prelude.{if◌then◌else◌, count_by, IsTrue, ◌↔◌, ◌<◌}
+use Rattle.std.proofs.Common.{◌≡◌, ℕ, ◌+◌, ◌≤◌, ◌==◌, ◌++◌, ◌∷◌, [], List, Bool, Option, Some, None, sym, subst, nat_eq, length, length-append, arith}
+use Rattle.std.specs.Prelude.{if◌then◌else◌, IsTrue, ◌↔◌, ◌<◌}
 use Rattle.std.specs.Option.{option_to_list}
 use Rattle.std.specs.List.{filter, list_any}
 use Rattle.std.proofs.lemmas.List.Sums.{sum_by-cons}

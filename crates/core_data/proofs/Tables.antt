@@ -1,14 +1,15 @@
 -- The table of a core by its rows.
 use Rattle.std.proofs.Common.{◌≡◌, List}
 use Rattle.handoff_data.specs.declared.shape.Shape.{Shape}
-use Rattle.core_data.specs.Table.{Table, table, table_of}
+use Rattle.core_data.specs.Table.{table, table_of}
 use Rattle.core_data.specs.declared.machine.Core.{Core}
 use Rattle.core_data.specs.declared.seat.SeatCore.{SeatCore}
 use Rattle.core_data.specs.declared.words.TaskWords.{TaskWords}
 use Rattle.core_data.specs.declared.words.CpuWords.{CpuWords}
 use Rattle.core_data.specs.declared.words.CondWords.{CondWords}
 
-pub table_rows : (core : Core) (shape : Shape) (tasks : List TaskWords) (cpus : List CpuWords) (conds : List CondWords) (seats : List SeatCore) → core.shape ≡ shape → core.tasks.items ≡ tasks → core.cpus.items ≡ cpus → core.conds.items ≡ conds → core.seats.items ≡ seats → table core ≡ table_of shape tasks cpus conds seats
+pub table_rows : (core : Core) (shape : Shape) (tasks : List TaskWords) (cpus : List CpuWords) (conds : List CondWords) (seats : List SeatCore) → core.shape ≡ shape
+    → core.tasks.items ≡ tasks → core.cpus.items ≡ cpus → core.conds.items ≡ conds → core.seats.items ≡ seats → table core ≡ table_of shape tasks cpus conds seats
 unfolding table
 table_rows core shape tasks cpus conds seats n p q r s = λ i. table_of (n i) (p i) (q i) (r i) (s i)
 

@@ -1,12 +1,11 @@
 -- The position of a seat, as contracts see it.
-use Rattle.std.specs.Prelude.{ℕ, ◌==◌, ◌&&◌, ◌||◌, Bool, List, [], ◌∷◌, Option, Some, None}
+use Rattle.std.specs.Prelude.{ℕ, ◌==◌, ◌&&◌, Bool, List, [], ◌∷◌, Option, Some, None}
 use mathlib.Core.Bool.{not}
 use Rattle.handoff_data.specs.declared.state.State.{State}
 use Rattle.core_data.specs.Entries.{is_gone}
 use Rattle.core_data.specs.declared.act.Act.{Act}
 use Rattle.core_data.specs.declared.values.WaitEntry.{WaitEntry}
 use Rattle.core_data.specs.declared.values.WorkItem.{WorkItem}
-use Rattle.core_data.specs.declared.words.Phase.{Phase}
 use Rattle.core_data.specs.declared.pos.TaskReads.{TaskReads}
 use Rattle.core_data.specs.declared.pos.Test.{Test}
 use Rattle.core_data.specs.declared.pos.Asleep.{Asleep}

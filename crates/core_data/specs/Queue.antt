@@ -1,5 +1,5 @@
 -- A run queue, as contracts see it.
-use Rattle.std.specs.Prelude.{ℕ, ◌==◌, ◌+◌, ◌≤◌, List, Option, Some, None, Bool, false, count_by, if◌then◌else◌, length, is_some}
+use Rattle.std.specs.Prelude.{ℕ, ◌==◌, ◌+◌, ◌≤◌, List, Option, Bool, count_by, if◌then◌else◌, length, is_some}
 use mathlib.Core.Bool.{not}
 
 -- the waiting tasks, front first, the task that runs or is about to, and the last one that was switched out

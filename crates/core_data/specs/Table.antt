@@ -5,8 +5,6 @@ use Rattle.handoff_data.specs.declared.shape.Shape.{Shape}
 use Rattle.handoff_data.specs.declared.state.State.{State}
 use Rattle.core_data.specs.Acts.{since}
 use Rattle.core_data.specs.Found.{found, no_reads}
-use Rattle.core_data.specs.Holding.{Holding}
-use Rattle.core_data.specs.Position.{Position}
 use Rattle.core_data.specs.Queue.{Queue}
 use Rattle.core_data.specs.declared.act.Act.TheVariants.{TookTask, Renewed, Matched, SawOff, Claimed, SawClear, SawRest, SawRestOff, SawRestIdle, StoredWord, TookQueue, Queued, Dequeued, Picked, TookWait, OwnStored, Slept, Passed, Bumped, Walked}
 use Rattle.core_data.specs.declared.machine.Core.{Core}

@@ -106,6 +106,7 @@ impl Held {
         self.body = t;
     }
 
+    /// Adds the value of the lock of task `t`, as it was taken.
     pub fn hold_task(&mut self, t: TaskNo, val: TaskVal) -> Result<(), NoMemory>
         ensures { OnOk result (self.new ≡ record self.old { tasks = self.old.tasks ++ record { t = t; val = val } ∷ [] }) }
     {
@@ -113,12 +114,14 @@ impl Held {
         Ok(())
     }
 
+    /// Drops the values of the lock of task `t`.
     pub fn release_task(&mut self, t: TaskNo)
         ensures { self.new ≡ record self.old { tasks = filter (is_other_task t) self.old.tasks } }
     {
         without_task(&mut self.tasks, t);
     }
 
+    /// Adds the value of the queue's lock of processor `c`, as it was taken.
     pub fn hold_queue(&mut self, c: CpuNo, val: QueueVal) -> Result<(), NoMemory>
         ensures { OnOk result (self.new ≡ record self.old { queues = self.old.queues ++ record { c = c; val = val } ∷ [] }) }
     {
@@ -126,12 +129,14 @@ impl Held {
         Ok(())
     }
 
+    /// Drops the values of the queue's lock of processor `c`.
     pub fn release_queue(&mut self, c: CpuNo)
         ensures { self.new ≡ record self.old { queues = filter (is_other_queue c) self.old.queues } }
     {
         without_queue(&mut self.queues, c);
     }
 
+    /// Adds the value of the works' lock of processor `c`, as it was taken.
     pub fn hold_works(&mut self, c: CpuNo, val: WorksVal) -> Result<(), NoMemory>
         ensures { OnOk result (self.new ≡ record self.old { works = self.old.works ++ record { c = c; val = val } ∷ [] }) }
     {
@@ -139,12 +144,14 @@ impl Held {
         Ok(())
     }
 
+    /// Drops the values of the works' lock of processor `c`.
     pub fn release_works(&mut self, c: CpuNo)
         ensures { self.new ≡ record self.old { works = filter (is_other_works c) self.old.works } }
     {
         without_works(&mut self.works, c);
     }
 
+    /// Adds the value of the wait queue's lock of condition `k`, as it was taken.
     pub fn hold_wait(&mut self, k: CondNo, val: WaitVal) -> Result<(), NoMemory>
         ensures { OnOk result (self.new ≡ record self.old { waits = self.old.waits ++ record { k = k; val = val } ∷ [] }) }
     {
@@ -152,6 +159,7 @@ impl Held {
         Ok(())
     }
 
+    /// Drops the values of the wait queue's lock of condition `k`.
     pub fn release_wait(&mut self, k: CondNo)
         ensures { self.new ≡ record self.old { waits = filter (is_other_wait k) self.old.waits } }
     {

@@ -27,6 +27,7 @@ pub struct TaskVal {
 #[derive(Clone, Copy, Debug, PartialEq, Eq)]
 pub struct WaitEntry {
     pub t: TaskNo,
+    /// Whether a walk may stop behind it once its task is woken, as Linux's WQ_FLAG_EXCLUSIVE says.
     pub exclusive: bool,
 }
 

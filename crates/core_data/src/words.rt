@@ -1,15 +1,15 @@
 //! The words that a core has for each task, processor and condition, and what their locks guard.
 //!
-//! word                     value                                            stored by, under
-//! state                    the bits of the task's state                     its own seat; others under the lock of the task or of its queue
-//! on_rq, changes           0 off, 1 queued, 2 moving; number of changes     the holder of the queue's lock
-//! on_cpu, runs             whether the task runs; number of changes         the seat of its processor
-//! cpu                      the task's processor                             the holder of the task's lock
-//! count                    its migrate-disable level                        its own seat
-//! hint                     number of runnable tasks                         the holder of the queue's lock
-//! pinned                   number of migration-disabled tasks               the processor's seat
-//! phase, active, epoch     where the processor stands in an outage          the outage's agent and the processor's seat
-//! cond                     the condition's counter, which wraps             any seat
+//! word                  value                                         stored by, under
+//! state                 the bits of the task's state                  its seat; others under its lock or its queue's
+//! on_rq, changes        0 off, 1 queued, 2 moving; number of changes  the holder of the queue's lock
+//! on_cpu, runs          whether the task runs; number of changes      the seat of its processor
+//! cpu                   the task's processor                          the holder of the task's lock
+//! count                 its migrate-disable level                     its own seat
+//! hint                  number of runnable tasks                      the holder of the queue's lock
+//! pinned                number of migration-disabled tasks            the processor's seat
+//! phase, active, epoch  where the processor stands in an outage       the outage's agent, the processor's seat
+//! cond                  the condition's counter, which wraps          any seat
 //!
 //! A lock word is the seat that holds the lock. In the shared table `on_rq` and `changes`, `on_cpu` and `runs`,
 //! `active` and `epoch` are one word each.
@@ -26,10 +26,12 @@ pub struct TaskWords {
     pub on_rq: u8,
     /// How often `on_rq` was stored.
     pub changes: u64,
+    /// The busy word: whether the task runs, or was given up and isn't switched out yet.
     pub on_cpu: bool,
     /// How often `on_cpu` was stored.
     pub runs: u64,
     pub cpu: CpuNo,
+    /// The migrate-disable level.
     pub count: u32,
     pub lock: Option<SeatNo>,
     /// None while the value is out.

@@ -1,14 +1,12 @@
 -- Locks: each is taken with the value under it, and given with the value that is put home.
-use Rattle.std.specs.Prelude.{◌≡◌, ◌≢◌, ℕ, ◌<◌, ◌==◌, ◌&&◌, ◌⊎◌, ◌+◌, Bool, true, false, List, Option, Some, None, IsSome, IfSome, is_none, if◌then◌else◌}
+use Rattle.std.specs.Prelude.{◌≡◌, ◌≢◌, ℕ, ◌<◌, ◌==◌, ◌⊎◌, Bool, false, List, Some, None, IsSome, if◌then◌else◌}
 use Rattle.core_data.specs.Found.{no_reads}
 use Rattle.core_data.specs.Noted.{noted}
-use Rattle.core_data.specs.Queue.{Queue, times_in}
 use Rattle.core_data.specs.Table.{Table, put, put_at}
 use Rattle.core_data.specs.declared.act.Act.TheVariants.{Renewed, TookTask, TookQueue, TookWait}
 use Rattle.core_data.specs.declared.values.TaskVal.{TaskVal}
 use Rattle.core_data.specs.declared.values.WorkItem.{WorkItem}
-use Rattle.core_kinds.specs.Steps.{fresh, waking, IsRunnable}
-use Rattle.handoff_data.specs.Mask.{HasCpu}
+use Rattle.core_kinds.specs.Steps.{fresh, waking}
 
 -- TakeTask: the lock is free, and its value moves to the seat
 pub record MayTakeTask (core : Table) (s t : ℕ) : Type 0 where

@@ -1,9 +1,8 @@
 -- What the conditions and effects of steps are made of.
-use Rattle.std.specs.Prelude.{◌≡◌, ℕ, ◌<◌, ◌^◌, ◌==◌, ◌||◌, ◌⊎◌, Bool, true, false, Option, Some, None, bit_and, if◌then◌else◌}
+use Rattle.std.specs.Prelude.{◌≡◌, ℕ, ◌<◌, ◌^◌, ◌==◌, ◌||◌, ◌⊎◌, Bool, true, false, Some, None, bit_and}
 use mathlib.Core.Bool.{not}
-use Rattle.core_data.specs.Found.{no_reads}
 use Rattle.core_data.specs.Noted.{noted}
-use Rattle.core_data.specs.Table.{Table, put, put_at}
+use Rattle.core_data.specs.Table.{Table, put_at}
 use Rattle.core_data.specs.declared.act.Act.TheVariants.{Renewed, StoredWord, Passed}
 use Rattle.core_data.specs.declared.pos.TaskReads.{TaskReads}
 use Rattle.handoff_data.specs.declared.state.State.{State}

@@ -8,6 +8,7 @@ use core_data::{Act, Core, Test};
 use core_stores::{forget_sleep, log, note, put_seen, set_test};
 use handoff_data::{CondNo, Entry, NoMemory, SeatNo, State, TaskNo};
 
+/// Makes a step the latest of seat s, where `on`.
 pub fn note_if(core: &mut Core, s: SeatNo, act: Act, on: bool) -> Result<(), NoMemory>
     requires { s < (table core.old).seats }
     ensures { OnOk result (table core.new ≡ noted_if on (table core.old) s act) }
@@ -18,6 +19,7 @@ pub fn note_if(core: &mut Core, s: SeatNo, act: Act, on: bool) -> Result<(), NoM
     Ok(())
 }
 
+/// Adds an entry to the journal of seat s, where `on`.
 pub fn log_if(core: &mut Core, s: SeatNo, entry: Entry, on: bool) -> Result<(), NoMemory>
     requires { s < (table core.old).seats }
     ensures { OnOk result (table core.new ≡ logged_if on (table core.old) s entry) }
@@ -28,6 +30,7 @@ pub fn log_if(core: &mut Core, s: SeatNo, entry: Entry, on: bool) -> Result<(), 
     Ok(())
 }
 
+/// Sets the state that seat s has read of its current task under the lock of its own queue, where `on`.
 pub fn see_if(core: &mut Core, s: SeatNo, state: State, on: bool)
     requires { s < (table core.old).seats }
     ensures { table core.new ≡ seen_if on (table core.old) s state }
@@ -37,6 +40,7 @@ pub fn see_if(core: &mut Core, s: SeatNo, state: State, on: bool)
     }
 }
 
+/// What a store of a sleep state makes of what seat s knows: the tests of t are those after it.
 fn sleep(core: &mut Core, s: SeatNo, t: TaskNo) -> Result<(), NoMemory>
     requires { s < (table core.old).seats }
     ensures { OnOk result (table core.new ≡ slept_if true (table core.old) s t) }
@@ -46,6 +50,7 @@ fn sleep(core: &mut Core, s: SeatNo, t: TaskNo) -> Result<(), NoMemory>
     Ok(())
 }
 
+/// The same, where `on`.
 pub fn sleep_if(core: &mut Core, s: SeatNo, t: TaskNo, on: bool) -> Result<(), NoMemory>
     requires { s < (table core.old).seats }
     ensures { OnOk result (table core.new ≡ slept_if on (table core.old) s t) }
@@ -56,6 +61,7 @@ pub fn sleep_if(core: &mut Core, s: SeatNo, t: TaskNo, on: bool) -> Result<(), N
     Ok(())
 }
 
+/// Notes that seat s passed task t, where `on`.
 pub fn run_if(core: &mut Core, s: SeatNo, t: TaskNo, on: bool) -> Result<(), NoMemory>
     requires { s < (table core.old).seats }
     ensures { OnOk result (table core.new ≡ ran_if on (table core.old) s t) }
@@ -66,6 +72,7 @@ pub fn run_if(core: &mut Core, s: SeatNo, t: TaskNo, on: bool) -> Result<(), NoM
     Ok(())
 }
 
+/// Sets `v` as what task t tested at condition k, where `on`.
 pub fn test_if(
     core: &mut Core,
     s: SeatNo,

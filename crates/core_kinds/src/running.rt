@@ -1,4 +1,5 @@
-//! Running steps: a task's queue word, its busy word and its body.
+//! Running steps: a task's queue word, its busy word and its body, after `activate_task`, `deactivate_task`,
+//! `move_queued_task`, `prepare_task` and `finish_task` of Linux 6.6 (`kernel/sched/core.c`).
 
 ghost use Rattle.std.specs.Prelude.{◌≡◌, ◌≢◌, ◌<◌, ◌^◌, ◌+◌, ◌++◌, ◌∷◌, [], ◌⊎◌, ◌↔◌, ◌==◌, IsTrue, OnOk, Some, None, true, false, if◌then◌else◌};
 ghost use Rattle.core_data.specs.Noted.{noted};

@@ -1,4 +1,5 @@
-//! Waking steps: the stores of a task's state and of its processor.
+//! Waking steps: the stores of a task's state and of its processor, after `try_to_wake_up`, `ttwu_runnable`,
+//! `set_task_cpu` and `set_current_state` of Linux 6.6 (`kernel/sched/core.c`, `include/linux/sched.h`).
 
 ghost use Rattle.std.specs.Prelude.{◌≡◌, ◌≢◌, ◌<◌, ◌⊎◌, ◌++◌, ◌∷◌, [], ◌↔◌, IsTrue, OnOk, Some, None, true, false};
 ghost use Rattle.core_data.specs.Noted.{noted};

@@ -1,26 +1,45 @@
 -- Each kind of step keeps the invariant, and the opening core meets it.
 use Rattle.std.proofs.Common.{ℕ, Bool, List, Option}
 use Rattle.core_journals.proofs.Loads.{JournalsHold-bump, JournalsHold-load_busy, JournalsHold-load_cond, JournalsHold-load_cpu, JournalsHold-load_rq, JournalsHold-load_state}
-use Rattle.core_journals.proofs.Locks.{JournalsHold-body_home, JournalsHold-body_out, JournalsHold-give_queue, JournalsHold-give_task, JournalsHold-give_wait, JournalsHold-give_works, JournalsHold-take_queue, JournalsHold-take_task, JournalsHold-take_wait, JournalsHold-take_works}
+use Rattle.core_journals.proofs.Locks.{JournalsHold-body_home, JournalsHold-body_out, JournalsHold-give_queue, JournalsHold-give_task, JournalsHold-give_wait, JournalsHold-give_works}
+use Rattle.core_journals.proofs.Locks.{JournalsHold-take_queue, JournalsHold-take_task, JournalsHold-take_wait, JournalsHold-take_works}
 use Rattle.core_journals.proofs.Running.{JournalsHold-clear_busy, JournalsHold-dequeue_task, JournalsHold-move_task, JournalsHold-queue_task, JournalsHold-set_busy}
 use Rattle.core_journals.proofs.Start.{JournalsHold-start}
 use Rattle.core_journals.proofs.Waking.{JournalsHold-claim, JournalsHold-own_state, JournalsHold-release, JournalsHold-store_cpu}
-use Rattle.core_locks.proofs.BusyKept.{BusyHolds-body_home, BusyHolds-body_out, BusyHolds-bump, BusyHolds-claim, BusyHolds-clear_busy, BusyHolds-dequeue_task, BusyHolds-give_queue, BusyHolds-give_task, BusyHolds-give_wait, BusyHolds-give_works, BusyHolds-load_busy, BusyHolds-load_cond, BusyHolds-load_cpu, BusyHolds-load_rq, BusyHolds-load_state, BusyHolds-move_task, BusyHolds-own_state, BusyHolds-queue_task, BusyHolds-release, BusyHolds-set_busy, BusyHolds-store_cpu, BusyHolds-take_queue, BusyHolds-take_task, BusyHolds-take_wait, BusyHolds-take_works}
-use Rattle.core_locks.proofs.LocksKept.{LocksHold-body_home, LocksHold-body_out, LocksHold-bump, LocksHold-claim, LocksHold-clear_busy, LocksHold-dequeue_task, LocksHold-give_queue, LocksHold-give_task, LocksHold-give_wait, LocksHold-give_works, LocksHold-load_busy, LocksHold-load_cond, LocksHold-load_cpu, LocksHold-load_rq, LocksHold-load_state, LocksHold-move_task, LocksHold-own_state, LocksHold-queue_task, LocksHold-release, LocksHold-set_busy, LocksHold-store_cpu, LocksHold-take_queue, LocksHold-take_task, LocksHold-take_wait, LocksHold-take_works}
+use Rattle.core_locks.proofs.BusyKept.{BusyHolds-body_home, BusyHolds-body_out, BusyHolds-bump, BusyHolds-claim, BusyHolds-clear_busy, BusyHolds-dequeue_task, BusyHolds-give_queue, BusyHolds-give_task}
+use Rattle.core_locks.proofs.BusyKept.{BusyHolds-give_wait, BusyHolds-give_works, BusyHolds-load_busy, BusyHolds-load_cond, BusyHolds-load_cpu, BusyHolds-load_rq, BusyHolds-load_state}
+use Rattle.core_locks.proofs.BusyKept.{BusyHolds-move_task, BusyHolds-own_state, BusyHolds-queue_task, BusyHolds-release, BusyHolds-set_busy, BusyHolds-store_cpu, BusyHolds-take_queue}
+use Rattle.core_locks.proofs.BusyKept.{BusyHolds-take_task, BusyHolds-take_wait, BusyHolds-take_works}
+use Rattle.core_locks.proofs.LocksKept.{LocksHold-body_home, LocksHold-body_out, LocksHold-bump, LocksHold-claim, LocksHold-clear_busy, LocksHold-dequeue_task, LocksHold-give_queue}
+use Rattle.core_locks.proofs.LocksKept.{LocksHold-give_task, LocksHold-give_wait, LocksHold-give_works, LocksHold-load_busy, LocksHold-load_cond, LocksHold-load_cpu, LocksHold-load_rq}
+use Rattle.core_locks.proofs.LocksKept.{LocksHold-load_state, LocksHold-move_task, LocksHold-own_state, LocksHold-queue_task, LocksHold-release, LocksHold-set_busy, LocksHold-store_cpu}
+use Rattle.core_locks.proofs.LocksKept.{LocksHold-take_queue, LocksHold-take_task, LocksHold-take_wait, LocksHold-take_works}
 use Rattle.core_locks.proofs.Opening.{BusyHolds-start, LocksHold-start, QueuesHold-start, ShapesHold-start}
-use Rattle.core_locks.proofs.QueuesKept.{QueuesHold-body_home, QueuesHold-body_out, QueuesHold-bump, QueuesHold-claim, QueuesHold-clear_busy, QueuesHold-dequeue_task, QueuesHold-give_queue, QueuesHold-give_task, QueuesHold-give_wait, QueuesHold-give_works, QueuesHold-load_busy, QueuesHold-load_cond, QueuesHold-load_cpu, QueuesHold-load_rq, QueuesHold-load_state, QueuesHold-move_task, QueuesHold-own_state, QueuesHold-queue_task, QueuesHold-release, QueuesHold-set_busy, QueuesHold-store_cpu, QueuesHold-take_queue, QueuesHold-take_task, QueuesHold-take_wait, QueuesHold-take_works}
-use Rattle.core_locks.proofs.ShapesKept.{ShapesHold-body_home, ShapesHold-body_out, ShapesHold-bump, ShapesHold-claim, ShapesHold-clear_busy, ShapesHold-dequeue_task, ShapesHold-give_queue, ShapesHold-give_task, ShapesHold-give_wait, ShapesHold-give_works, ShapesHold-load_busy, ShapesHold-load_cond, ShapesHold-load_cpu, ShapesHold-load_rq, ShapesHold-load_state, ShapesHold-move_task, ShapesHold-own_state, ShapesHold-queue_task, ShapesHold-release, ShapesHold-set_busy, ShapesHold-store_cpu, ShapesHold-take_queue, ShapesHold-take_task, ShapesHold-take_wait, ShapesHold-take_works}
+use Rattle.core_locks.proofs.QueuesKept.{QueuesHold-body_home, QueuesHold-body_out, QueuesHold-bump, QueuesHold-claim, QueuesHold-clear_busy, QueuesHold-dequeue_task, QueuesHold-give_queue}
+use Rattle.core_locks.proofs.QueuesKept.{QueuesHold-give_task, QueuesHold-give_wait, QueuesHold-give_works, QueuesHold-load_busy, QueuesHold-load_cond, QueuesHold-load_cpu, QueuesHold-load_rq}
+use Rattle.core_locks.proofs.QueuesKept.{QueuesHold-load_state, QueuesHold-move_task, QueuesHold-own_state, QueuesHold-queue_task, QueuesHold-release, QueuesHold-set_busy, QueuesHold-store_cpu}
+use Rattle.core_locks.proofs.QueuesKept.{QueuesHold-take_queue, QueuesHold-take_task, QueuesHold-take_wait, QueuesHold-take_works}
+use Rattle.core_locks.proofs.ShapesKept.{ShapesHold-body_home, ShapesHold-body_out, ShapesHold-bump, ShapesHold-claim, ShapesHold-clear_busy, ShapesHold-dequeue_task, ShapesHold-give_queue}
+use Rattle.core_locks.proofs.ShapesKept.{ShapesHold-give_task, ShapesHold-give_wait, ShapesHold-give_works, ShapesHold-load_busy, ShapesHold-load_cond, ShapesHold-load_cpu, ShapesHold-load_rq}
+use Rattle.core_locks.proofs.ShapesKept.{ShapesHold-load_state, ShapesHold-move_task, ShapesHold-own_state, ShapesHold-queue_task, ShapesHold-release, ShapesHold-set_busy, ShapesHold-store_cpu}
+use Rattle.core_locks.proofs.ShapesKept.{ShapesHold-take_queue, ShapesHold-take_task, ShapesHold-take_wait, ShapesHold-take_works}
 use Rattle.core_places.proofs.Loads.{PositionsHold-load_busy, PositionsHold-load_rq, PositionsHold-load_state}
-use Rattle.core_places.proofs.Places.{PlacesHold-body_home, PlacesHold-body_out, PlacesHold-bump, PlacesHold-claim, PlacesHold-clear_busy, PlacesHold-dequeue_task, PlacesHold-give_task, PlacesHold-give_works, PlacesHold-load_cpu, PlacesHold-move_task, PlacesHold-queue_task, PlacesHold-release, PlacesHold-set_busy, PlacesHold-store_cpu, PlacesHold-take_queue, PlacesHold-take_task, PlacesHold-take_wait, PlacesHold-take_works}
+use Rattle.core_places.proofs.Places.{PlacesHold-body_home, PlacesHold-body_out, PlacesHold-bump, PlacesHold-claim, PlacesHold-clear_busy, PlacesHold-dequeue_task, PlacesHold-give_task}
+use Rattle.core_places.proofs.Places.{PlacesHold-give_works, PlacesHold-load_cpu, PlacesHold-move_task, PlacesHold-queue_task, PlacesHold-release, PlacesHold-set_busy, PlacesHold-store_cpu}
+use Rattle.core_places.proofs.Places.{PlacesHold-take_queue, PlacesHold-take_task, PlacesHold-take_wait, PlacesHold-take_works}
 use Rattle.core_places.proofs.PlacesByTests.{PlacesHold-give_queue, PlacesHold-give_wait, PlacesHold-load_busy, PlacesHold-load_cond, PlacesHold-load_rq, PlacesHold-load_state, PlacesHold-own_state}
-use Rattle.core_places.proofs.Positions.{PositionsHold-body_home, PositionsHold-body_out, PositionsHold-bump, PositionsHold-claim, PositionsHold-clear_busy, PositionsHold-dequeue_task, PositionsHold-give_task, PositionsHold-give_works, PositionsHold-load_cpu, PositionsHold-move_task, PositionsHold-queue_task, PositionsHold-release, PositionsHold-set_busy, PositionsHold-store_cpu, PositionsHold-take_queue, PositionsHold-take_task, PositionsHold-take_wait, PositionsHold-take_works}
+use Rattle.core_places.proofs.Positions.{PositionsHold-body_home, PositionsHold-body_out, PositionsHold-bump, PositionsHold-claim, PositionsHold-clear_busy, PositionsHold-dequeue_task}
+use Rattle.core_places.proofs.Positions.{PositionsHold-give_task, PositionsHold-give_works, PositionsHold-load_cpu, PositionsHold-move_task, PositionsHold-queue_task, PositionsHold-release}
+use Rattle.core_places.proofs.Positions.{PositionsHold-set_busy, PositionsHold-store_cpu, PositionsHold-take_queue, PositionsHold-take_task, PositionsHold-take_wait, PositionsHold-take_works}
 use Rattle.core_places.proofs.PositionsByTests.{PositionsHold-give_queue, PositionsHold-give_wait, PositionsHold-load_cond, PositionsHold-own_state}
 use Rattle.core_places.proofs.StartOfPlaces.{PlacesHold-start, PositionsHold-start}
 use Rattle.core_sleepers.proofs.Conditions.{SleepersHold-bump, SleepersHold-load_cond, SleepersHold-store_cpu}
 use Rattle.core_sleepers.proofs.Gives.{SleepersHold-give_wait}
 use Rattle.core_sleepers.proofs.Opens.{SleepersHold-start}
 use Rattle.core_sleepers.proofs.Passes.{SleepersHold-load_state}
-use Rattle.core_sleepers.proofs.Still.{SleepersHold-body_home, SleepersHold-body_out, SleepersHold-clear_busy, SleepersHold-dequeue_task, SleepersHold-give_task, SleepersHold-give_works, SleepersHold-load_busy, SleepersHold-load_cpu, SleepersHold-load_rq, SleepersHold-move_task, SleepersHold-queue_task, SleepersHold-take_queue, SleepersHold-take_task, SleepersHold-take_works}
+use Rattle.core_sleepers.proofs.Still.{SleepersHold-body_home, SleepersHold-body_out, SleepersHold-clear_busy, SleepersHold-dequeue_task, SleepersHold-give_task, SleepersHold-give_works}
+use Rattle.core_sleepers.proofs.Still.{SleepersHold-load_busy, SleepersHold-load_cpu, SleepersHold-load_rq, SleepersHold-move_task, SleepersHold-queue_task, SleepersHold-take_queue}
+use Rattle.core_sleepers.proofs.Still.{SleepersHold-take_task, SleepersHold-take_works}
 use Rattle.core_sleepers.proofs.Stores.{SleepersHold-claim, SleepersHold-give_queue, SleepersHold-own_state, SleepersHold-release, SleepersHold-set_busy}
 use Rattle.core_sleepers.proofs.Takes.{SleepersHold-take_wait}
 use Rattle.core_data.specs.Opening.{IsStart}

@@ -71,28 +71,38 @@ key_released key val xs t old e =
     (λ c. found-kept (λ h. k == key h) (λ h. not (key h == t)) (λ h. Some (val h)) None xs (λ x h. grind (arith, nat_tests, c, h))))
     ∙ (λ i. put (sym e i) t None)
 
-pub out_held_task : (xs : List HeldTask) (n : ℕ) (v : TaskVal) (old : ℕ → Option TaskVal) → old ≡ (λ n. found (λ (h : HeldTask). n == h.t) (λ h. Some h.val) None xs) → (λ (m : ℕ). found (λ (h : HeldTask). m == h.t) (λ h. Some h.val) None (xs ++ record { t = n; val = v } ∷ [])) ≡ put old n (Some v)
+pub out_held_task : (xs : List HeldTask) (n : ℕ) (v : TaskVal) (old : ℕ → Option TaskVal) → old ≡ (λ n. found (λ (h : HeldTask). n == h.t) (λ h. Some h.val) None xs)
+    → (λ (m : ℕ). found (λ (h : HeldTask). m == h.t) (λ h. Some h.val) None (xs ++ record { t = n; val = v } ∷ [])) ≡ put old n (Some v)
 out_held_task xs n v old e = key_held (λ (h : HeldTask). h.t) (λ h. h.val) xs (record { t = n; val = v }) old e
 
-pub out_released_task : (xs : List HeldTask) (n : ℕ) (old : ℕ → Option TaskVal) → old ≡ (λ n. found (λ (h : HeldTask). n == h.t) (λ h. Some h.val) None xs) → (λ (m : ℕ). found (λ (h : HeldTask). m == h.t) (λ h. Some h.val) None (filter (is_other_task n) xs)) ≡ put old n None
+pub out_released_task : (xs : List HeldTask) (n : ℕ) (old : ℕ → Option TaskVal) → old ≡ (λ n. found (λ (h : HeldTask). n == h.t) (λ h. Some h.val) None xs)
+    → (λ (m : ℕ). found (λ (h : HeldTask). m == h.t) (λ h. Some h.val) None (filter (is_other_task n) xs)) ≡ put old n None
 out_released_task xs n old e = key_released (λ (h : HeldTask). h.t) (λ h. h.val) xs n old e
 
-pub out_held_queue : (xs : List HeldQueue) (n : ℕ) (v : Queue) (old : ℕ → Option Queue) → old ≡ (λ n. found (λ (h : HeldQueue). n == h.c) (λ h. Some h.val) None xs) → (λ (m : ℕ). found (λ (h : HeldQueue). m == h.c) (λ h. Some h.val) None (xs ++ record { c = n; val = v } ∷ [])) ≡ put old n (Some v)
+pub out_held_queue : (xs : List HeldQueue) (n : ℕ) (v : Queue) (old : ℕ → Option Queue) → old ≡ (λ n. found (λ (h : HeldQueue). n == h.c) (λ h. Some h.val) None xs)
+    → (λ (m : ℕ). found (λ (h : HeldQueue). m == h.c) (λ h. Some h.val) None (xs ++ record { c = n; val = v } ∷ [])) ≡ put old n (Some v)
 out_held_queue xs n v old e = key_held (λ (h : HeldQueue). h.c) (λ h. h.val) xs (record { c = n; val = v }) old e
 
-pub out_released_queue : (xs : List HeldQueue) (n : ℕ) (old : ℕ → Option Queue) → old ≡ (λ n. found (λ (h : HeldQueue). n == h.c) (λ h. Some h.val) None xs) → (λ (m : ℕ). found (λ (h : HeldQueue). m == h.c) (λ h. Some h.val) None (filter (is_other_queue n) xs)) ≡ put old n None
+pub out_released_queue : (xs : List HeldQueue) (n : ℕ) (old : ℕ → Option Queue) → old ≡ (λ n. found (λ (h : HeldQueue). n == h.c) (λ h. Some h.val) None xs)
+    → (λ (m : ℕ). found (λ (h : HeldQueue). m == h.c) (λ h. Some h.val) None (filter (is_other_queue n) xs)) ≡ put old n None
 out_released_queue xs n old e = key_released (λ (h : HeldQueue). h.c) (λ h. h.val) xs n old e
 
-pub out_held_works : (xs : List HeldWorks) (n : ℕ) (v : List WorkItem) (old : ℕ → Option (List WorkItem)) → old ≡ (λ n. found (λ (h : HeldWorks). n == h.c) (λ h. Some h.val) None xs) → (λ (m : ℕ). found (λ (h : HeldWorks). m == h.c) (λ h. Some h.val) None (xs ++ record { c = n; val = v } ∷ [])) ≡ put old n (Some v)
+pub out_held_works : (xs : List HeldWorks) (n : ℕ) (v : List WorkItem) (old : ℕ → Option (List WorkItem))
+    → old ≡ (λ n. found (λ (h : HeldWorks). n == h.c) (λ h. Some h.val) None xs)
+    → (λ (m : ℕ). found (λ (h : HeldWorks). m == h.c) (λ h. Some h.val) None (xs ++ record { c = n; val = v } ∷ [])) ≡ put old n (Some v)
 out_held_works xs n v old e = key_held (λ (h : HeldWorks). h.c) (λ h. h.val) xs (record { c = n; val = v }) old e
 
-pub out_released_works : (xs : List HeldWorks) (n : ℕ) (old : ℕ → Option (List WorkItem)) → old ≡ (λ n. found (λ (h : HeldWorks). n == h.c) (λ h. Some h.val) None xs) → (λ (m : ℕ). found (λ (h : HeldWorks). m == h.c) (λ h. Some h.val) None (filter (is_other_works n) xs)) ≡ put old n None
+pub out_released_works : (xs : List HeldWorks) (n : ℕ) (old : ℕ → Option (List WorkItem)) → old ≡ (λ n. found (λ (h : HeldWorks). n == h.c) (λ h. Some h.val) None xs)
+    → (λ (m : ℕ). found (λ (h : HeldWorks). m == h.c) (λ h. Some h.val) None (filter (is_other_works n) xs)) ≡ put old n None
 out_released_works xs n old e = key_released (λ (h : HeldWorks). h.c) (λ h. h.val) xs n old e
 
-pub out_held_wait : (xs : List HeldWait) (n : ℕ) (v : List WaitEntry) (old : ℕ → Option (List WaitEntry)) → old ≡ (λ n. found (λ (h : HeldWait). n == h.k) (λ h. Some h.val) None xs) → (λ (m : ℕ). found (λ (h : HeldWait). m == h.k) (λ h. Some h.val) None (xs ++ record { k = n; val = v } ∷ [])) ≡ put old n (Some v)
+pub out_held_wait : (xs : List HeldWait) (n : ℕ) (v : List WaitEntry) (old : ℕ → Option (List WaitEntry))
+    → old ≡ (λ n. found (λ (h : HeldWait). n == h.k) (λ h. Some h.val) None xs)
+    → (λ (m : ℕ). found (λ (h : HeldWait). m == h.k) (λ h. Some h.val) None (xs ++ record { k = n; val = v } ∷ [])) ≡ put old n (Some v)
 out_held_wait xs n v old e = key_held (λ (h : HeldWait). h.k) (λ h. h.val) xs (record { k = n; val = v }) old e
 
-pub out_released_wait : (xs : List HeldWait) (n : ℕ) (old : ℕ → Option (List WaitEntry)) → old ≡ (λ n. found (λ (h : HeldWait). n == h.k) (λ h. Some h.val) None xs) → (λ (m : ℕ). found (λ (h : HeldWait). m == h.k) (λ h. Some h.val) None (filter (is_other_wait n) xs)) ≡ put old n None
+pub out_released_wait : (xs : List HeldWait) (n : ℕ) (old : ℕ → Option (List WaitEntry)) → old ≡ (λ n. found (λ (h : HeldWait). n == h.k) (λ h. Some h.val) None xs)
+    → (λ (m : ℕ). found (λ (h : HeldWait). m == h.k) (λ h. Some h.val) None (filter (is_other_wait n) xs)) ≡ put old n None
 out_released_wait xs n old e = key_released (λ (h : HeldWait). h.k) (λ h. h.val) xs n old e
 
 -- tests and sleeps

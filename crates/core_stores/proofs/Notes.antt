@@ -1,23 +1,27 @@
 -- The table after a step is made the latest.
-use Rattle.std.proofs.Common.{◌≡◌, ℕ, ◌<◌, ◌==◌, Bool, true, false, refl, sym, ◌∙◌, ap, get_or}
+use Rattle.std.proofs.Common.{◌≡◌, ℕ, ◌<◌, ◌==◌, true, false, sym, ◌∙◌, ap, get_or}
 use Rattle.std.specs.Prelude.{if◌then◌else◌}
 use Rattle.std.specs.Vec.{with_item}
 use mathlib.Core.Path.{fun_ext}
-use Rattle.core_data.specs.Acts.{since, with_act}
+use Rattle.core_data.specs.Acts.{with_act}
 use Rattle.core_data.specs.Noted.{noted}
 use Rattle.core_data.specs.Position.{Position}
 use Rattle.core_data.specs.Rows.{with_seat}
-use Rattle.core_data.specs.Table.{Table, table, put, matched_of, unstored_of, saw_off_of, claimed_of, clear_of, stored_of, rest_state_of, rest_off_of, rest_idle_of, slept_of, requeued_of, idle_of, added_of, dropped_of, passed_of, own_stored_of, slept_in_of, owes_of, retaken_of}
+use Rattle.core_data.specs.Table.{Table, table, put, matched_of, unstored_of, saw_off_of, claimed_of, clear_of, stored_of, rest_state_of, rest_off_of, rest_idle_of, slept_of, requeued_of, idle_of}
+use Rattle.core_data.specs.Table.{added_of, dropped_of, passed_of, own_stored_of, slept_in_of, owes_of, retaken_of}
 use Rattle.core_data.specs.declared.act.Act.{Act}
-use Rattle.core_data.specs.declared.act.Act.TheVariants.{TookTask, Renewed, StoredWord, Matched, SawOff, Claimed, SawClear, SawRest, SawRestOff, SawRestIdle, TookQueue, Queued, Dequeued, Picked, TookWait, OwnStored, Slept, Passed, Bumped, Walked}
+use Rattle.core_data.specs.declared.act.Act.TheVariants.{TookTask, Renewed, StoredWord, Matched, SawOff, Claimed, SawClear, SawRest, SawRestOff, SawRestIdle, TookQueue, Queued, Dequeued, Picked}
+use Rattle.core_data.specs.declared.act.Act.TheVariants.{TookWait, OwnStored, Slept, Passed, Bumped, Walked}
 use Rattle.core_data.specs.declared.machine.Core.{Core}
 use Rattle.core_data.specs.declared.seat.SeatCore.{SeatCore}
 use Rattle.core_data.proofs.ActLemmas.{since-with}
-use Rattle.core_stores.proofs.Writes.{table-seat, same-seat, get-matched, get-unstored, get-saw_off, get-claimed, get-clear, get-stored, get-rest_state, get-rest_off, get-rest_idle, get-slept, get-requeued, get-idle, get-added, get-dropped, get-passed, get-own_stored, get-slept_in, get-owes, get-retaken}
+use Rattle.core_stores.proofs.Writes.{table-seat, same-seat, get-matched, get-unstored, get-saw_off, get-claimed, get-clear, get-stored, get-rest_state, get-rest_off, get-rest_idle, get-slept}
+use Rattle.core_stores.proofs.Writes.{get-requeued, get-idle, get-added, get-dropped, get-passed, get-own_stored, get-slept_in, get-owes, get-retaken}
 
 -- what the row says of each column after the step, by what it said before
 
-row-TookTask : (core : Table) (s : ℕ) (w : SeatCore) (n : ℕ) → with_seat core s (record w { pos = record w.pos { recent = with_act w.pos.recent (TookTask n) } }) ≡ record (with_seat core s w) { matched = put core.matched s (λ t. if t == n then false else matched_of w t); stored = put core.stored s (λ t. if t == n then false else stored_of w t) }
+row-TookTask : (core : Table) (s : ℕ) (w : SeatCore) (n : ℕ) → with_seat core s (record w { pos = record w.pos { recent = with_act w.pos.recent (TookTask n) } })
+    ≡ record (with_seat core s w) { matched = put core.matched s (λ t. if t == n then false else matched_of w t); stored = put core.stored s (λ t. if t == n then false else stored_of w t) }
 row-TookTask core s w n =
     λ i. record (with_seat core s w) {
       matched = put core.matched s (fun_ext (λ t. since-with (Matched t) (TookTask t) (TookTask n) w.pos.recent) i);
@@ -41,7 +45,14 @@ row-TookTask core s w n =
       retaken = put core.retaken s (fun_ext (λ k. since-with (TookWait k) (Bumped k) (TookTask n) w.pos.recent) i);
     }
 
-row-Renewed : (core : Table) (s : ℕ) (w : SeatCore) (n : ℕ) → with_seat core s (record w { pos = record w.pos { recent = with_act w.pos.recent (Renewed n) } }) ≡ record (with_seat core s w) { unstored = put core.unstored s (λ t. if t == n then false else unstored_of w t); saw_off = put core.saw_off s (λ t. if t == n then false else saw_off_of w t); rest_state = put core.rest_state s (λ t. if t == n then false else rest_state_of w t); rest_off = put core.rest_off s (λ t. if t == n then false else rest_off_of w t); rest_idle = put core.rest_idle s (λ t. if t == n then false else rest_idle_of w t) }
+row-Renewed : (core : Table) (s : ℕ) (w : SeatCore) (n : ℕ) → with_seat core s (record w { pos = record w.pos { recent = with_act w.pos.recent (Renewed n) } })
+    ≡ record (with_seat core s w) {
+      unstored = put core.unstored s (λ t. if t == n then false else unstored_of w t);
+      saw_off = put core.saw_off s (λ t. if t == n then false else saw_off_of w t);
+      rest_state = put core.rest_state s (λ t. if t == n then false else rest_state_of w t);
+      rest_off = put core.rest_off s (λ t. if t == n then false else rest_off_of w t);
+      rest_idle = put core.rest_idle s (λ t. if t == n then false else rest_idle_of w t);
+    }
 row-Renewed core s w n =
     λ i. record (with_seat core s w) {
       matched = put core.matched s (fun_ext (λ t. since-with (Matched t) (TookTask t) (Renewed n) w.pos.recent) i);
@@ -65,7 +76,9 @@ row-Renewed core s w n =
       retaken = put core.retaken s (fun_ext (λ k. since-with (TookWait k) (Bumped k) (Renewed n) w.pos.recent) i);
     }
 
-row-StoredWord : (core : Table) (s : ℕ) (w : SeatCore) (n : ℕ) → with_seat core s (record w { pos = record w.pos { recent = with_act w.pos.recent (StoredWord n) } }) ≡ record (with_seat core s w) { stored = put core.stored s (λ t. if t == n then true else stored_of w t) }
+row-StoredWord : (core : Table) (s : ℕ) (w : SeatCore) (n : ℕ)
+    → with_seat core s (record w { pos = record w.pos { recent = with_act w.pos.recent (StoredWord n) } })
+    ≡ record (with_seat core s w) { stored = put core.stored s (λ t. if t == n then true else stored_of w t) }
 row-StoredWord core s w n =
     λ i. record (with_seat core s w) {
       matched = put core.matched s (fun_ext (λ t. since-with (Matched t) (TookTask t) (StoredWord n) w.pos.recent) i);
@@ -89,7 +102,8 @@ row-StoredWord core s w n =
       retaken = put core.retaken s (fun_ext (λ k. since-with (TookWait k) (Bumped k) (StoredWord n) w.pos.recent) i);
     }
 
-row-Matched : (core : Table) (s : ℕ) (w : SeatCore) (n : ℕ) → with_seat core s (record w { pos = record w.pos { recent = with_act w.pos.recent (Matched n) } }) ≡ record (with_seat core s w) { matched = put core.matched s (λ t. if t == n then true else matched_of w t); unstored = put core.unstored s (λ t. if t == n then true else unstored_of w t) }
+row-Matched : (core : Table) (s : ℕ) (w : SeatCore) (n : ℕ) → with_seat core s (record w { pos = record w.pos { recent = with_act w.pos.recent (Matched n) } })
+    ≡ record (with_seat core s w) { matched = put core.matched s (λ t. if t == n then true else matched_of w t); unstored = put core.unstored s (λ t. if t == n then true else unstored_of w t) }
 row-Matched core s w n =
     λ i. record (with_seat core s w) {
       matched = put core.matched s (fun_ext (λ t. since-with (Matched t) (TookTask t) (Matched n) w.pos.recent) i);
@@ -113,7 +127,8 @@ row-Matched core s w n =
       retaken = put core.retaken s (fun_ext (λ k. since-with (TookWait k) (Bumped k) (Matched n) w.pos.recent) i);
     }
 
-row-SawOff : (core : Table) (s : ℕ) (w : SeatCore) (n : ℕ) → with_seat core s (record w { pos = record w.pos { recent = with_act w.pos.recent (SawOff n) } }) ≡ record (with_seat core s w) { saw_off = put core.saw_off s (λ t. if t == n then true else saw_off_of w t) }
+row-SawOff : (core : Table) (s : ℕ) (w : SeatCore) (n : ℕ) → with_seat core s (record w { pos = record w.pos { recent = with_act w.pos.recent (SawOff n) } })
+    ≡ record (with_seat core s w) { saw_off = put core.saw_off s (λ t. if t == n then true else saw_off_of w t) }
 row-SawOff core s w n =
     λ i. record (with_seat core s w) {
       matched = put core.matched s (fun_ext (λ t. since-with (Matched t) (TookTask t) (SawOff n) w.pos.recent) i);
@@ -137,7 +152,8 @@ row-SawOff core s w n =
       retaken = put core.retaken s (fun_ext (λ k. since-with (TookWait k) (Bumped k) (SawOff n) w.pos.recent) i);
     }
 
-row-Claimed : (core : Table) (s : ℕ) (w : SeatCore) (n : ℕ) → with_seat core s (record w { pos = record w.pos { recent = with_act w.pos.recent (Claimed n) } }) ≡ record (with_seat core s w) { claimed = put core.claimed s (λ t. if t == n then true else claimed_of w t); clear = put core.clear s (λ t. if t == n then false else clear_of w t) }
+row-Claimed : (core : Table) (s : ℕ) (w : SeatCore) (n : ℕ) → with_seat core s (record w { pos = record w.pos { recent = with_act w.pos.recent (Claimed n) } })
+    ≡ record (with_seat core s w) { claimed = put core.claimed s (λ t. if t == n then true else claimed_of w t); clear = put core.clear s (λ t. if t == n then false else clear_of w t) }
 row-Claimed core s w n =
     λ i. record (with_seat core s w) {
       matched = put core.matched s (fun_ext (λ t. since-with (Matched t) (TookTask t) (Claimed n) w.pos.recent) i);
@@ -161,7 +177,8 @@ row-Claimed core s w n =
       retaken = put core.retaken s (fun_ext (λ k. since-with (TookWait k) (Bumped k) (Claimed n) w.pos.recent) i);
     }
 
-row-SawClear : (core : Table) (s : ℕ) (w : SeatCore) (n : ℕ) → with_seat core s (record w { pos = record w.pos { recent = with_act w.pos.recent (SawClear n) } }) ≡ record (with_seat core s w) { clear = put core.clear s (λ t. if t == n then true else clear_of w t); idle = put core.idle s (λ c t. if t == n then true else idle_of w c t) }
+row-SawClear : (core : Table) (s : ℕ) (w : SeatCore) (n : ℕ) → with_seat core s (record w { pos = record w.pos { recent = with_act w.pos.recent (SawClear n) } })
+    ≡ record (with_seat core s w) { clear = put core.clear s (λ t. if t == n then true else clear_of w t); idle = put core.idle s (λ c t. if t == n then true else idle_of w c t) }
 row-SawClear core s w n =
     λ i. record (with_seat core s w) {
       matched = put core.matched s (fun_ext (λ t. since-with (Matched t) (TookTask t) (SawClear n) w.pos.recent) i);
@@ -185,7 +202,8 @@ row-SawClear core s w n =
       retaken = put core.retaken s (fun_ext (λ k. since-with (TookWait k) (Bumped k) (SawClear n) w.pos.recent) i);
     }
 
-row-SawRest : (core : Table) (s : ℕ) (w : SeatCore) (n : ℕ) → with_seat core s (record w { pos = record w.pos { recent = with_act w.pos.recent (SawRest n) } }) ≡ record (with_seat core s w) { rest_state = put core.rest_state s (λ t. if t == n then true else rest_state_of w t) }
+row-SawRest : (core : Table) (s : ℕ) (w : SeatCore) (n : ℕ) → with_seat core s (record w { pos = record w.pos { recent = with_act w.pos.recent (SawRest n) } })
+    ≡ record (with_seat core s w) { rest_state = put core.rest_state s (λ t. if t == n then true else rest_state_of w t) }
 row-SawRest core s w n =
     λ i. record (with_seat core s w) {
       matched = put core.matched s (fun_ext (λ t. since-with (Matched t) (TookTask t) (SawRest n) w.pos.recent) i);
@@ -209,7 +227,9 @@ row-SawRest core s w n =
       retaken = put core.retaken s (fun_ext (λ k. since-with (TookWait k) (Bumped k) (SawRest n) w.pos.recent) i);
     }
 
-row-SawRestOff : (core : Table) (s : ℕ) (w : SeatCore) (n : ℕ) → with_seat core s (record w { pos = record w.pos { recent = with_act w.pos.recent (SawRestOff n) } }) ≡ record (with_seat core s w) { rest_off = put core.rest_off s (λ t. if t == n then true else rest_off_of w t) }
+row-SawRestOff : (core : Table) (s : ℕ) (w : SeatCore) (n : ℕ)
+    → with_seat core s (record w { pos = record w.pos { recent = with_act w.pos.recent (SawRestOff n) } })
+    ≡ record (with_seat core s w) { rest_off = put core.rest_off s (λ t. if t == n then true else rest_off_of w t) }
 row-SawRestOff core s w n =
     λ i. record (with_seat core s w) {
       matched = put core.matched s (fun_ext (λ t. since-with (Matched t) (TookTask t) (SawRestOff n) w.pos.recent) i);
@@ -233,7 +253,9 @@ row-SawRestOff core s w n =
       retaken = put core.retaken s (fun_ext (λ k. since-with (TookWait k) (Bumped k) (SawRestOff n) w.pos.recent) i);
     }
 
-row-SawRestIdle : (core : Table) (s : ℕ) (w : SeatCore) (n : ℕ) → with_seat core s (record w { pos = record w.pos { recent = with_act w.pos.recent (SawRestIdle n) } }) ≡ record (with_seat core s w) { rest_idle = put core.rest_idle s (λ t. if t == n then true else rest_idle_of w t) }
+row-SawRestIdle : (core : Table) (s : ℕ) (w : SeatCore) (n : ℕ)
+    → with_seat core s (record w { pos = record w.pos { recent = with_act w.pos.recent (SawRestIdle n) } })
+    ≡ record (with_seat core s w) { rest_idle = put core.rest_idle s (λ t. if t == n then true else rest_idle_of w t) }
 row-SawRestIdle core s w n =
     λ i. record (with_seat core s w) {
       matched = put core.matched s (fun_ext (λ t. since-with (Matched t) (TookTask t) (SawRestIdle n) w.pos.recent) i);
@@ -257,7 +279,13 @@ row-SawRestIdle core s w n =
       retaken = put core.retaken s (fun_ext (λ k. since-with (TookWait k) (Bumped k) (SawRestIdle n) w.pos.recent) i);
     }
 
-row-TookQueue : (core : Table) (s : ℕ) (w : SeatCore) (n : ℕ) → with_seat core s (record w { pos = record w.pos { recent = with_act w.pos.recent (TookQueue n) } }) ≡ record (with_seat core s w) { idle = put core.idle s (λ c t. if c == n then false else idle_of w c t); added = put core.added s (λ c t. if c == n then false else added_of w c t); dropped = put core.dropped s (λ c t. if c == n then false else dropped_of w c t) }
+row-TookQueue : (core : Table) (s : ℕ) (w : SeatCore) (n : ℕ)
+    → with_seat core s (record w { pos = record w.pos { recent = with_act w.pos.recent (TookQueue n) } })
+    ≡ record (with_seat core s w) {
+      idle = put core.idle s (λ c t. if c == n then false else idle_of w c t);
+      added = put core.added s (λ c t. if c == n then false else added_of w c t);
+      dropped = put core.dropped s (λ c t. if c == n then false else dropped_of w c t);
+    }
 row-TookQueue core s w n =
     λ i. record (with_seat core s w) {
       matched = put core.matched s (fun_ext (λ t. since-with (Matched t) (TookTask t) (TookQueue n) w.pos.recent) i);
@@ -281,7 +309,12 @@ row-TookQueue core s w n =
       retaken = put core.retaken s (fun_ext (λ k. since-with (TookWait k) (Bumped k) (TookQueue n) w.pos.recent) i);
     }
 
-row-Queued : (core : Table) (s : ℕ) (w : SeatCore) (n : ℕ) → with_seat core s (record w { pos = record w.pos { recent = with_act w.pos.recent (Queued n) } }) ≡ record (with_seat core s w) { claimed = put core.claimed s (λ t. if t == n then false else claimed_of w t); requeued = put core.requeued s (λ t. if t == n then true else requeued_of w t); added = put core.added s (λ c t. if t == n then true else added_of w c t) }
+row-Queued : (core : Table) (s : ℕ) (w : SeatCore) (n : ℕ) → with_seat core s (record w { pos = record w.pos { recent = with_act w.pos.recent (Queued n) } })
+    ≡ record (with_seat core s w) {
+      claimed = put core.claimed s (λ t. if t == n then false else claimed_of w t);
+      requeued = put core.requeued s (λ t. if t == n then true else requeued_of w t);
+      added = put core.added s (λ c t. if t == n then true else added_of w c t);
+    }
 row-Queued core s w n =
     λ i. record (with_seat core s w) {
       matched = put core.matched s (fun_ext (λ t. since-with (Matched t) (TookTask t) (Queued n) w.pos.recent) i);
@@ -305,7 +338,8 @@ row-Queued core s w n =
       retaken = put core.retaken s (fun_ext (λ k. since-with (TookWait k) (Bumped k) (Queued n) w.pos.recent) i);
     }
 
-row-Dequeued : (core : Table) (s : ℕ) (w : SeatCore) (n : ℕ) → with_seat core s (record w { pos = record w.pos { recent = with_act w.pos.recent (Dequeued n) } }) ≡ record (with_seat core s w) { requeued = put core.requeued s (λ t. if t == n then false else requeued_of w t); dropped = put core.dropped s (λ c t. if t == n then true else dropped_of w c t) }
+row-Dequeued : (core : Table) (s : ℕ) (w : SeatCore) (n : ℕ) → with_seat core s (record w { pos = record w.pos { recent = with_act w.pos.recent (Dequeued n) } })
+    ≡ record (with_seat core s w) { requeued = put core.requeued s (λ t. if t == n then false else requeued_of w t); dropped = put core.dropped s (λ c t. if t == n then true else dropped_of w c t) }
 row-Dequeued core s w n =
     λ i. record (with_seat core s w) {
       matched = put core.matched s (fun_ext (λ t. since-with (Matched t) (TookTask t) (Dequeued n) w.pos.recent) i);
@@ -329,7 +363,8 @@ row-Dequeued core s w n =
       retaken = put core.retaken s (fun_ext (λ k. since-with (TookWait k) (Bumped k) (Dequeued n) w.pos.recent) i);
     }
 
-row-Picked : (core : Table) (s : ℕ) (w : SeatCore) (n : ℕ) → with_seat core s (record w { pos = record w.pos { recent = with_act w.pos.recent (Picked n) } }) ≡ record (with_seat core s w) { slept = put core.slept s (λ t. if t == n then false else slept_of w t) }
+row-Picked : (core : Table) (s : ℕ) (w : SeatCore) (n : ℕ) → with_seat core s (record w { pos = record w.pos { recent = with_act w.pos.recent (Picked n) } })
+    ≡ record (with_seat core s w) { slept = put core.slept s (λ t. if t == n then false else slept_of w t) }
 row-Picked core s w n =
     λ i. record (with_seat core s w) {
       matched = put core.matched s (fun_ext (λ t. since-with (Matched t) (TookTask t) (Picked n) w.pos.recent) i);
@@ -353,7 +388,13 @@ row-Picked core s w n =
       retaken = put core.retaken s (fun_ext (λ k. since-with (TookWait k) (Bumped k) (Picked n) w.pos.recent) i);
     }
 
-row-TookWait : (core : Table) (s : ℕ) (w : SeatCore) (n : ℕ) → with_seat core s (record w { pos = record w.pos { recent = with_act w.pos.recent (TookWait n) } }) ≡ record (with_seat core s w) { passed = put core.passed s (λ k t. if k == n then false else passed_of w k t); own_stored = put core.own_stored s (λ k t. if k == n then false else own_stored_of w k t); slept_in = put core.slept_in s (λ k t. if k == n then false else slept_in_of w k t); retaken = put core.retaken s (λ k. if k == n then true else retaken_of w k) }
+row-TookWait : (core : Table) (s : ℕ) (w : SeatCore) (n : ℕ) → with_seat core s (record w { pos = record w.pos { recent = with_act w.pos.recent (TookWait n) } })
+    ≡ record (with_seat core s w) {
+      passed = put core.passed s (λ k t. if k == n then false else passed_of w k t);
+      own_stored = put core.own_stored s (λ k t. if k == n then false else own_stored_of w k t);
+      slept_in = put core.slept_in s (λ k t. if k == n then false else slept_in_of w k t);
+      retaken = put core.retaken s (λ k. if k == n then true else retaken_of w k);
+    }
 row-TookWait core s w n =
     λ i. record (with_seat core s w) {
       matched = put core.matched s (fun_ext (λ t. since-with (Matched t) (TookTask t) (TookWait n) w.pos.recent) i);
@@ -377,7 +418,9 @@ row-TookWait core s w n =
       retaken = put core.retaken s (fun_ext (λ k. since-with (TookWait k) (Bumped k) (TookWait n) w.pos.recent) i);
     }
 
-row-OwnStored : (core : Table) (s : ℕ) (w : SeatCore) (n : ℕ) → with_seat core s (record w { pos = record w.pos { recent = with_act w.pos.recent (OwnStored n) } }) ≡ record (with_seat core s w) { own_stored = put core.own_stored s (λ k t. if t == n then true else own_stored_of w k t) }
+row-OwnStored : (core : Table) (s : ℕ) (w : SeatCore) (n : ℕ)
+    → with_seat core s (record w { pos = record w.pos { recent = with_act w.pos.recent (OwnStored n) } })
+    ≡ record (with_seat core s w) { own_stored = put core.own_stored s (λ k t. if t == n then true else own_stored_of w k t) }
 row-OwnStored core s w n =
     λ i. record (with_seat core s w) {
       matched = put core.matched s (fun_ext (λ t. since-with (Matched t) (TookTask t) (OwnStored n) w.pos.recent) i);
@@ -401,7 +444,8 @@ row-OwnStored core s w n =
       retaken = put core.retaken s (fun_ext (λ k. since-with (TookWait k) (Bumped k) (OwnStored n) w.pos.recent) i);
     }
 
-row-Slept : (core : Table) (s : ℕ) (w : SeatCore) (n : ℕ) → with_seat core s (record w { pos = record w.pos { recent = with_act w.pos.recent (Slept n) } }) ≡ record (with_seat core s w) { slept = put core.slept s (λ t. if t == n then true else slept_of w t); slept_in = put core.slept_in s (λ k t. if t == n then true else slept_in_of w k t) }
+row-Slept : (core : Table) (s : ℕ) (w : SeatCore) (n : ℕ) → with_seat core s (record w { pos = record w.pos { recent = with_act w.pos.recent (Slept n) } })
+    ≡ record (with_seat core s w) { slept = put core.slept s (λ t. if t == n then true else slept_of w t); slept_in = put core.slept_in s (λ k t. if t == n then true else slept_in_of w k t) }
 row-Slept core s w n =
     λ i. record (with_seat core s w) {
       matched = put core.matched s (fun_ext (λ t. since-with (Matched t) (TookTask t) (Slept n) w.pos.recent) i);
@@ -425,7 +469,8 @@ row-Slept core s w n =
       retaken = put core.retaken s (fun_ext (λ k. since-with (TookWait k) (Bumped k) (Slept n) w.pos.recent) i);
     }
 
-row-Passed : (core : Table) (s : ℕ) (w : SeatCore) (n : ℕ) → with_seat core s (record w { pos = record w.pos { recent = with_act w.pos.recent (Passed n) } }) ≡ record (with_seat core s w) { passed = put core.passed s (λ k t. if t == n then true else passed_of w k t) }
+row-Passed : (core : Table) (s : ℕ) (w : SeatCore) (n : ℕ) → with_seat core s (record w { pos = record w.pos { recent = with_act w.pos.recent (Passed n) } })
+    ≡ record (with_seat core s w) { passed = put core.passed s (λ k t. if t == n then true else passed_of w k t) }
 row-Passed core s w n =
     λ i. record (with_seat core s w) {
       matched = put core.matched s (fun_ext (λ t. since-with (Matched t) (TookTask t) (Passed n) w.pos.recent) i);
@@ -449,7 +494,8 @@ row-Passed core s w n =
       retaken = put core.retaken s (fun_ext (λ k. since-with (TookWait k) (Bumped k) (Passed n) w.pos.recent) i);
     }
 
-row-Bumped : (core : Table) (s : ℕ) (w : SeatCore) (n : ℕ) → with_seat core s (record w { pos = record w.pos { recent = with_act w.pos.recent (Bumped n) } }) ≡ record (with_seat core s w) { owes = put core.owes s (λ k. if k == n then true else owes_of w k); retaken = put core.retaken s (λ k. if k == n then false else retaken_of w k) }
+row-Bumped : (core : Table) (s : ℕ) (w : SeatCore) (n : ℕ) → with_seat core s (record w { pos = record w.pos { recent = with_act w.pos.recent (Bumped n) } })
+    ≡ record (with_seat core s w) { owes = put core.owes s (λ k. if k == n then true else owes_of w k); retaken = put core.retaken s (λ k. if k == n then false else retaken_of w k) }
 row-Bumped core s w n =
     λ i. record (with_seat core s w) {
       matched = put core.matched s (fun_ext (λ t. since-with (Matched t) (TookTask t) (Bumped n) w.pos.recent) i);
@@ -473,7 +519,8 @@ row-Bumped core s w n =
       retaken = put core.retaken s (fun_ext (λ k. since-with (TookWait k) (Bumped k) (Bumped n) w.pos.recent) i);
     }
 
-row-Walked : (core : Table) (s : ℕ) (w : SeatCore) (n : ℕ) → with_seat core s (record w { pos = record w.pos { recent = with_act w.pos.recent (Walked n) } }) ≡ record (with_seat core s w) { owes = put core.owes s (λ k. if k == n then false else owes_of w k) }
+row-Walked : (core : Table) (s : ℕ) (w : SeatCore) (n : ℕ) → with_seat core s (record w { pos = record w.pos { recent = with_act w.pos.recent (Walked n) } })
+    ≡ record (with_seat core s w) { owes = put core.owes s (λ k. if k == n then false else owes_of w k) }
 row-Walked core s w n =
     λ i. record (with_seat core s w) {
       matched = put core.matched s (fun_ext (λ t. since-with (Matched t) (TookTask t) (Walked n) w.pos.recent) i);
@@ -497,21 +544,44 @@ row-Walked core s w n =
       retaken = put core.retaken s (fun_ext (λ k. since-with (TookWait k) (Bumped k) (Walked n) w.pos.recent) i);
     }
 
-noted_row : (core : Core) (s : ℕ) (w : SeatCore) (act : Act) → s < (table core).seats → w ≡ get_or core.seats.items s w → with_seat (table core) s (record w { pos = record w.pos { recent = with_act w.pos.recent act } }) ≡ noted (table core) s act
+noted_row : (core : Core) (s : ℕ) (w : SeatCore) (act : Act) → s < (table core).seats → w ≡ get_or core.seats.items s w
+    → with_seat (table core) s (record w { pos = record w.pos { recent = with_act w.pos.recent act } }) ≡ noted (table core) s act
 noted_row core s w (TookTask n) h e =
-    row-TookTask (table core) s w n ∙ (λ i. record (same-seat core s w h e i) { matched = put (table core).matched s (λ t. if t == n then false else sym (get-matched core s w h e) i t); stored = put (table core).stored s (λ t. if t == n then false else sym (get-stored core s w h e) i t) })
+    row-TookTask (table core) s w n ∙ (λ i. record (same-seat core s w h e i) {
+      matched =
+          put (table core).matched s (λ t. if t == n then false else sym (get-matched core s w h e) i t);
+      stored = put (table core).stored s (λ t. if t == n then false else sym (get-stored core s w h e) i t);
+    })
 noted_row core s w (Renewed n) h e =
-    row-Renewed (table core) s w n ∙ (λ i. record (same-seat core s w h e i) { unstored = put (table core).unstored s (λ t. if t == n then false else sym (get-unstored core s w h e) i t); saw_off = put (table core).saw_off s (λ t. if t == n then false else sym (get-saw_off core s w h e) i t); rest_state = put (table core).rest_state s (λ t. if t == n then false else sym (get-rest_state core s w h e) i t); rest_off = put (table core).rest_off s (λ t. if t == n then false else sym (get-rest_off core s w h e) i t); rest_idle = put (table core).rest_idle s (λ t. if t == n then false else sym (get-rest_idle core s w h e) i t) })
+    row-Renewed (table core) s w n ∙ (λ i. record (same-seat core s w h e i) {
+      unstored =
+          put (table core).unstored s (λ t. if t == n then false else sym (get-unstored core s w h e) i t);
+      saw_off = put (table core).saw_off s (λ t. if t == n then false else sym (get-saw_off core s w h e) i t);
+      rest_state = put (table core).rest_state s (λ t. if t == n then false else sym (get-rest_state core s w h e) i t);
+      rest_off = put (table core).rest_off s (λ t. if t == n then false else sym (get-rest_off core s w h e) i t);
+      rest_idle = put (table core).rest_idle s (λ t. if t == n then false else sym (get-rest_idle core s w h e) i t);
+    })
 noted_row core s w (StoredWord n) h e =
     row-StoredWord (table core) s w n ∙ (λ i. record (same-seat core s w h e i) { stored = put (table core).stored s (λ t. if t == n then true else sym (get-stored core s w h e) i t) })
 noted_row core s w (Matched n) h e =
-    row-Matched (table core) s w n ∙ (λ i. record (same-seat core s w h e i) { matched = put (table core).matched s (λ t. if t == n then true else sym (get-matched core s w h e) i t); unstored = put (table core).unstored s (λ t. if t == n then true else sym (get-unstored core s w h e) i t) })
+    row-Matched (table core) s w n ∙ (λ i. record (same-seat core s w h e i) {
+      matched =
+          put (table core).matched s (λ t. if t == n then true else sym (get-matched core s w h e) i t);
+      unstored = put (table core).unstored s (λ t. if t == n then true else sym (get-unstored core s w h e) i t);
+    })
 noted_row core s w (SawOff n) h e =
     row-SawOff (table core) s w n ∙ (λ i. record (same-seat core s w h e i) { saw_off = put (table core).saw_off s (λ t. if t == n then true else sym (get-saw_off core s w h e) i t) })
 noted_row core s w (Claimed n) h e =
-    row-Claimed (table core) s w n ∙ (λ i. record (same-seat core s w h e i) { claimed = put (table core).claimed s (λ t. if t == n then true else sym (get-claimed core s w h e) i t); clear = put (table core).clear s (λ t. if t == n then false else sym (get-clear core s w h e) i t) })
+    row-Claimed (table core) s w n ∙ (λ i. record (same-seat core s w h e i) {
+      claimed =
+          put (table core).claimed s (λ t. if t == n then true else sym (get-claimed core s w h e) i t);
+      clear = put (table core).clear s (λ t. if t == n then false else sym (get-clear core s w h e) i t);
+    })
 noted_row core s w (SawClear n) h e =
-    row-SawClear (table core) s w n ∙ (λ i. record (same-seat core s w h e i) { clear = put (table core).clear s (λ t. if t == n then true else sym (get-clear core s w h e) i t); idle = put (table core).idle s (λ c t. if t == n then true else sym (get-idle core s w h e) i c t) })
+    row-SawClear (table core) s w n ∙ (λ i. record (same-seat core s w h e i) {
+      clear = put (table core).clear s (λ t. if t == n then true else sym (get-clear core s w h e) i t);
+      idle = put (table core).idle s (λ c t. if t == n then true else sym (get-idle core s w h e) i c t);
+    })
 noted_row core s w (SawRest n) h e =
     row-SawRest (table core) s w n ∙ (λ i. record (same-seat core s w h e i) { rest_state = put (table core).rest_state s (λ t. if t == n then true else sym (get-rest_state core s w h e) i t) })
 noted_row core s w (SawRestOff n) h e =
@@ -519,27 +589,54 @@ noted_row core s w (SawRestOff n) h e =
 noted_row core s w (SawRestIdle n) h e =
     row-SawRestIdle (table core) s w n ∙ (λ i. record (same-seat core s w h e i) { rest_idle = put (table core).rest_idle s (λ t. if t == n then true else sym (get-rest_idle core s w h e) i t) })
 noted_row core s w (TookQueue n) h e =
-    row-TookQueue (table core) s w n ∙ (λ i. record (same-seat core s w h e i) { idle = put (table core).idle s (λ c t. if c == n then false else sym (get-idle core s w h e) i c t); added = put (table core).added s (λ c t. if c == n then false else sym (get-added core s w h e) i c t); dropped = put (table core).dropped s (λ c t. if c == n then false else sym (get-dropped core s w h e) i c t) })
+    row-TookQueue (table core) s w n ∙ (λ i. record (same-seat core s w h e i) {
+      idle =
+          put (table core).idle s (λ c t. if c == n then false else sym (get-idle core s w h e) i c t);
+      added = put (table core).added s (λ c t. if c == n then false else sym (get-added core s w h e) i c t);
+      dropped = put (table core).dropped s (λ c t. if c == n then false else sym (get-dropped core s w h e) i c t);
+    })
 noted_row core s w (Queued n) h e =
-    row-Queued (table core) s w n ∙ (λ i. record (same-seat core s w h e i) { claimed = put (table core).claimed s (λ t. if t == n then false else sym (get-claimed core s w h e) i t); requeued = put (table core).requeued s (λ t. if t == n then true else sym (get-requeued core s w h e) i t); added = put (table core).added s (λ c t. if t == n then true else sym (get-added core s w h e) i c t) })
+    row-Queued (table core) s w n ∙ (λ i. record (same-seat core s w h e i) {
+      claimed =
+          put (table core).claimed s (λ t. if t == n then false else sym (get-claimed core s w h e) i t);
+      requeued = put (table core).requeued s (λ t. if t == n then true else sym (get-requeued core s w h e) i t);
+      added = put (table core).added s (λ c t. if t == n then true else sym (get-added core s w h e) i c t);
+    })
 noted_row core s w (Dequeued n) h e =
-    row-Dequeued (table core) s w n ∙ (λ i. record (same-seat core s w h e i) { requeued = put (table core).requeued s (λ t. if t == n then false else sym (get-requeued core s w h e) i t); dropped = put (table core).dropped s (λ c t. if t == n then true else sym (get-dropped core s w h e) i c t) })
+    row-Dequeued (table core) s w n ∙ (λ i. record (same-seat core s w h e i) {
+      requeued =
+          put (table core).requeued s (λ t. if t == n then false else sym (get-requeued core s w h e) i t);
+      dropped = put (table core).dropped s (λ c t. if t == n then true else sym (get-dropped core s w h e) i c t);
+    })
 noted_row core s w (Picked n) h e =
     row-Picked (table core) s w n ∙ (λ i. record (same-seat core s w h e i) { slept = put (table core).slept s (λ t. if t == n then false else sym (get-slept core s w h e) i t) })
 noted_row core s w (TookWait n) h e =
-    row-TookWait (table core) s w n ∙ (λ i. record (same-seat core s w h e i) { passed = put (table core).passed s (λ k t. if k == n then false else sym (get-passed core s w h e) i k t); own_stored = put (table core).own_stored s (λ k t. if k == n then false else sym (get-own_stored core s w h e) i k t); slept_in = put (table core).slept_in s (λ k t. if k == n then false else sym (get-slept_in core s w h e) i k t); retaken = put (table core).retaken s (λ k. if k == n then true else sym (get-retaken core s w h e) i k) })
+    row-TookWait (table core) s w n ∙ (λ i. record (same-seat core s w h e i) {
+      passed =
+          put (table core).passed s (λ k t. if k == n then false else sym (get-passed core s w h e) i k t);
+      own_stored = put (table core).own_stored s (λ k t. if k == n then false else sym (get-own_stored core s w h e) i k t);
+      slept_in = put (table core).slept_in s (λ k t. if k == n then false else sym (get-slept_in core s w h e) i k t);
+      retaken = put (table core).retaken s (λ k. if k == n then true else sym (get-retaken core s w h e) i k);
+    })
 noted_row core s w (OwnStored n) h e =
     row-OwnStored (table core) s w n ∙ (λ i. record (same-seat core s w h e i) { own_stored = put (table core).own_stored s (λ k t. if t == n then true else sym (get-own_stored core s w h e) i k t) })
 noted_row core s w (Slept n) h e =
-    row-Slept (table core) s w n ∙ (λ i. record (same-seat core s w h e i) { slept = put (table core).slept s (λ t. if t == n then true else sym (get-slept core s w h e) i t); slept_in = put (table core).slept_in s (λ k t. if t == n then true else sym (get-slept_in core s w h e) i k t) })
+    row-Slept (table core) s w n ∙ (λ i. record (same-seat core s w h e i) {
+      slept = put (table core).slept s (λ t. if t == n then true else sym (get-slept core s w h e) i t);
+      slept_in = put (table core).slept_in s (λ k t. if t == n then true else sym (get-slept_in core s w h e) i k t);
+    })
 noted_row core s w (Passed n) h e =
     row-Passed (table core) s w n ∙ (λ i. record (same-seat core s w h e i) { passed = put (table core).passed s (λ k t. if t == n then true else sym (get-passed core s w h e) i k t) })
 noted_row core s w (Bumped n) h e =
-    row-Bumped (table core) s w n ∙ (λ i. record (same-seat core s w h e i) { owes = put (table core).owes s (λ k. if k == n then true else sym (get-owes core s w h e) i k); retaken = put (table core).retaken s (λ k. if k == n then false else sym (get-retaken core s w h e) i k) })
+    row-Bumped (table core) s w n ∙ (λ i. record (same-seat core s w h e i) {
+      owes = put (table core).owes s (λ k. if k == n then true else sym (get-owes core s w h e) i k);
+      retaken = put (table core).retaken s (λ k. if k == n then false else sym (get-retaken core s w h e) i k);
+    })
 noted_row core s w (Walked n) h e =
     row-Walked (table core) s w n ∙ (λ i. record (same-seat core s w h e i) { owes = put (table core).owes s (λ k. if k == n then false else sym (get-owes core s w h e) i k) })
 
-pub note_lem : (core : Core) (k : ℕ) (w : SeatCore) (new : Position) (act : Act) → k < (table core).seats → w ≡ get_or core.seats.items k w → new ≡ record w.pos { recent = with_act w.pos.recent act } → table (record core { seats = with_item core.seats k (record w { pos = new }) }) ≡ noted (table core) k act
+pub note_lem : (core : Core) (k : ℕ) (w : SeatCore) (new : Position) (act : Act) → k < (table core).seats → w ≡ get_or core.seats.items k w
+    → new ≡ record w.pos { recent = with_act w.pos.recent act } → table (record core { seats = with_item core.seats k (record w { pos = new }) }) ≡ noted (table core) k act
 note_lem core k w new act h e is =
     ap (λ x. table (record core { seats = with_item core.seats k (record w { pos = x }) })) is
     ∙ table-seat core k (record w { pos = record w.pos { recent = with_act w.pos.recent act } }) h

@@ -1,9 +1,12 @@
 -- The table after a write of one row of a core.
-use Rattle.std.proofs.Common.{◌≡◌, ℕ, ◌<◌, List, [], ◌==◌, false, Option, None, length, get_or, refl, sym, ◌∙◌, ap}
+use Rattle.std.proofs.Common.{◌≡◌, ℕ, ◌<◌, [], false, None, get_or, sym}
 use Rattle.std.proofs.lemmas.List.{length-set}
 use Rattle.std.specs.Vec.{with_item}
-use Rattle.handoff_data.specs.declared.shape.Shape.{Shape}
-use Rattle.core_data.specs.Table.{Table, table, put, column, unserved, mark_of, done_of, refs_of, current_of, task_out_of, queue_out_of, list_out_of, works_out_of, wait_out_of, body_out_of, to_clear_of, seen_of, matched_of, unstored_of, saw_off_of, claimed_of, clear_of, stored_of, rest_state_of, rest_off_of, rest_idle_of, slept_of, requeued_of, idle_of, added_of, dropped_of, passed_of, own_stored_of, slept_in_of, owes_of, retaken_of, test_of, asleep_of, reads_of, hand_of, actives_of, counts_of, lowered_of, given_up_of, due_of, ticket_of, zeroed_of, joined_of, refs_zero_of, completing_of, posted_of, works_hand_of, phases_of, unmarked_of, alive_of, turns_of, served_of, journal_of}
+use Rattle.core_data.specs.Table.{table, unserved, mark_of, done_of, refs_of, current_of, task_out_of, queue_out_of, list_out_of, works_out_of, wait_out_of, body_out_of}
+use Rattle.core_data.specs.Table.{to_clear_of, seen_of, matched_of, unstored_of, saw_off_of, claimed_of, clear_of, stored_of, rest_state_of, rest_off_of, rest_idle_of, slept_of, requeued_of, idle_of}
+use Rattle.core_data.specs.Table.{added_of, dropped_of, passed_of, own_stored_of, slept_in_of, owes_of, retaken_of, test_of, asleep_of, reads_of, hand_of, actives_of, counts_of, lowered_of}
+use Rattle.core_data.specs.Table.{given_up_of, due_of, ticket_of, zeroed_of, joined_of, refs_zero_of, completing_of, posted_of, works_hand_of, phases_of, unmarked_of, alive_of, turns_of, served_of}
+use Rattle.core_data.specs.Table.{journal_of}
 use Rattle.core_data.specs.Found.{no_reads}
 use Rattle.core_data.specs.Rows.{task_words_of, with_task, with_cpu, with_cond, with_seat}
 use Rattle.core_stores.proofs.Columns.{column-set, column-get, column-put}

@@ -26,7 +26,8 @@ pub fn unstored(core: &Core, s: SeatNo, t: TaskNo) -> bool
     row.pos.is_since(Act::Matched { t }, Act::Renewed { t })
 }
 
-/// By the steps of seat s: whether a matching state of t and then `on_rq` was read as 0, with no word of t stored since.
+/// By the steps of seat s: whether a matching state of t and then `on_rq` was read as 0, with no word of t
+/// stored since.
 pub fn saw_off(core: &Core, s: SeatNo, t: TaskNo) -> bool
     requires { s < (table core.now).seats }
     ensures { result ≡ (table core.now).saw_off s t }
@@ -62,7 +63,8 @@ pub fn rest_state(core: &Core, s: SeatNo, t: TaskNo) -> bool
     row.pos.is_since(Act::SawRest { t }, Act::Renewed { t })
 }
 
-/// By the steps of seat s: whether a state of t that isn't TASK_WAKING and then `on_rq` was read as 0, with no word of t stored since.
+/// By the steps of seat s: whether a state of t that isn't TASK_WAKING and then `on_rq` was read as 0, with no
+/// word of t stored since.
 pub fn rest_off(core: &Core, s: SeatNo, t: TaskNo) -> bool
     requires { s < (table core.now).seats }
     ensures { result ≡ (table core.now).rest_off s t }

@@ -166,7 +166,8 @@ pub fn forget_sleep(core: &mut Core, s: SeatNo, t: TaskNo)
     row.pos.forget_sleep(t);
 }
 
-/// At a give of the wait queue of a condition: the tasks whose entry was taken out no longer sleep there, and `sleeper` does.
+/// At a give of the wait queue of a condition: the tasks whose entry was taken out no longer sleep there, and
+/// `sleeper` does.
 pub fn give_asleep(
     core: &mut Core,
     s: SeatNo,

@@ -1,6 +1,5 @@
 use Rattle.std.proofs.Common.{rules, ap, ◌∙◌, ◌++◌, ◌∷◌, []}
 use Rattle.std.proofs.lemmas.Fn.{filter_same}
-use Rattle.core_data.proofs.ActLemmas.{is_act_test}
 use Rattle.core_data.proofs.act.note_act.Goals as goal
 
 pub returns : goal.returns

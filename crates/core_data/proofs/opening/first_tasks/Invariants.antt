@@ -1,6 +1,6 @@
 use Rattle.std.proofs.Common.{◌≡◌}
 use Rattle.std.specs.Prelude.{replicate}
-use Rattle.core_data.specs.Opening.{first_task, first_cpu, first_cond, first_seat}
+use Rattle.core_data.specs.Opening.{first_task}
 use Rattle.core_data.proofs.opening.first_tasks.Given as goal
 
 abbrev pub invariant-loop-i : goal.invariant-loop-i

@@ -1,4 +1,4 @@
-use Rattle.std.proofs.Common.{ℕ, ◌<◌, length, false, arith}
+use Rattle.std.proofs.Common.{◌<◌, length, false, arith}
 use Rattle.core_data.specs.Entries.{same_entry}
 use Rattle.core_data.specs.declared.values.WaitEntry.{WaitEntry}
 use Rattle.core_data.proofs.EntryLemmas.{found_more}

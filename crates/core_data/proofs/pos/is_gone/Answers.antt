@@ -1,4 +1,4 @@
-use Rattle.std.proofs.Common.{ℕ, ◌<◌, ◌==◌, length, false, arith}
+use Rattle.std.proofs.Common.{◌<◌, ◌==◌, length, false, arith}
 use Rattle.std.specs.Prelude.{◌&&◌}
 use mathlib.Core.Bool.{not}
 use Rattle.core_data.specs.Entries.{has_entry}

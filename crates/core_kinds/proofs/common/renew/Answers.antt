@@ -1,12 +1,9 @@
-use Rattle.std.proofs.Common.{◌∙◌, ap, ◌+◌, ◌++◌, ◌∷◌, ◌==◌, [], Some, None, true, false}
-use Rattle.std.specs.Prelude.{if◌then◌else◌}
-use Rattle.core_data.specs.Found.{no_reads}
+use Rattle.std.proofs.Common.{◌∙◌, ap}
 use Rattle.core_data.specs.Noted.{noted}
-use Rattle.core_data.specs.Table.{Table, table, put, put_at}
-use Rattle.core_data.specs.declared.act.Act.TheVariants.{TookTask, Renewed, StoredWord, Queued, Dequeued, Picked}
+use Rattle.core_data.specs.Table.{Table, table, put_at}
+use Rattle.core_data.specs.declared.act.Act.TheVariants.{Renewed, StoredWord}
 use Rattle.core_data.specs.declared.pos.TaskReads.{TaskReads}
-use Rattle.core_kinds.specs.Steps.{kept_reads, numbered_reads, stored_word}
-use Rattle.handoff_data.specs.declared.entry.Entry.TheVariants.{Pick, Finish}
+use Rattle.core_kinds.specs.Steps.{kept_reads}
 use Rattle.core_kinds.proofs.common.renew.Goals as goal
 
 pub returns : goal.returns

@@ -1,20 +1,10 @@
-use Rattle.std.proofs.Common.{◌∙◌, ap, ◌+◌, ◌++◌, ◌∷◌, ◌==◌, [], Some, None, true, false, ℕ, Option, Bool}
-use Rattle.std.specs.Prelude.{if◌then◌else◌}
-use Rattle.core_data.specs.Found.{no_reads}
+use Rattle.std.proofs.Common.{◌∙◌, ap, ◌+◌, ◌++◌, ◌∷◌, [], ℕ}
 use Rattle.core_data.specs.Noted.{noted}
 use Rattle.core_data.specs.Table.{Table, table, put, put_at}
-use Rattle.core_data.specs.declared.act.Act.TheVariants.{TookTask, Renewed, StoredWord, Queued, Dequeued, Picked}
+use Rattle.core_data.specs.declared.act.Act.TheVariants.{Renewed, StoredWord}
 use Rattle.core_data.specs.declared.pos.TaskReads.{TaskReads}
 use Rattle.core_data.specs.declared.words.TaskWords.{TaskWords}
-use Rattle.core_kinds.specs.Steps.{kept_reads, numbered_reads, stored_word}
-use Rattle.core_kinds.specs.Waking.{slept_if, ran_if, claim, cpu_read, load_this, load_rq_so, load_busy_so, noted_if, is_own_read}
-use Rattle.core_kinds.specs.Steps.{waking}
-use Rattle.core_data.specs.declared.act.Act.TheVariants.{Claimed, Passed, OwnStored, Slept, SawOff, SawRestOff, SawClear, SawRestIdle}
-use Rattle.handoff_data.specs.declared.entry.Entry.TheVariants.{Wake}
-use Rattle.core_kinds.specs.Running.{store_rq, queue_entry, dequeue_entry}
-use Rattle.handoff_data.specs.declared.entry.Entry.{Entry}
-use Rattle.handoff_data.specs.declared.entry.Entry.TheVariants.{Pick, Finish, Out}
-use Rattle.handoff_data.specs.declared.state.State.{State}
+use Rattle.core_kinds.specs.Steps.{numbered_reads}
 use Rattle.core_kinds.proofs.running.store_rq.Goals as goal
 
 pub returns : goal.returns

@@ -1,5 +1,4 @@
 use Rattle.std.proofs.Common.{◌≡◌, ◌==◌, Some, None, take}
-use Rattle.std.specs.Option.{option_copied}
 use Rattle.core_data.specs.Found.{found}
 use Rattle.core_data.specs.declared.held.HeldTask.{HeldTask}
 use Rattle.core_stores.proofs.outs.find_task.Given as goal

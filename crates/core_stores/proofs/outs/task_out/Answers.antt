@@ -1,10 +1,7 @@
-use Rattle.std.proofs.Common.{ℕ, List, Option, Some, None, ◌==◌, sym, ap, ◌∙◌}
+use Rattle.std.proofs.Common.{ℕ, Option, Some, None, ◌==◌, sym, ap, ◌∙◌}
 use Rattle.core_data.specs.Found.{found}
-use Rattle.core_data.specs.Queue.{Queue}
 use Rattle.core_data.specs.declared.held.HeldTask.{HeldTask}
 use Rattle.core_data.specs.declared.values.TaskVal.{TaskVal}
-use Rattle.core_data.specs.declared.values.WaitEntry.{WaitEntry}
-use Rattle.core_data.specs.declared.values.WorkItem.{WorkItem}
 use Rattle.core_stores.proofs.Writes.{get-task_out}
 use Rattle.core_stores.proofs.outs.task_out.Goals as goal
 

@@ -1,4 +1,4 @@
-use Rattle.std.proofs.Common.{◌≡◌, ◌≤◌, ◌<◌, arith, sym, subst, ap, length}
+use Rattle.std.proofs.Common.{◌≡◌, ◌≤◌, ◌<◌, arith, sym, subst, length}
 use Rattle.core_data.specs.Queue.{Queue, times_in, IsOnce}
 use Rattle.core_data.proofs.QueueLemmas.{IsOnce-push, length-push}
 use Rattle.core_data.proofs.queue.QueueVal.push.Goals as goal
