@@ -97,7 +97,8 @@ most_sides (Pin n on) = omega arith
 linked : (x : ℕ) (n : ℕ) (a c : List (Option Ring)) (r : Option Ring) → x < n → length a ≡ n → IsSome r → c ≡ slice_set a x r → (x < n) × IsSome r × (r ≡ slice_index_or c x None)
 linked x n a c r l e s q = (l, s, sym (ap (λ z. slice_index_or z x None) q ∙ get_or-set_same a x r None (subst (λ z. x < z) (sym e) l)))
 
-module _ (ds : List TaskDef) (d : TaskDef) (reads : List ℕ) (parts : List Part) (o0 o1 o2 : List (Option Ring)) (seens : List Seen) (l r : Option Ring) (a : Seen) (u : IsUnused a) (b : Built ds reads parts o0 seens) (n : length d.from ≡ sides d.plan) where
+module _ (ds : List TaskDef) (d : TaskDef) (reads : List ℕ) (parts : List Part) (o0 o1 o2 : List (Option Ring)) (seens : List Seen) (l r : Option Ring) (a : Seen) (u : IsUnused a) (b : Built ds reads parts o0 seens)
+    (n : length d.from ≡ sides d.plan) where
   by_from : (from : List ℕ) → d.from ≡ from → length from ≤ 2 → IsReading (length ds) reads from → Links from o0 o1 l → Links (others from) o1 o2 r
       → Built (ds ++ d ∷ []) (reads_on from reads) (parts ++ record { task = length ds; begun = d.plan; left = l; right = r } ∷ []) (o2 ++ None ∷ []) (seens ++ a ∷ [])
   by_from [] e m k p q =

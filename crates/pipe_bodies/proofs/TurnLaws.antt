@@ -73,13 +73,15 @@ module _ (law : FeedingGivesLines) (begun : Plan) (a : Seen) (known : Sound begu
 
     keeps-left : (i : Item) → wants p ≡ Some 0 → Sound begun (record a { got_left = a.got_left ++ i ∷ []; held = heard p 0 i; plan = after p 0 i })
     keeps-left i w = record {
-      faithful = λ s t. ap (λ z. outputs (Some begun) z (a.got_right ++ t)) (append_assoc a.got_left (i ∷ []) s) ∙ before (i ∷ s) t ∙ ap (λ z. a.out ++ z) (item-left law p s t i w) ∙ sym (append_assoc a.out (heard p 0 i) (outputs (after p 0 i) s t));
+      faithful = λ s t. ap (λ z. outputs (Some begun) z (a.got_right ++ t)) (append_assoc a.got_left (i ∷ []) s) ∙ before (i ∷ s) t ∙ ap (λ z. a.out ++ z) (item-left law p s t i w)
+          ∙ sym (append_assoc a.out (heard p 0 i) (outputs (after p 0 i) s t));
       ordered = rw is_open (heard-ordered p 0 i);
     }
 
     keeps-second : (i : Item) → wants p ≡ Some 1 → Sound begun (record a { got_right = a.got_right ++ i ∷ []; held = heard p 1 i; plan = after p 1 i })
     keeps-second i w = record {
-      faithful = λ s t. ap (λ z. outputs (Some begun) (a.got_left ++ s) z) (append_assoc a.got_right (i ∷ []) t) ∙ before s (i ∷ t) ∙ ap (λ z. a.out ++ z) (item-right law p s t i w) ∙ sym (append_assoc a.out (heard p 1 i) (outputs (after p 1 i) s t));
+      faithful = λ s t. ap (λ z. outputs (Some begun) (a.got_left ++ s) z) (append_assoc a.got_right (i ∷ []) t) ∙ before s (i ∷ t) ∙ ap (λ z. a.out ++ z) (item-right law p s t i w)
+          ∙ sym (append_assoc a.out (heard p 1 i) (outputs (after p 1 i) s t));
       ordered = rw is_open (heard-ordered p 1 i);
     }
 

@@ -22,6 +22,11 @@ items (a ∷ x) = Text a ∷ items x
 abbrev pub as_texts : List Line → List Item
 as_texts x = map Text x
 
+-- the oldest item, if it stands apart, and those after it
+abbrev pub first_and : Option Item → List Item → List Item
+first_and None later = later
+first_and (Some i) later = i ∷ later
+
 -- the items that a plan still puts out, where two streams are still to come; a plan that has ended puts out nothing
 abbrev pub outputs : Option Plan → List Item → List Item → List Item
 outputs (Some p) s t = items (lines_of p (texts s) (texts t))

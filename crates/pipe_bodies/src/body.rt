@@ -1,4 +1,5 @@
 // The body of a task.
+use crate::held::Held;
 use crate::item::Item;
 use crate::parts::{Course, Parts};
 use crate::verdict::Verdict;
@@ -8,7 +9,6 @@ use handoff_data::{Lines, NoMemory, TaskNo};
 use pipe_tasks::feeding_gives_lines;
 use rtrb::{Consumer, Producer};
 use std::alloc::Global;
-use std::collections::VecDeque;
 use std::marker::Model;
 
 /// What a task does: it takes items, and puts out what its plan says.
@@ -75,7 +75,7 @@ impl<W: Work> Body<W> {
             output: None,
             kept: Lines::new(alloc),
             said: Lines::new(alloc),
-            held: VecDeque::new(alloc),
+            held: Held::new(alloc),
             plan: Some(course),
             ended: false,
         };

@@ -4,6 +4,7 @@
 mod body;
 mod building;
 mod copies;
+mod held;
 mod item;
 mod parts;
 mod running;

@@ -1,20 +1,19 @@
 // A body's plan, its ends of rings and what it holds.
-ghost use Rattle.std.specs.Prelude.{◌≡◌, [], ◌∷◌, ◌++◌, IfOk, OnErr, MatchOption, IsSome, OnOk, false};
+ghost use Rattle.std.specs.Prelude.{◌≡◌, ◌<◌, ◌↔◌, [], ◌∷◌, ◌++◌, IfOk, IsTrue, MatchOption, IsSome, OnOk, false, if◌then◌else◌};
 ghost use Rattle.pipe_tasks.specs.Plans.{wants};
 ghost use Rattle.pipe_bodies.specs.Items.{heard, after, makes, more, as_texts, pinned};
 ghost use Rattle.pipe_bodies.specs.Rings.{in_ring, out_ring, got, out_of, known, free_slots};
 ghost use Rattle.pipe_bodies.specs.Parts.{KeepsNone};
 ghost use Rattle.pipe_bodies.specs.Turns.{is_end};
-ghost use Rattle.pipe_bodies.specs.declared.parts.PutResult.TheVariants.{Done, Back};
 
+use crate::held::Held;
 use crate::item::Item;
 use crate::verdict::{Then, Verdict};
 use crate::work::{Custom, Work};
 use handoff_data::{Lines, NoMemory};
-use pipe_tasks::{end_plan, make_line, step_plan, wanted_side};
-use rtrb::{Consumer, Producer, PushError};
+use pipe_tasks::{end_plan, make_line, move_plan, said_line, wanted_side};
+use rtrb::{Consumer, Producer};
 use std::alloc::Global;
-use std::collections::VecDeque;
 use task_script::Plan;
 
 #[derive(Drop)]
@@ -23,9 +22,9 @@ pub(crate) struct Parts<W: Work> {
     pub(crate) right: Option<Consumer<Item>>,
     pub(crate) output: Option<Producer<Item>>,
     pub(crate) kept: Lines,
-    // What the plan said for an item, on its way to those that are held: nothing between turns.
+    // Lines that a plan said, on their way to those that are held: nothing between turns.
     pub(crate) said: Lines,
-    pub(crate) held: VecDeque<Item>,
+    pub(crate) held: Held,
     pub(crate) plan: Option<Course<W>>,
     pub(crate) ended: bool,
 }
@@ -49,121 +48,108 @@ fn wanted<W: Work>(course: &Course<W>) -> Option<u32>
 
 ghost use Rattle.pipe_bodies.specs.Courses.{plan_in, plan_on};
 
-// Holds what a plan says for an item of a side, and gives the next plan, if it goes on.
+// Holds what a plan says for an item of a side, and answers whether the plan goes on.
 fn hear_plan(
     alloc: Global,
-    plan: Plan,
+    plan: &mut Plan,
     side: u32,
     item: Item,
     said: &mut Lines,
-    held: &mut VecDeque<Item>,
-) -> Result<Option<Plan>, NoMemory>
-    requires wanted { wants plan ≡ Some side }
+    held: &mut Held,
+) -> Result<bool, NoMemory>
+    requires wanted { wants plan.old ≡ Some side }
     requires said { said.old ≡ [] }
-    ensures heard { IfOk result (λ p. (p ≡ after plan side item) × (held.new.items ≡ held.old.items
-        ++ heard plan side item)) }
+    ensures heard { IfOk result (λ on. (after plan.old side item ≡ (if on then Some plan.new else None))
+        × (held.new ≡ held.old ++ heard plan.old side item)) }
     ensures said { OnOk result (said.new ≡ []) }
 {
-    let mut plan = plan;
     match item {
         Item::Text(line) => {
-            step_plan(alloc, &mut plan, side, line, said)?;
-            hold(said, held)?;
-            Ok(Some(plan))
+            let line = said_line(alloc, plan, side, line)?;
+            move_plan(plan);
+            if let Some(line) = line {
+                held.push(Item::Text(line))?;
+            }
+            Ok(true)
         }
         Item::End => {
-            let goes_on = end_plan(alloc, &mut plan, side, said)?;
+            let goes_on = end_plan(alloc, plan, side, said)?;
             hold(said, held)?;
-            if goes_on {
-                return Ok(Some(plan));
+            if !goes_on {
+                held.push(Item::End)?;
             }
-            held.push_back(Item::End)?;
-            Ok(None)
+            Ok(goes_on)
         }
     }
 }
 
 // Holds lines.
-pub(crate) fn hold(said: &mut Lines, held: &mut VecDeque<Item>) -> Result<(), NoMemory>
-    ensures held { OnOk result (held.new.items ≡ held.old.items ++ as_texts said.old) }
+pub(crate) fn hold(said: &mut Lines, held: &mut Held) -> Result<(), NoMemory>
+    ensures held { OnOk result (held.new ≡ held.old ++ as_texts said.old) }
     ensures said { OnOk result (said.new ≡ []) }
 {
     while let Some(line) = said.pop() {
-        held.push_back(Item::Text(line))?;
+        held.push(Item::Text(line))?;
     }
     Ok(())
 }
 
 // The same for a work.
 fn hear_work<W: Work>(
-    work: Custom<W>,
+    work: &mut Custom<W>,
     item: Item,
     said: &mut Lines,
-    held: &mut VecDeque<Item>,
-) -> Result<Option<Custom<W>>, NoMemory>
+    held: &mut Held,
+) -> Result<bool, NoMemory>
     requires said { said.old ≡ [] }
-    ensures heard { IfOk result (λ p. (p ≡ after work 0 item) × (held.new.items ≡ held.old.items
-        ++ heard work 0 item)) }
+    ensures heard { IfOk result (λ on. (after work.old 0 item ≡ (if on then Some work.new else None))
+        × (held.new ≡ held.old ++ heard work.old 0 item)) }
     ensures said { OnOk result (said.new ≡ []) }
 {
-    let mut work = work;
     match item {
         Item::Text(line) => {
             work.eat(&line, said)?;
             hold(said, held)?;
-            Ok(Some(work))
+            Ok(true)
         }
         Item::End => {
             let _side = work.side();
             work.end(said)?;
             hold(said, held)?;
-            held.push_back(Item::End)?;
-            Ok(None)
+            held.push(Item::End)?;
+            Ok(false)
         }
     }
 }
 
 fn hear<W: Work>(
     alloc: Global,
-    course: Course<W>,
+    course: &mut Course<W>,
     side: u32,
     item: Item,
     said: &mut Lines,
-    held: &mut VecDeque<Item>,
-) -> Result<Option<Course<W>>, NoMemory>
-    requires wanted { wants (plan_in course) ≡ Some side }
+    held: &mut Held,
+) -> Result<bool, NoMemory>
+    requires wanted { wants (plan_in course.old) ≡ Some side }
     requires said { said.old ≡ [] }
     ensures said { OnOk result (said.new ≡ []) }
-    ensures heard { IfOk result (λ p. (plan_on p ≡ after (plan_in course) side item)
-        × (held.new.items ≡ held.old.items ++ heard (plan_in course) side item)) }
+    ensures heard { IfOk result (λ on. (after (plan_in course.old) side item ≡ (if on then Some (plan_in course.new) else None))
+        × (held.new ≡ held.old ++ heard (plan_in course.old) side item)) }
 {
     match course {
-        Course::Own(plan) => match hear_plan(alloc, plan, side, item, said, held)? {
-            Some(plan) => Ok(Some(Course::Own(plan))),
-            None => Ok(None),
-        },
-        Course::Brought(work) => match hear_work(work, item, said, held)? {
-            Some(work) => Ok(Some(Course::Brought(work))),
-            None => Ok(None),
-        },
+        Course::Own(plan) => hear_plan(alloc, plan, side, item, said, held),
+        Course::Brought(work) => hear_work(work, item, said, held),
     }
 }
 
-// Holds what a source puts out next.
-fn make<W: Work>(
-    alloc: Global,
-    course: Course<W>,
-    held: &mut VecDeque<Item>,
-) -> Result<Option<Course<W>>, NoMemory>
-    requires { wants (plan_in course) ≡ None }
-    ensures { IfOk result (λ p. (plan_on p ≡ more (plan_in course)) × (held.new.items ≡ held.old.items
-        ++ makes (plan_in course))) }
+// Holds what a source puts out next, and answers whether the source goes on.
+fn make<W: Work>(alloc: Global, course: &mut Course<W>, held: &mut Held) -> Result<bool, NoMemory>
+    requires { wants (plan_in course.old) ≡ None }
+    ensures { IfOk result (λ on. (more (plan_in course.old) ≡ (if on then Some (plan_in course.new) else None))
+        × (held.new ≡ held.old ++ makes (plan_in course.old))) }
 {
     match course {
-        Course::Own(plan) => match make_plan(alloc, plan, held)? {
-            Some(plan) => Ok(Some(Course::Own(plan))),
-            None => Ok(None),
-        },
+        Course::Own(plan) => make_plan(alloc, plan, held),
         Course::Brought(work) => {
             let _side = work.side();
             unreachable!()
@@ -171,19 +157,19 @@ fn make<W: Work>(
     }
 }
 
-fn make_plan(alloc: Global, plan: Plan, held: &mut VecDeque<Item>) -> Result<Option<Plan>, NoMemory>
-    requires { wants plan ≡ None }
-    ensures { IfOk result (λ p. (p ≡ more plan) × (held.new.items ≡ held.old.items ++ makes plan)) }
+fn make_plan(alloc: Global, plan: &mut Plan, held: &mut Held) -> Result<bool, NoMemory>
+    requires { wants plan.old ≡ None }
+    ensures { IfOk result (λ on. (more plan.old ≡ (if on then Some plan.new else None))
+        × (held.new ≡ held.old ++ makes plan.old)) }
 {
-    let mut plan = plan;
-    match make_line(alloc, &mut plan)? {
+    match make_line(alloc, plan)? {
         Some(line) => {
-            held.push_back(Item::Text(line))?;
-            Ok(Some(plan))
+            held.push(Item::Text(line))?;
+            Ok(true)
         }
         None => {
-            held.push_back(Item::End)?;
-            Ok(None)
+            held.push(Item::End)?;
+            Ok(false)
         }
     }
 }
@@ -201,37 +187,34 @@ fn pull(input: &mut Option<Consumer<Item>>) -> Option<Item>
     }
 }
 
-// Whether an item was put out.
-enum PutResult {
-    Done,
-    Back(Item),
+// Whether the ring has no room. Where nobody reads there is always some.
+fn is_full(output: &mut Option<Producer<Item>>) -> bool
+    ensures ring { out_ring output.new ≡ out_ring output.old }
+    ensures out { (kept : _) (ended : _) → out_of output.new kept ended ≡ out_of output.old kept ended }
+    ensures full { IsTrue result ↔ (free_slots output.new ≡ 0) }
+{
+    let Some(producer) = output else {
+        return false;
+    };
+    producer.is_full()
 }
 
-fn put(
-    output: &mut Option<Producer<Item>>,
-    kept: &mut Lines,
-    item: Item,
-) -> Result<PutResult, NoMemory>
+// Puts an item out, on the ring or into what is kept.
+fn put(output: &mut Option<Producer<Item>>, kept: &mut Lines, item: Item) -> Result<(), NoMemory>
+    requires { 0 < free_slots output.old }
     ensures ring { out_ring output.new ≡ out_ring output.old }
-    ensures done { result ≡ Ok Done → out_of output.new kept.new (is_end item) ≡ out_of output.old kept.old false
-        ++ item ∷ [] }
-    ensures back { (i : _) → result ≡ Ok (Back i) → (i ≡ item) × (out_of output.new kept.new false
-        ≡ out_of output.old kept.old false) }
-    ensures full { (i : _) → result ≡ Ok (Back i) → free_slots output.new ≡ 0 }
+    ensures out { OnOk result (out_of output.new kept.new (is_end item) ≡ out_of output.old kept.old false ++ item ∷ []) }
     ensures bare { KeepsNone (out_ring output.old) kept.old → KeepsNone (out_ring output.new) kept.new }
 {
     match output {
         None => match item {
-            Item::Text(line) => {
-                kept.push(line)?;
-                Ok(PutResult::Done)
-            }
-            Item::End => Ok(PutResult::Done),
+            Item::Text(line) => kept.push(line),
+            Item::End => Ok(()),
         },
-        Some(producer) => match producer.push(item) {
-            Ok(()) => Ok(PutResult::Done),
-            Err(PushError::Full(back)) => Ok(PutResult::Back(back)),
-        },
+        Some(producer) => {
+            producer.push_reserved(item);
+            Ok(())
+        }
     }
 }
 
@@ -241,9 +224,9 @@ impl<W: Work> Parts<W> {
     ghost use Rattle.pipe_bodies.specs.Courses.{plan_on};
     ghost use Rattle.pipe_bodies.specs.Parts.{seen, rings, knows, IsJoined, KeepsNone};
 
-    // Puts the oldest held item out, or holds it again where the ring hands it back.
+    // Puts the oldest held item out, or holds it on where the ring has no room.
     fn put_oldest(&mut self) -> Result<Verdict, NoMemory>
-        requires { (0 < length self.old.held.items) × (self.old.ended ≡ false) }
+        requires { (0 < length self.old.held) × (self.old.ended ≡ false) }
         ensures turns { IfOk result (λ v. Turns (seen self.old) (seen self.new) v) }
         ensures waits { IfOk result (λ v. WaitsFor v.then (knows self.new)) }
         ensures rings { rings self.new ≡ rings self.old }
@@ -252,30 +235,26 @@ impl<W: Work> Parts<W> {
         ensures said { self.new.said ≡ self.old.said }
         ensures err { OnErr result (self.new.ended ≡ false) }
     {
-        let Some(item) = self.held.pop_front() else {
+        if is_full(&mut self.output) {
+            return Ok(quiet(is_pinned(&self.plan), Then::WaitOut));
+        }
+        let Some(item) = self.held.pop() else {
             unreachable!()
         };
         let is_end = is_end(&item);
-        match put(&mut self.output, &mut self.kept, item)? {
-            PutResult::Done => {
-                self.ended = is_end;
-                Ok(Verdict {
-                    read: None,
-                    wrote: true,
-                    pin: is_pinned(&self.plan),
-                    then: Then::More,
-                })
-            }
-            PutResult::Back(item) => {
-                self.held.push_front_reserved(item);
-                Ok(quiet(is_pinned(&self.plan), Then::WaitOut))
-            }
-        }
+        put(&mut self.output, &mut self.kept, item)?;
+        self.ended = is_end;
+        Ok(Verdict {
+            read: None,
+            wrote: true,
+            pin: is_pinned(&self.plan),
+            then: Then::More,
+        })
     }
 
     // A source's next line, or one item from the side that the plan wants.
     fn go_on(&mut self, alloc: Global) -> Result<Verdict, NoMemory>
-        requires held { self.old.held.items ≡ [] }
+        requires held { self.old.held ≡ [] }
         requires said { self.old.said ≡ [] }
         requires joined { IsJoined (plan_on self.old.plan) (rings self.old).left (rings self.old).right }
         ensures turns { IfOk result (λ v. Turns (seen self.old) (seen self.new) v) }
@@ -286,33 +265,37 @@ impl<W: Work> Parts<W> {
         ensures said { OnOk result (self.new.said ≡ []) }
         ensures ended { self.new.ended ≡ self.old.ended }
     {
-        let Some(plan) = self.plan.take() else {
+        let Some(course) = &mut self.plan else {
             return Ok(quiet(false, Then::Exit));
         };
-        let Some(side) = wanted(&plan) else {
-            self.plan = make(alloc, plan, &mut self.held)?;
+        let Some(side) = wanted(course) else {
+            if !make(alloc, course, &mut self.held)? {
+                self.plan = None;
+            }
             return Ok(quiet(is_pinned(&self.plan), Then::More));
         };
         if side == 0 {
             let Some(item) = pull(&mut self.left) else {
-                self.plan = Some(plan);
                 return Ok(quiet(is_pinned(&self.plan), Then::WaitIn(side)));
             };
-            self.plan = hear(alloc, plan, side, item, &mut self.said, &mut self.held)?;
+            if !hear(alloc, course, side, item, &mut self.said, &mut self.held)? {
+                self.plan = None;
+            }
             return Ok(took(is_pinned(&self.plan), side));
         }
         let Some(item) = pull(&mut self.right) else {
-            self.plan = Some(plan);
             return Ok(quiet(is_pinned(&self.plan), Then::WaitIn(side)));
         };
-        self.plan = hear(alloc, plan, side, item, &mut self.said, &mut self.held)?;
+        if !hear(alloc, course, side, item, &mut self.said, &mut self.held)? {
+            self.plan = None;
+        }
         Ok(took(is_pinned(&self.plan), side))
     }
 
     // One turn: the first case that applies.
     pub(crate) fn turn(&mut self, alloc: Global) -> Result<Verdict, NoMemory>
         requires said { self.old.said ≡ [] }
-        requires ordered { Ordered self.old.ended (plan_on self.old.plan) self.old.held.items }
+        requires ordered { Ordered self.old.ended (plan_on self.old.plan) self.old.held }
         requires joined { IsJoined (plan_on self.old.plan) (rings self.old).left (rings self.old).right }
         ensures turns { IfOk result (λ v. Turns (seen self.old) (seen self.new) v) }
         ensures waits { IfOk result (λ v. WaitsFor v.then (knows self.new)) }
@@ -356,14 +339,14 @@ fn is_end(item: &Item) -> bool
 ghost use Rattle.pipe_bodies.specs.Turns.{is_end as is_the_end};
 ghost use Rattle.std.specs.Prelude.{None, Some, true};
 
-fn quiet(pin: bool, then: Then) -> Verdict
-    ensures { (result.read ≡ None) × (result.wrote ≡ false) × (result.then ≡ then) × (result.pin ≡ pin) }
+fn quiet(pin: bool, next: Then) -> Verdict
+    ensures { (result.read ≡ None) × (result.wrote ≡ false) × (result.then ≡ next) × (result.pin ≡ pin) }
 {
     Verdict {
         read: None,
         wrote: false,
         pin,
-        then,
+        then: next,
     }
 }
 

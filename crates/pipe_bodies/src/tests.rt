@@ -4,11 +4,11 @@ ghost use Rattle.task_script.specs.Script.{IsScript};
 ghost use Rattle.task_script.specs.declared.plan.Plan.TheVariants as plan;
 
 use super::*;
+use crate::held::Held;
 use crate::parts::hold;
 use handoff_data::{Line, Lines, NoMemory, is_line};
 use pipe_tasks::{run_forest, step_plan};
 use std::alloc::Global;
-use std::collections::VecDeque;
 use std::process::Abort;
 use std::test::Fail;
 use task_script::{Plan, Script, Sources, TaskDef, read_script};
@@ -215,13 +215,13 @@ fn several_lines_are_held_in_order(rt: HostRuntime) -> Result<(), Fail> {
     for text in texts {
         said.push(line(&rt, text)?)?;
     }
-    let mut held = VecDeque::new(rt.alloc());
-    held.push_back(Item::Text(line(&rt, b"0")?))?;
+    let mut held = Held::new(rt.alloc());
+    held.push(Item::Text(line(&rt, b"0")?))?;
     hold(&mut said, &mut held)?;
     assert!(rt; said.is_empty());
     let expected: [&[u8]; 4] = [b"0", b"1", b"2", b"3"];
     for text in expected {
-        match held.pop_front() {
+        match held.pop() {
             Some(Item::Text(found)) => assert_eq!(rt; found.as_slice(), text),
             _ => panic!(rt; "a line is missing"),
         }

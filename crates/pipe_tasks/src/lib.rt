@@ -10,7 +10,7 @@ mod text;
 
 pub use forest::run_forest;
 pub use laws::feeding_gives_lines;
-pub use steps::{end_plan, make_line, step_plan, wanted_side};
+pub use steps::{end_plan, make_line, move_plan, said_line, step_plan, wanted_side};
 
 #[cfg(test)]
 mod tests;

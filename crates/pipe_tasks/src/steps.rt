@@ -1,4 +1,4 @@
-ghost use Rattle.std.specs.Prelude.{◌≡◌, ◌++◌, Some, None, OnOk, OnErr, IfOk, MatchOption, if◌then◌else◌};
+ghost use Rattle.std.specs.Prelude.{◌≡◌, ℕ, [], ◌∷◌, ◌++◌, Some, None, OnOk, OnErr, IfOk, MatchOption, if◌then◌else◌};
 ghost use Rattle.pipe_tasks.specs.Plans.{wants, says, next, last, closed, made, other_side};
 
 use crate::text::{decimal_line, number_line, uppercase_line};
@@ -62,45 +62,65 @@ pub fn step_plan(
     ensures lines { OnOk result (out.new ≡ out.old ++ says plan.old side line) }
     ensures err { OnErr result ((plan.new ≡ plan.old) × (out.new ≡ out.old)) }
 {
-    match plan {
+    if let Some(line) = said_line(alloc, plan, side, line)? {
+        out.push(line)?;
+    }
+    move_plan(plan);
+    Ok(())
+}
+
+/// The line that a plan puts out for a line of the side that it wants, if it puts one out; it puts out no more than
+/// one. The line is moved, and its bytes are changed in place or copied once where they get longer. The plan stays:
+/// `move_plan` moves it on.
+pub fn said_line(
+    alloc: Global,
+    plan: &Plan,
+    side: u32,
+    line: Line,
+) -> Result<Option<Line>, NoMemory>
+    requires { wants plan.now ≡ Some side }
+    ensures { IfOk result (λ r. MatchOption r (says plan.now side line ≡ []) (λ l. says plan.now side line ≡ l ∷ [])) }
+{
+    Ok(match plan {
         Plan::Lines { .. } | Plan::Count { .. } => unreachable!(),
-        Plan::Upper => out.push(uppercase_line(line)),
-        Plan::Number { next } => {
-            let numbered = number_line(alloc, *next, line)?;
-            out.push(numbered)?;
-            *next = next.saturating_add(1);
-            Ok(())
-        }
+        Plan::Upper => Some(uppercase_line(line)),
+        Plan::Number { next } => Some(number_line(alloc, *next, line)?),
         Plan::Keep { prefix } => {
-            if !begins_with(&line, prefix) {
-                return Ok(());
+            if begins_with(&line, prefix) {
+                Some(line)
+            } else {
+                None
             }
-            out.push(line)
         }
         Plan::Drop { prefix } => {
             if begins_with(&line, prefix) {
-                return Ok(());
+                None
+            } else {
+                Some(line)
             }
-            out.push(line)
         }
-        Plan::Tally { n } => {
-            *n = n.saturating_add(1);
-            Ok(())
-        }
-        Plan::Cat { .. } => out.push(line),
-        Plan::Weave { side: turn, ended } => {
-            out.push(line)?;
+        Plan::Tally { .. } => None,
+        Plan::Cat { .. } | Plan::Weave { .. } | Plan::Pin { .. } => Some(line),
+    })
+}
+
+/// Moves a plan on after a line, whichever it was.
+pub fn move_plan(plan: &mut Plan)
+    ensures { (side : ℕ) (line : _) → plan.new ≡ next plan.old side line }
+{
+    match plan {
+        Plan::Number { next } => *next = next.saturating_add(1),
+        Plan::Tally { n } => *n = n.saturating_add(1),
+        Plan::Weave { side, ended } => {
             if !*ended {
-                *turn = other(*turn);
+                *side = other(*side);
             }
-            Ok(())
         }
         Plan::Pin { left, on } => {
-            out.push(line)?;
             *on = *left > 0;
             *left = left.saturating_sub(1);
-            Ok(())
         }
+        _ => (),
     }
 }
 
