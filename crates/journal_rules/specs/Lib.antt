@@ -1,0 +1,3 @@
+pub use Rattle.journal_facts.specs.Facts
+pub mod Judging
+pub mod Known
