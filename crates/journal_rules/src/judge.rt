@@ -1,6 +1,14 @@
+use crate::causes::{caused, chained};
 use crate::marks::Mark;
+use crate::masks::{done_stood, masked_and_stood};
+use crate::numbers::{not_repeated, rises_in_journal};
+use crate::order::{listed_in_order, note_taken};
+use crate::ranges::in_range;
+use crate::runs::{leaves_while_running, runs_alternate};
+use crate::turns::outage_leaves_none;
 use handoff_data::{Entry, Journals, NoMemory, SeatNo, TaskNo};
-use journal_facts::Fact;
+use journal_facts::{Fact, Kind, facts_of, members_of};
+use journal_questions::last_change;
 use std::alloc::Global;
 
 /// What is known of the journals that are judged, and what their entries were found to do so far.
@@ -22,11 +30,10 @@ impl Judge {
         requires { length journals.now.seats < 2 ^ 32 }
         ensures { IfOk result (IsJudgeAt journals.now 0 0) }
     {
-        let _seats = journals.seats.len();
         Ok(Judge {
-            facts: Vec::new(alloc),
-            members: Vec::new(alloc),
-            marks: Vec::new(alloc),
+            facts: facts_of(alloc, journals.seats.as_slice())?,
+            members: members_of(alloc, journals.seats.as_slice())?,
+            marks: vec![in alloc; None; journals.seats.len()]?,
         })
     }
 
@@ -56,7 +63,47 @@ impl Judge {
         ensures kept { IfNone result (KeepsAll journals.now seat index entry) }
         ensures next { IfNone result (IsJudgeAt journals.now seat (index + 1) self.new) }
     {
-        let _all = (journals.seats.len(), self.marks.len(), seat, index, entry);
+        let facts = self.facts.as_slice();
+        let journal = journals.seats[seat as usize].as_slice();
+        if !in_range(journals.cpus, journals.tasks, seat, entry) {
+            return Some(1);
+        }
+        if !not_repeated(facts, seat, index, entry) {
+            return Some(2);
+        }
+        if !chained(facts, seat, entry) {
+            return Some(3);
+        }
+        if !caused(facts, seat, index, entry) {
+            return Some(4);
+        }
+        if !rises_in_journal(facts, journal, seat, index, entry) {
+            return Some(5);
+        }
+        if !runs_alternate(facts, seat, index, entry) {
+            return Some(6);
+        }
+        if !leaves_while_running(facts, journal, seat, index, entry) {
+            return Some(7);
+        }
+        if !listed_in_order(facts, self.marks.as_slice(), seat, entry) {
+            return Some(8);
+        }
+        if !outage_leaves_none(facts, journals, seat, index, entry) {
+            return Some(9);
+        }
+        if !masked_and_stood(facts, self.members.as_slice(), journals.cpus, entry) {
+            return Some(10);
+        }
+        if !done_stood(facts, seat, index, entry) {
+            return Some(11);
+        }
+        note_taken(
+            self.facts.as_slice(),
+            self.marks.as_mut_slice(),
+            seat,
+            entry,
+        );
         None
     }
 
@@ -66,7 +113,21 @@ impl Judge {
         requires no_bad { HasNoBad journals.now }
         ensures { IsTrue result ↔ HasEnded journals.now t }
     {
-        let _all = (journals.seats.len(), self.marks.len(), seat, index, t);
-        false
+        let facts = self.facts.as_slice();
+        let dies = match last_change(facts, Kind::Change, t) {
+            Some(last) => matches!(
+                journals.seats[last.seat as usize].as_slice()[last.index as usize],
+                Entry::Die { .. }
+            ),
+            None => false,
+        };
+        let finishes = match last_change(facts, Kind::Run, t) {
+            Some(last) => matches!(
+                journals.seats[last.seat as usize].as_slice()[last.index as usize],
+                Entry::Finish { .. }
+            ),
+            None => false,
+        };
+        dies && finishes
     }
 }
