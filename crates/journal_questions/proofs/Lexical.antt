@@ -1,6 +1,6 @@
 -- The order of facts in numbers.
-use Rattle.std.proofs.Common.{◌≡◌, ◌<◌, ◌≤◌, ◌⊎◌, ℕ, true, false, Bool, arith, inl, inr, List, length, get_or}
-use Rattle.std.specs.Ordering.{nat_cmp, ordering_then, is_lt, MatchOrdering}
+use Rattle.std.proofs.Common.{◌≡◌, ◌<◌, ◌≤◌, ℕ, true, false, arith, inl, inr, refl, zero, suc}
+use Rattle.std.specs.Ordering.{ordering_then, is_lt, MatchOrdering}
 use Rattle.std.specs.declared.cmp.Ordering.{Ordering}
 use Rattle.std.specs.declared.cmp.Ordering.TheVariants as ordering
 use Rattle.std.specs.Cmp.{ranks, IsStrictWeakOrder, IsTotalOrder}
@@ -53,11 +53,23 @@ fact_ranks = ranks_by fact_total (λ (x : Fact). x)
 
 not_both : (x y : ℕ) (P Q : Type 0) → (P → Q → ⊥) → Lex x y P → Lex y x Q → ⊥
 not_both x y P Q f a b = elim a [
-    | inl l ↦ elim b [ inl r ↦ omega arith | inr r ↦ let e : y ≡ x = r.0 in omega arith ]
-    | inr l ↦ let e : x ≡ y = l.0 in elim b [ inl r ↦ omega arith | inr r ↦ f l.1 r.1 ]
-  ]
+  | inl l ↦ elim b [ inl r ↦ omega arith | inr r ↦ let e : y ≡ x = r.0 in omega arith ]
+  | inr l ↦ let e : x ≡ y = l.0 in elim b [ inl r ↦ omega arith | inr r ↦ f l.1 r.1 ]
+]
 
 -- no fact is below one and not below it
 pub not_below : (a b : Fact) → IsBelow a b → IsUpTo b a → ⊥
 not_below a b =
     not_both _ _ _ _ (not_both _ _ _ _ (not_both _ _ _ _ (not_both _ _ _ _ (not_both _ _ _ _ (λ (l : a.index < b.index) (r : b.index ≤ a.index). omega arith)))))
+
+-- between two that are the same there is only that
+pub squeeze : (x y : ℕ) (P Q : Type 0) → Lex x y P → Lex y x Q → (x ≡ y) × P × Q
+squeeze x y P Q a b = elim a [
+  | inl l ↦ absurd (elim b [ inl r ↦ omega arith | inr r ↦ let e : y ≡ x = r.0 in omega arith ])
+  | inr l ↦ let e : x ≡ y = l.0 in elim b [ inl r ↦ absurd (omega arith) | inr r ↦ (l.0, l.1, r.1) ]
+]
+
+-- nothing comes before 0
+pub from_zero : (x : ℕ) (P : Type 0) → P → Lex 0 x P
+from_zero zero P p = inr (refl, p)
+from_zero (suc x) P p = inl (omega arith)

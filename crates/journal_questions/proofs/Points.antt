@@ -1,5 +1,5 @@
 -- What stands around the point where a key would stand.
-use Rattle.std.proofs.Common.{◌≡◌, ◌<◌, ◌≤◌, ◌+◌, ◌-◌, ◌⊎◌, ◌↔◌, ℕ, false, arith, inl, inr, List, Some, length, get_or, take, drop, subst, sym, ap, ◌∙◌, refl}
+use Rattle.std.proofs.Common.{◌≡◌, ◌<◌, ◌≤◌, ◌+◌, ◌-◌, ◌↔◌, ℕ, false, arith, inl, inr, List, length, get_or, take, drop, subst, sym, ap, ◌∙◌}
 use Rattle.std.proofs.Math.Seq.{take-length}
 use Rattle.std.specs.Prelude.{Contains, IsSorted}
 use Rattle.std.specs.Ordering.{is_lt}
@@ -77,3 +77,13 @@ module _ (xs : List Fact) (key : Fact) (n : ℕ) (sorted : IsSorted fact_cmp xs)
             let w : c.0 < length xs = c.1 in
             (c.0 - n, omega (arith, length-drop n xs), get_or-drop n xs (c.0 - n) f ∙ ap (λ (i : ℕ). get_or xs i f) k ∙ c.2),
       )
+
+-- what holds up to an index, and there, holds up to the next
+pub next_too : (xs : List Fact) (i : ℕ) (P : Fact → Type 0) (x : Fact) → P (get_or xs i x) → i < length xs → ((k : ℕ) (d : Fact) → k < i → P (get_or xs k d))
+    → (k : ℕ) (d : Fact) → k < i + 1 → P (get_or xs k d)
+next_too xs i P x here inside so_far k d less = elim (cases_lt k i) [
+    | inl below ↦ so_far k d below
+    | inr more ↦
+        let same : k ≡ i = omega arith in
+        subst (λ (n : ℕ). P (get_or xs n d)) (sym same) (subst P (sym (same_default xs i x d inside)) here)
+  ]

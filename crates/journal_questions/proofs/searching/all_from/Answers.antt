@@ -1,4 +1,3 @@
-use Rattle.std.proofs.Common.{arith}
 use Rattle.journal_questions.proofs.Points.{all_behind}
 use Rattle.journal_questions.proofs.searching.all_from.Goals as goal
 

@@ -1,4 +1,4 @@
-use Rattle.std.proofs.Common.{◌≡◌, ◌≤◌, ◌<◌, ℕ, true, false, Bool, arith, length, get_or}
+use Rattle.std.proofs.Common.{◌≡◌, true, false, get_or}
 use Rattle.std.specs.Ordering.{is_lt}
 use Rattle.std.proofs.Common.{rules}
 use Rattle.std.proofs.lemmas.Bool.{true_from_ne_false}
@@ -6,7 +6,6 @@ use Rattle.std.specs.List.Sorted.{IsPartitionedBy, IsPartitionPoint}
 use Rattle.std.proofs.lemmas.List.Sorted.{sorted_far, IsPartitionPoint-from_clause}
 use Rattle.journal_facts.specs.declared.fact.Fact.{Fact}
 use Rattle.journal_facts.specs.Facts.{fact_cmp}
-use Rattle.journal_facts.proofs.Order.{fact_same}
 use Rattle.journal_questions.proofs.Lexical.{is_below, is_up_to, fact_ranks}
 use Rattle.journal_questions.proofs.searching.count_before.Goals as goal
 

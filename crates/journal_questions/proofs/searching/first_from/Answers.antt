@@ -1,4 +1,4 @@
-use Rattle.journal_questions.proofs.Points.{same_default, found, least, none_behind}
+use Rattle.journal_questions.proofs.Points.{same_default, found, least}
 use Rattle.journal_questions.proofs.searching.first_from.Goals as goal
 
 pub returns-then-at-sorted-clause-found : goal.returns-then-at-sorted-clause-found
