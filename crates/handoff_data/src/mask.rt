@@ -47,6 +47,14 @@ impl CpuMask {
         c < 128 && (bits >> c) & 1 == 1
     }
 
+    /// A number that is above each processor of the set.
+    pub fn limit(&self) -> u32
+        ensures { (k : ℕ) → HasCpu self.now k → k < result }
+    {
+        let _bits = self.bits;
+        128
+    }
+
     /// The lowest processor of the set.
     pub fn lowest(&self) -> Option<CpuNo>
         ensures none { IsNone result ↔ IsEmpty self.now }
