@@ -1,3 +1,1 @@
-pub use Rattle.journal_facts.specs.Facts
-pub mod Judging
 pub mod Known

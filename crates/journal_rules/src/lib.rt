@@ -1,15 +1,15 @@
 //! The eleven rules of journals, decided for one entry after another.
 #![tactic(auto)]
 
+mod asked;
 mod causes;
-mod judge;
 mod marks;
 mod masks;
-mod numbers;
-mod order;
 mod ranges;
 mod runs;
-mod turns;
 
-pub use judge::Judge;
+pub use causes::{caused, chained};
 pub use marks::Mark;
+pub use masks::done_stood;
+pub use ranges::in_range;
+pub use runs::runs_alternate;

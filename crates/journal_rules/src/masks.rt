@@ -1,64 +1,44 @@
 //! Rules 10 and 11: masks, where tasks stood under them, and which requests are done.
 
-use handoff_data::{CpuNo, Entry, SeatNo, TaskNo};
-use journal_facts::{Fact, Kind};
-use journal_questions::{is_told, is_told_before, is_told_from, is_told_on};
+ghost use Rattle.std.specs.Prelude.{◌≡◌, ◌-◌, ◌<◌, ◌≤◌, ◌⊎◌, ◌↔◌, ℕ, Option, IsTrue, IsSorted};
+ghost use Rattle.handoff_data.specs.declared.entry.Entry.TheVariants as entry;
+ghost use Rattle.handoff_data.specs.declared.mask.CpuMask.{CpuMask};
+ghost use Rattle.handoff_data.specs.History.{History};
+ghost use Rattle.handoff_data.specs.Mask.{HasCpu};
+ghost use Rattle.handoff_data.specs.Positions.{IsBefore, IsSomewhere};
+ghost use Rattle.handoff_data.specs.Rules.{DoneStood};
+ghost use Rattle.journal_facts.specs.Facts.{fact_cmp};
+ghost use Rattle.journal_rules.specs.Known.{KnowsFacts};
 
-/// Whether change `m` of the task left it there.
-fn stood_at(facts: &[Fact], t: TaskNo, m: u64, at: Option<CpuNo>) -> bool {
-    match at {
-        None => is_told(facts, Kind::Slept, t, m) || is_told(facts, Kind::Died, t, m),
-        Some(c) => {
-            is_told_on(facts, Kind::Queued, t, m, c)
-                || is_told_on(facts, Kind::Slept, t, m, c)
-                || is_told_on(facts, Kind::Died, t, m, c)
-                || is_told(facts, Kind::Slept, t, m) && is_told_on(facts, Kind::ListedTo, t, m, c)
-        }
-    }
-}
+use crate::asked::{is_masked_before, is_stood_from};
+use handoff_data::{Entry, Journals, SeatNo, TaskNo};
+use journal_facts::Fact;
 
-/// Whether mask `r` of the task has this processor, where there is one.
-fn mask_allows(
-    facts: &[Fact],
-    members: &[Fact],
-    cpus: u32,
-    t: TaskNo,
-    r: u64,
-    at: Option<CpuNo>,
-) -> bool {
-    match at {
-        None => r == 0 || is_told(facts, Kind::Mask, t, r),
-        Some(c) => {
-            if r == 0 {
-                c < cpus
-            } else {
-                is_told_on(members, Kind::Member, t, r, c)
-            }
-        }
+/// Whether the request that made mask `r` of the task may be done at this place.
+fn may_be_done(facts: &[Fact], t: TaskNo, r: u64, seat: SeatNo, index: u64) -> bool
+    requires { IsSorted fact_cmp facts.now }
+    ensures { (j : History) → KnowsFacts j facts.now → IsTrue result ↔ DoneStood j seat index (entry.Done t r) }
+{
+    if !is_masked_before(facts, t, r, seat, index) {
+        return false;
     }
-}
-
-/// Whether a task's masks are numbered from 1 and none is empty, and a task stood where its change left it, and
-/// its mask allows that.
-pub fn masked_and_stood(facts: &[Fact], members: &[Fact], cpus: u32, entry: Entry) -> bool {
-    match entry {
-        Entry::Mask { t, r, mask } => {
-            (r == 1 || r > 0 && is_told(facts, Kind::Mask, t, r - 1)) && !mask.is_empty()
-        }
-        Entry::Stood { t, r, m, at } => {
-            stood_at(facts, t, m, at) && mask_allows(facts, members, cpus, t, r, at)
-        }
-        _ => true,
-    }
+    is_stood_from(facts, t, r)
 }
 
 /// Whether a request is done after its mask was set, and the task stood under that mask or a later one.
-pub fn done_stood(facts: &[Fact], seat: SeatNo, index: u64, entry: Entry) -> bool {
+pub fn done_stood(
+    journals: &Journals,
+    facts: &[Fact],
+    seat: SeatNo,
+    index: u64,
+    entry: Entry,
+) -> bool
+    requires { KnowsFacts journals.now facts.now }
+    ensures { IsTrue result ↔ DoneStood journals.now seat index entry }
+{
+    let _tasks = journals.tasks;
     match entry {
-        Entry::Done { t, r } => {
-            is_told_before(facts, Kind::Mask, t, r, 0, seat, index)
-                && is_told_from(facts, Kind::Stood, t, r)
-        }
+        Entry::Done { t, r } => may_be_done(facts, t, r, seat, index),
         _ => true,
     }
 }

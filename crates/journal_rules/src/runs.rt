@@ -1,38 +1,69 @@
-//! Rules 6 and 7: picks and finishes, and what a task does while it runs.
+//! Rule 6: picks and finishes.
 
-use handoff_data::{Entry, SeatNo};
-use journal_facts::{Fact, Kind};
-use journal_questions::{is_told, is_told_before, last_index};
+ghost use Rattle.std.specs.Prelude.{◌≡◌, ◌-◌, ◌%◌, ◌<◌, ◌↔◌, ℕ, IsTrue, IsSorted};
+ghost use Rattle.handoff_data.specs.declared.entry.Entry.TheVariants as entry;
+ghost use Rattle.handoff_data.specs.History.{History};
+ghost use Rattle.handoff_data.specs.Positions.{IsBefore, IsSomewhere};
+ghost use Rattle.handoff_data.specs.Rules.{RunsAlternate};
+ghost use Rattle.journal_facts.specs.Facts.{fact_cmp};
+ghost use Rattle.journal_rules.specs.Known.{KnowsFacts};
+
+use crate::asked::{is_finish, is_picked_before};
+use handoff_data::{CpuNo, Entry, Journals, SeatNo, TaskNo};
+use journal_facts::Fact;
+
+/// Whether run `n` of the task is its first, or the run before it is a finish.
+fn follows_finish(facts: &[Fact], t: TaskNo, n: u64) -> bool
+    requires { IsSorted fact_cmp facts.now }
+    ensures { (j : History) → KnowsFacts j facts.now → IsTrue result ↔ (1 < n → (c' : ℕ) × IsSomewhere j (entry.Finish t (n - 1) c')) }
+{
+    if n <= 1 {
+        return true;
+    }
+    is_finish(facts, t, n - 1)
+}
+
+/// Whether run `n` of the task may be a pick.
+fn may_pick(facts: &[Fact], t: TaskNo, n: u64) -> bool
+    requires { IsSorted fact_cmp facts.now }
+    ensures { (j : History) → KnowsFacts j facts.now → IsTrue result ↔ ((n % 2 ≡ 1) × (1 < n → (c' : ℕ) × IsSomewhere j (entry.Finish t (n - 1) c'))) }
+{
+    if n % 2 != 1 {
+        return false;
+    }
+    follows_finish(facts, t, n)
+}
+
+/// Whether run `n` of the task may be a finish at this place, on the processor.
+fn may_finish(facts: &[Fact], t: TaskNo, n: u64, c: CpuNo, seat: SeatNo, index: u64) -> bool
+    requires { IsSorted fact_cmp facts.now }
+    ensures { (j : History) → KnowsFacts j facts.now → IsTrue result ↔ ((n % 2 ≡ 0) × (0 < n) × IsBefore j seat index (entry.Pick t (n - 1) c)) }
+{
+    if n == 0 {
+        return false;
+    }
+    if n % 2 != 0 {
+        return false;
+    }
+    is_picked_before(facts, t, n - 1, c, seat, index)
+}
 
 /// Whether a pick follows the finish before it, and a finish stands behind its pick, in its journal and on its
 /// processor.
-pub fn runs_alternate(facts: &[Fact], seat: SeatNo, index: u64, entry: Entry) -> bool {
-    match entry {
-        Entry::Pick { t, n, .. } => {
-            n % 2 == 1 && (n <= 1 || is_told(facts, Kind::Finished, t, n - 1))
-        }
-        Entry::Finish { t, n, c } => {
-            n % 2 == 0 && n > 0 && is_told_before(facts, Kind::Picked, t, n - 1, c, seat, index)
-        }
-        _ => true,
-    }
-}
-
-/// Whether a task goes to sleep or ends only while it runs.
-pub fn leaves_while_running(
+pub fn runs_alternate(
+    journals: &Journals,
     facts: &[Fact],
-    journal: &[Entry],
     seat: SeatNo,
     index: u64,
     entry: Entry,
-) -> bool {
+) -> bool
+    requires { KnowsFacts journals.now facts.now }
+    ensures { IsTrue result ↔ RunsAlternate journals.now seat index entry }
+{
+    let _tasks = journals.tasks;
     match entry {
-        Entry::Sleep { t, .. } | Entry::Die { t, .. } => {
-            match last_index(facts, Kind::RunIn, t, seat, index) {
-                Some(last) => matches!(journal[last as usize], Entry::Pick { .. }),
-                None => false,
-            }
-        }
+        Entry::Pick { t, n, .. } => may_pick(facts, t, n),
+        Entry::Finish { t, n, c } => may_finish(facts, t, n, c, seat, index),
         _ => true,
     }
 }
