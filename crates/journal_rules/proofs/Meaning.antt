@@ -1,6 +1,5 @@
 -- What the facts say of the entries that tell them.
-use Rattle.std.proofs.Common.{◌≡◌, ◌<◌, ◌+◌, ◌⊎◌, ◌↔◌, ℕ, zero, suc, Bool, true, false, List, Option, Some, None, ap, sym, ◌∙◌, refl, subst, inl, inr}
-use Rattle.std.specs.Prelude.{Contains, slice_get}
+use Rattle.std.proofs.Common.{◌≡◌, ◌⊎◌, ℕ, zero, suc, Bool, true, false, Option, Some, None, ap, sym, ◌∙◌, refl, inl, inr}
 use Rattle.std.specs.Option.{option_map}
 use Rattle.handoff_data.specs.declared.entry.Entry.{Entry}
 use Rattle.handoff_data.specs.declared.entry.Entry.TheVariants as entry

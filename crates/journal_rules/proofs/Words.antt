@@ -1,19 +1,21 @@
 -- What is told of the journals, in the words of the rules.
-use Rattle.std.proofs.Common.{◌≡◌, ◌<◌, ◌≤◌, ◌+◌, ◌⊎◌, ◌↔◌, ℕ, zero, suc, Bool, true, false, List, Option, Some, None, ap, sym, ◌∙◌, refl, subst, inl, inr, arith}
+use Rattle.std.proofs.Common.{◌≡◌, ◌≤◌, ◌↔◌, ℕ, Bool, true, false, List, Option, Some, None, ap, sym, ◌∙◌, refl, subst, inl, inr, arith}
 use Rattle.std.specs.Prelude.{Contains, slice_get, IsTrue, not}
 use Rattle.std.specs.Option.{option_and_then}
 use Rattle.handoff_data.specs.declared.entry.Entry.{Entry}
 use Rattle.handoff_data.specs.declared.entry.Entry.TheVariants as entry
 use Rattle.handoff_data.specs.declared.mask.CpuMask.{CpuMask}
 use Rattle.handoff_data.specs.History.{History}
-use Rattle.handoff_data.specs.Positions.{Stands, IsIn, IsBefore, IsSomewhere, entry_at}
+use Rattle.handoff_data.specs.Positions.{Stands, IsIn, IsBefore, IsSomewhere}
 use Rattle.handoff_data.specs.Rules.{IsQueued, IsSleep, IsListed}
 use Rattle.journal_facts.specs.declared.fact.Fact.{Fact}
 use Rattle.journal_facts.specs.declared.fact.Kind.{Kind}
 use Rattle.journal_facts.specs.declared.fact.Kind.TheVariants as kind
 use Rattle.journal_facts.specs.Facts.{fact_at, here_on, IsTold}
 use Rattle.journal_questions.specs.Answers.{Tells, TellsOn, TellsBefore, TellsFrom}
-use Rattle.journal_rules.specs.Known.{KnowsFacts}
+use Rattle.handoff_data.specs.Mask.{HasCpu}
+use Rattle.journal_facts.specs.Members.{IsEntryMember, IsMaskMember, member}
+use Rattle.journal_rules.specs.Known.{KnowsFacts, KnowsMembers}
 use Rattle.journal_rules.proofs.Meaning.{told_kind, says_slept, says_died, says_wake, says_picked, says_left, says_finished, says_listing, says_listed, says_mask, says_stood, says_queued}
 
 pub both : {A B C : Type 0} → A ↔ B → B ↔ C → A ↔ C
@@ -22,6 +24,9 @@ both f g = (λ a. g.0 (f.0 a), λ c. f.1 (g.1 c))
 pub not_yes : (b : Bool) → IsTrue (not b) → IsTrue b → ⊥
 not_yes true n y = cc
 not_yes false n y = cc
+
+pub never : (b : Bool) → b ≡ false → IsTrue b → ⊥
+never b f y = cc
 
 pub yes_not : (b : Bool) → (IsTrue b → ⊥) → IsTrue (not b)
 yes_not true f = absurd (f refl)
@@ -223,3 +228,44 @@ module _ (j : History) (facts : List Fact) (knows : KnowsFacts j facts) where
       told = listed kind.Stood h.4.0 h.4.1.0 (entry.Stood t h.0 h.1 h.2) _ h.4.1.1 refl;
     },
   )
+
+-- an entry that sets a mask with the processor
+record Masked (e : Entry) (f : Fact) : Type 0 where
+  t : ℕ
+  r : ℕ
+  mask : CpuMask
+  is : e ≡ entry.Mask t r mask
+  has : IsMaskMember t r mask f
+
+masked : (e : Entry) (f : Fact) → IsEntryMember e f → Masked e f
+masked (entry.Mask t r mask) f h = record { t = t; r = r; mask = mask; is = refl; has = h }
+masked _ f h = absurd h
+
+pub member_words : (j : History) (members : List Fact) (knows : KnowsMembers j members) (t r c : ℕ)
+    → TellsOn members kind.Member t r c ↔ ((mask : CpuMask) × IsSomewhere j (entry.Mask t r mask) × HasCpu mask c)
+member_words j members knows t r c = (
+  λ g.
+      let m = (knows.told _).0 g.told in
+      let x = masked m.has.entry _ m.has.has in
+      let f : here_on kind.Member g.seat g.index t r c ≡ member x.t x.r x.has.cpu = x.has.is in
+      let et : x.t ≡ t = sym (ap (λ (y : Fact). y.subject) f) in
+      let er : x.r ≡ r = sym (ap (λ (y : Fact). y.number) f) in
+      let ec : x.has.cpu ≡ c = sym (ap (λ (y : Fact). y.cpu) f) in
+      let is : m.has.entry ≡ entry.Mask t r x.mask = x.is ∙ ap (λ (y : ℕ). entry.Mask y x.r x.mask) et ∙ ap (λ (y : ℕ). entry.Mask t y x.mask) er in
+      let at : Stands j m.seat m.has.index m.has.entry
+      = record { at = ap (option_and_then (λ (journal : List Entry). slice_get journal m.has.index)) m.in_journals ∙ m.has.in_journal } in
+      (x.mask, (m.seat, (m.has.index, subst (λ (y : Entry). Stands j m.seat m.has.index y) is at)), subst (λ (y : ℕ). HasCpu x.mask y) ec x.has.has),
+  λ h.
+      let w = within (λ (journal : List Entry). slice_get journal h.1.1.0) (slice_get j.seats h.1.0) (entry.Mask t r h.0) h.1.1.1.at in
+      let own : IsMaskMember t r h.0 (here_on kind.Member 0 0 t r c) = record { cpu = c; has = h.2; is = refl } in
+      record {
+        seat = 0;
+        index = 0;
+        told = (knows.told _).1 (record {
+          seat = h.1.0;
+          journal = w.x;
+          in_journals = w.is;
+          has = record { index = h.1.1.0; entry = entry.Mask t r h.0; in_journal = w.gives; has = own };
+        });
+      },
+)

@@ -5,10 +5,11 @@ ghost use Rattle.std.specs.Prelude.{◌≡◌, ◌≤◌, ◌↔◌, ℕ, Option
 ghost use Rattle.handoff_data.specs.declared.entry.Entry.TheVariants as entry;
 ghost use Rattle.handoff_data.specs.declared.mask.CpuMask.{CpuMask};
 ghost use Rattle.handoff_data.specs.History.{History};
+ghost use Rattle.handoff_data.specs.Mask.{HasCpu};
 ghost use Rattle.handoff_data.specs.Positions.{IsIn, IsBefore, IsSomewhere};
 ghost use Rattle.handoff_data.specs.Rules.{IsQueued, IsSleep, IsListed};
 ghost use Rattle.journal_facts.specs.Facts.{fact_cmp};
-ghost use Rattle.journal_rules.specs.Known.{KnowsFacts};
+ghost use Rattle.journal_rules.specs.Known.{KnowsFacts, KnowsMembers};
 
 use handoff_data::{CpuNo, SeatNo, TaskNo};
 use journal_facts::{Fact, Kind};
@@ -131,4 +132,12 @@ pub fn is_stood_from(facts: &[Fact], t: TaskNo, r: u64) -> bool
     ensures { (j : History) → KnowsFacts j facts.now → IsTrue result ↔ ((r' m : ℕ) × (at : Option ℕ) × (r ≤ r') × IsSomewhere j (entry.Stood t r' m at)) }
 {
     is_told_from(facts, Kind::Stood, t, r)
+}
+
+/// Whether mask `r` of the task has the processor, by the sorted list of the processors that masks have.
+pub fn is_member(members: &[Fact], t: TaskNo, r: u64, c: CpuNo) -> bool
+    requires { IsSorted fact_cmp members.now }
+    ensures { (j : History) → KnowsMembers j members.now → IsTrue result ↔ ((mask : CpuMask) × IsSomewhere j (entry.Mask t r mask) × HasCpu mask c) }
+{
+    is_told_on(members, Kind::Member, t, r, c)
 }

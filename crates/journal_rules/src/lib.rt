@@ -10,6 +10,6 @@ mod runs;
 
 pub use causes::{caused, chained};
 pub use marks::Mark;
-pub use masks::done_stood;
+pub use masks::{done_stood, masked_and_stood};
 pub use ranges::in_range;
 pub use runs::runs_alternate;
