@@ -108,7 +108,7 @@ pub record Same (s i t m c s' i' t' m' c' : ℕ) : Type 0 where
   pub number : m ≡ m'
   pub cpu : c ≡ c'
 
-same : (k k' : Kind) (s i t m c s' i' t' m' c' : ℕ) → Some (here_on k s i t m c) ≡ Some (here_on k' s' i' t' m' c') → Same s i t m c s' i' t' m' c'
+pub same : (k k' : Kind) (s i t m c s' i' t' m' c' : ℕ) → Some (here_on k s i t m c) ≡ Some (here_on k' s' i' t' m' c') → Same s i t m c s' i' t' m' c'
 same k k' s i t m c s' i' t' m' c' e =
     let f : here_on k s i t m c ≡ here_on k' s' i' t' m' c' = inside _ _ e in
     record {
