@@ -3,15 +3,15 @@
 
 mod asked;
 mod causes;
+mod judge;
 mod marks;
 mod masks;
 mod numbers;
+mod order;
 mod ranges;
+mod rises;
 mod runs;
+mod turns;
 
-pub use causes::{caused, chained};
+pub use judge::Judge;
 pub use marks::Mark;
-pub use masks::{done_stood, masked_and_stood};
-pub use numbers::not_repeated;
-pub use ranges::in_range;
-pub use runs::runs_alternate;
