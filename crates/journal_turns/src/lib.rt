@@ -1,0 +1,8 @@
+//! The rules of journals that look at what several journals listed: outages, and the order in which lists are taken.
+#![tactic(auto)]
+
+mod marks;
+mod turns;
+
+pub use marks::Mark;
+pub use turns::outage_leaves_none;
