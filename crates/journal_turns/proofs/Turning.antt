@@ -1,7 +1,8 @@
 -- What turns say of one another, and what stands behind the facts of the kinds TurnIn, Due and Taken.
 use Rattle.std.proofs.Common.{◌≡◌, ◌+◌, ◌<◌, ◌≤◌, ◌⊎◌, ◌↔◌, ℕ, zero, suc, Bool, true, false, List, Option, Some, None, arith, ap, sym, ◌∙◌, refl, subst, inl, inr, length, get_or}
 use Rattle.std.specs.Prelude.{Contains, slice_get}
-use Rattle.std.proofs.lemmas.Option.{get_or_from_slice_get}
+use Rattle.std.proofs.lemmas.Option.{get_or_from_slice_get, slice_get_within}
+use Rattle.std.specs.Option.{option_and_then}
 use Rattle.std.proofs.lemmas.Bool.{cases_lt}
 use Rattle.handoff_data.specs.declared.entry.Entry.{Entry}
 use Rattle.handoff_data.specs.declared.entry.Entry.TheVariants as entry
@@ -18,7 +19,7 @@ use Rattle.journal_rules.proofs.Meaning.{same, says_turn, says_due}
 use Rattle.journal_rules.proofs.Words.{found, listed}
 use Rattle.journal_turns.specs.Turns.{IsTurnBefore, MayGo, MayReturn, IsGone, TakesAllOf, KeptSoFar}
 
-some_inside : {A : Type 0} (x y : A) → Some x ≡ Some y → x ≡ y
+pub some_inside : {A : Type 0} (x y : A) → Some x ≡ Some y → x ≡ y
 some_inside x y e = cc
 
 -- one entry stands at a position
@@ -143,7 +144,7 @@ says_taken s i e t m c s' i' =
 tells_taken : (s i t m c n : ℕ) → n ≡ suc m → fact_at kind.Taken s i (entry.Enq t n c true) ≡ Some (here_on kind.Taken s i t m c)
 tells_taken s i t m c n e = subst (λ (x : ℕ). fact_at kind.Taken s i (entry.Enq t x c true) ≡ Some (here_on kind.Taken s i t m c)) (sym e) refl
 
-at_place : (j : History) (s i s' i' : ℕ) (e : Entry) → s ≡ s' → i ≡ i' → Stands j s i e → Stands j s' i' e
+pub at_place : (j : History) (s i s' i' : ℕ) (e : Entry) → s ≡ s' → i ≡ i' → Stands j s i e → Stands j s' i' e
 at_place j s i s' i' e es ei x = subst (λ (y : ℕ). Stands j y i' e) es (subst (λ (y : ℕ). Stands j s y e) ei x)
 
 module _ (j : History) (facts : List Fact) (knows : KnowsFacts j facts) where
@@ -211,3 +212,12 @@ up_to_next P dues n d within so_far here k f e below at =
           let is : get_or dues n d ≡ f = get_or_from_slice_get dues n f d at_n in
           subst (λ (x : Fact). P x e) is (here e)
     ]
+
+within_by : (j : History) (s i : ℕ) (a : Entry) (o : Option (List Entry)) → slice_get j.seats s ≡ o → option_and_then (λ (journal : List Entry). slice_get journal i) o ≡ Some a
+    → s < length j.seats
+within_by j s i a None is at = absurd (cc)
+within_by j s i a (Some journal) is at = slice_get_within j.seats s journal is
+
+-- what stands somewhere stands in a journal
+pub stands_within : (j : History) (s i : ℕ) (a : Entry) → Stands j s i a → s < length j.seats
+stands_within j s i a x = within_by j s i a (slice_get j.seats s) refl x.at
