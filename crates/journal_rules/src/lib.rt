@@ -1,17 +1,15 @@
-//! The eleven rules of journals, decided for one entry after another.
+//! Rules of journals, decided for one entry after another by the facts that all entries tell.
 #![tactic(auto)]
 
 mod asked;
 mod causes;
-mod judge;
-mod marks;
 mod masks;
 mod numbers;
-mod order;
 mod ranges;
-mod rises;
 mod runs;
-mod turns;
 
-pub use judge::Judge;
-pub use marks::Mark;
+pub use causes::{caused, chained};
+pub use masks::{done_stood, masked_and_stood};
+pub use numbers::not_repeated;
+pub use ranges::in_range;
+pub use runs::runs_alternate;
