@@ -5,7 +5,8 @@ ghost use Rattle.handoff_data.specs.Legal.{HasNoBad, DiesLast, FinishesLast, Has
 ghost use Rattle.journal_rules.specs.Known.{KnowsFacts};
 
 use crate::lasts::{highest_change, highest_run};
-use handoff_data::{Entry, Journals, TaskNo};
+use crate::numbers::{is_end, is_finish};
+use handoff_data::{Journals, TaskNo};
 use journal_facts::Fact;
 
 /// Whether the change of the task with the highest number is its end.
@@ -17,8 +18,7 @@ fn dies_last(journals: &Journals, facts: &[Fact], t: TaskNo) -> bool
 {
     let _tasks = journals.tasks;
     match highest_change(journals, facts, t) {
-        Some(Entry::Die { .. }) => true,
-        Some(_) => false,
+        Some(last) => is_end(last),
         None => false,
     }
 }
@@ -32,8 +32,7 @@ fn finishes_last(journals: &Journals, facts: &[Fact], t: TaskNo) -> bool
 {
     let _tasks = journals.tasks;
     match highest_run(journals, facts, t) {
-        Some(Entry::Finish { .. }) => true,
-        Some(_) => false,
+        Some(last) => is_finish(last),
         None => false,
     }
 }

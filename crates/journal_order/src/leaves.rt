@@ -5,6 +5,7 @@ ghost use Rattle.handoff_data.specs.Rules.{IsRunning, LeavesWhileRunning};
 ghost use Rattle.journal_rules.specs.Known.{KnowsFacts};
 
 use crate::lasts::last_run;
+use crate::numbers::is_pick;
 use handoff_data::{Entry, Journals, SeatNo, TaskNo};
 use journal_facts::Fact;
 
@@ -14,8 +15,7 @@ fn is_running(journals: &Journals, facts: &[Fact], t: TaskNo, seat: SeatNo, inde
     ensures { IsTrue result ↔ IsRunning journals.now seat index t }
 {
     match last_run(journals, facts, t, seat, index) {
-        Some(Entry::Pick { .. }) => true,
-        Some(_) => false,
+        Some(last) => is_pick(last),
         None => false,
     }
 }

@@ -1,6 +1,7 @@
 //! Entries at their places, and their numbers.
 
-ghost use Rattle.std.specs.Prelude.{◌≡◌};
+ghost use Rattle.std.specs.Prelude.{◌≡◌, ◌↔◌, ℕ, IsTrue};
+ghost use Rattle.handoff_data.specs.declared.entry.Entry.TheVariants as variant;
 ghost use Rattle.handoff_data.specs.Numbers.{change_of as change_spec, run_of as run_spec};
 ghost use Rattle.handoff_data.specs.Positions.{entry_at as entry_spec};
 
@@ -37,4 +38,25 @@ pub fn run_of(entry: Entry) -> Option<(TaskNo, u64)>
         Entry::Pick { t, n, .. } | Entry::Finish { t, n, .. } => Some((t, n)),
         _ => None,
     }
+}
+
+/// Whether the entry is a pick.
+pub fn is_pick(entry: Entry) -> bool
+    ensures { IsTrue result ↔ ((t n c : ℕ) × (entry ≡ variant.Pick t n c)) }
+{
+    matches!(entry, Entry::Pick { .. })
+}
+
+/// Whether the entry is a finish.
+pub fn is_finish(entry: Entry) -> bool
+    ensures { IsTrue result ↔ ((t n c : ℕ) × (entry ≡ variant.Finish t n c)) }
+{
+    matches!(entry, Entry::Finish { .. })
+}
+
+/// Whether the entry is the end of a task.
+pub fn is_end(entry: Entry) -> bool
+    ensures { IsTrue result ↔ ((t m c : ℕ) × (entry ≡ variant.Die t m c)) }
+{
+    matches!(entry, Entry::Die { .. })
 }
