@@ -85,33 +85,16 @@ module _ (j : History) (facts : List Fact) (knows : KnowsFacts j facts) (numbers
     tell t n s i e stands is = listed j facts knows k s i e (here_on k s i t n 0) stands
         (tells s i e ∙ ap (option_map (here k s i)) is)
 
-    at_highest : (t : ℕ) (f : Fact) → IsHighest facts k t f → (e : Entry) → entry_at j f.seat f.index ≡ Some e → IsHighestOf numbers j t e
-    at_highest t f highest e at =
+    pub is_highest : (t : ℕ) (f : Fact) → IsHighest facts k t f → IsHighestOf numbers j t f.number
+    is_highest t f highest =
         let g = found j facts knows _ (subst (λ (y : Fact). Contains facts y) highest.is highest.listed) in
         let x = numbered k (numbers g.entry) g.seat g.index t f.number f.cpu f.seat f.index (sym (tells g.seat g.index g.entry) ∙ g.tells) in
-        let there : Stands j f.seat f.index g.entry
-        = subst (λ (y : ℕ). Stands j y f.index g.entry) x.1 (subst (λ (y : ℕ). Stands j g.seat y g.entry) x.2 g.stands) in
-        let one : g.entry ≡ e = one_entry g.entry e (entry_at j f.seat f.index) there.at at in
         record {
-          number = f.number;
-          numbered = subst (λ (y : Entry). numbers y ≡ Some (t, f.number)) one x.0;
-          somewhere = (f.seat, (f.index, record { at = at }));
-          none_higher = λ other n at' is. highest.none_higher n 0 at'.0 at'.1.0 (tell t n at'.0 at'.1.0 other at'.1.1 is);
+          entry = g.entry;
+          numbered = x.0;
+          somewhere = (g.seat, (g.index, g.stands));
+          none_higher = λ other n at is. highest.none_higher n 0 at.0 at.1.0 (tell t n at.0 at.1.0 other at.1.1 is);
         }
-
-    pub is_highest : (t : ℕ) (f : Fact) → IsHighest facts k t f → (o : Option Entry) → o ≡ entry_at j f.seat f.index → IfSome o (IsHighestOf numbers j t)
-    is_highest t f highest None at = tt
-    is_highest t f highest (Some e) at = at_highest t f highest e (sym at)
-
-    pub some_highest : (t : ℕ) (f : Fact) → IsHighest facts k t f → (o : Option Entry) → o ≡ entry_at j f.seat f.index → IfNone o (IsNowhere numbers j t)
-    some_highest t f highest None at =
-        let g = found j facts knows _ (subst (λ (y : Fact). Contains facts y) highest.is highest.listed) in
-        let x = numbered k (numbers g.entry) g.seat g.index t f.number f.cpu f.seat f.index (sym (tells g.seat g.index g.entry) ∙ g.tells) in
-        let there : Stands j f.seat f.index g.entry
-        = subst (λ (y : ℕ). Stands j y f.index g.entry) x.1 (subst (λ (y : ℕ). Stands j g.seat y g.entry) x.2 g.stands) in
-        let is = there.at in
-        absurd (cc)
-    some_highest t f highest (Some e) at = tt
 
     pub no_highest : (t : ℕ) → ((n : ℕ) → Tells facts k t n → ⊥) → IsNowhere numbers j t
     no_highest t none e n at is = none n (record { cpu = 0; seat = at.0; index = at.1.0; told = tell t n at.0 at.1.0 e at.1.1 is })

@@ -27,12 +27,12 @@ AreBelow numbers j seat index t n =
 abbrev pub RoseBefore : History → ℕ → ℕ → Type 0
 RoseBefore j seat index = (before : ℕ) (entry : Entry) → before < index → Stands j seat before entry → RisesInJournal j seat before entry
 
--- the entry has the highest number of t in all journals
-pub record IsHighestOf (numbers : Entry → Option (ℕ × ℕ)) (j : History) (t : ℕ) (entry : Entry) : Type 0 where
-  pub number : ℕ
-  pub numbered : numbers entry ≡ Some (t, number)
+-- the number is the highest of t in all journals
+pub record IsHighestOf (numbers : Entry → Option (ℕ × ℕ)) (j : History) (t highest : ℕ) : Type 0 where
+  pub entry : Entry
+  pub numbered : numbers entry ≡ Some (t, highest)
   pub somewhere : IsSomewhere j entry
-  pub none_higher : (other : Entry) (n : ℕ) → IsSomewhere j other → numbers other ≡ Some (t, n) → n ≤ number
+  pub none_higher : (other : Entry) (n : ℕ) → IsSomewhere j other → numbers other ≡ Some (t, n) → n ≤ highest
 
 -- no entry has a number of t
 abbrev pub IsNowhere : (Entry → Option (ℕ × ℕ)) → History → ℕ → Type 0

@@ -1,7 +1,9 @@
 //! The last entry of a task, in one journal or in all.
 
-ghost use Rattle.std.specs.Prelude.{◌+◌, ◌<◌, ◌^◌, IfSome, IfNone};
+ghost use Rattle.std.specs.Prelude.{◌+◌, ◌<◌, ◌^◌, IfSome, IfNone, IsSorted};
+ghost use Rattle.handoff_data.specs.History.{History};
 ghost use Rattle.handoff_data.specs.Numbers.{change_of as change_spec, run_of as run_spec};
+ghost use Rattle.journal_facts.specs.Facts.{fact_cmp};
 ghost use Rattle.journal_order.specs.Order.{IsLast, HasNone, IsHighestOf, IsNowhere};
 ghost use Rattle.journal_rules.specs.Known.{KnowsFacts};
 
@@ -42,24 +44,24 @@ pub fn last_run(
     entry_at(journals, seat, last)
 }
 
-/// A change of the task with the highest number, if the task has a change.
-pub fn highest_change(journals: &Journals, facts: &[Fact], t: TaskNo) -> Option<Entry>
-    requires knows { KnowsFacts journals.now facts.now }
+/// The highest number of a change of the task, if it has one. It holds of whatever journals the facts are of.
+pub fn highest_change(facts: &[Fact], t: TaskNo) -> Option<u64>
+    requires sorted { IsSorted fact_cmp facts.now }
     requires not_last { t + 1 < 2 ^ 32 }
-    ensures highest { IfSome result (IsHighestOf change_spec journals.now t) }
-    ensures none { IfNone result (IsNowhere change_spec journals.now t) }
+    ensures highest { (j : History) → KnowsFacts j facts.now → IfSome result (IsHighestOf change_spec j t) }
+    ensures none { (j : History) → KnowsFacts j facts.now → IfNone result (IsNowhere change_spec j t) }
 {
     let last = highest(facts, Kind::Change, t)?;
-    entry_at(journals, last.seat, last.index)
+    Some(last.number)
 }
 
-/// A run entry of the task with the highest number, if the task has a run entry.
-pub fn highest_run(journals: &Journals, facts: &[Fact], t: TaskNo) -> Option<Entry>
-    requires knows { KnowsFacts journals.now facts.now }
+/// The highest number of a run entry of the task, likewise.
+pub fn highest_run(facts: &[Fact], t: TaskNo) -> Option<u64>
+    requires sorted { IsSorted fact_cmp facts.now }
     requires not_last { t + 1 < 2 ^ 32 }
-    ensures highest { IfSome result (IsHighestOf run_spec journals.now t) }
-    ensures none { IfNone result (IsNowhere run_spec journals.now t) }
+    ensures highest { (j : History) → KnowsFacts j facts.now → IfSome result (IsHighestOf run_spec j t) }
+    ensures none { (j : History) → KnowsFacts j facts.now → IfNone result (IsNowhere run_spec j t) }
 {
     let last = highest(facts, Kind::Run, t)?;
-    entry_at(journals, last.seat, last.index)
+    Some(last.number)
 }

@@ -46,17 +46,3 @@ pub fn is_pick(entry: Entry) -> bool
 {
     matches!(entry, Entry::Pick { .. })
 }
-
-/// Whether the entry is a finish.
-pub fn is_finish(entry: Entry) -> bool
-    ensures { IsTrue result ↔ ((t n c : ℕ) × (entry ≡ variant.Finish t n c)) }
-{
-    matches!(entry, Entry::Finish { .. })
-}
-
-/// Whether the entry is the end of a task.
-pub fn is_end(entry: Entry) -> bool
-    ensures { IsTrue result ↔ ((t m c : ℕ) × (entry ≡ variant.Die t m c)) }
-{
-    matches!(entry, Entry::Die { .. })
-}

@@ -8,6 +8,7 @@ mod numbers;
 mod ranges;
 mod runs;
 
+pub use asked::{is_end, is_finish};
 pub use causes::{caused, chained};
 pub use masks::{done_stood, masked_and_stood};
 pub use numbers::not_repeated;
