@@ -1,4 +1,4 @@
-//! The rules of journals that look for single entries, each decided for one entry by the facts of all.
+//! Rules of journals, decided for one entry after another by the facts that all entries tell.
 #![tactic(auto)]
 
 mod asked;
@@ -8,6 +8,7 @@ mod numbers;
 mod ranges;
 mod runs;
 
+pub use asked::{is_end, is_finish};
 pub use causes::{caused, chained};
 pub use masks::{done_stood, masked_and_stood};
 pub use numbers::not_repeated;

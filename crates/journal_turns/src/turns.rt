@@ -24,7 +24,7 @@ fn standing(journals: &Journals, seat: SeatNo, index: u64) -> Entry
 }
 
 /// The last Offline or Up before the index in this journal.
-fn last_turn(facts: &[Fact], journals: &Journals, seat: SeatNo, index: u64) -> Option<Entry>
+fn last_turn(journals: &Journals, facts: &[Fact], seat: SeatNo, index: u64) -> Option<Entry>
     requires { KnowsFacts journals.now facts.now }
     ensures { IsTurnBefore journals.now seat index result }
 {
@@ -89,7 +89,7 @@ fn is_taken(facts: &[Fact], listing: Entry, seat: SeatNo, index: u64) -> bool
 }
 
 /// Whether the entry at the place of this fact is no listing, or was queued so.
-fn is_done(facts: &[Fact], journals: &Journals, due: Fact, seat: SeatNo, index: u64) -> bool
+fn is_done(journals: &Journals, facts: &[Fact], due: Fact, seat: SeatNo, index: u64) -> bool
     requires facts { KnowsFacts journals.now facts.now }
     requires stands { (e : Told) × Stands journals.now due.seat due.index e }
     ensures { IsTrue result ↔ ((e : Told) → Stands journals.now due.seat due.index e → IsTakenBefore journals.now seat index e) }
@@ -103,13 +103,13 @@ fn is_done(facts: &[Fact], journals: &Journals, due: Fact, seat: SeatNo, index: 
 }
 
 /// Whether the entries at the places of these facts were queued so.
-fn are_done(facts: &[Fact], journals: &Journals, dues: &[Fact], seat: SeatNo, index: u64) -> bool
+fn are_done(journals: &Journals, facts: &[Fact], dues: &[Fact], seat: SeatNo, index: u64) -> bool
     requires facts { KnowsFacts journals.now facts.now }
     requires stand { (f : Due) → Contains dues.now f → (e : Told) × Stands journals.now f.seat f.index e }
     ensures { IsTrue result ↔ ((f : Due) (e : Told) → Contains dues.now f → Stands journals.now f.seat f.index e → IsTakenBefore journals.now seat index e) }
 {
     for due in dues {
-        if !is_done(facts, journals, *due, seat, index) {
+        if !is_done(journals, facts, *due, seat, index) {
             return false;
         }
     }
@@ -118,8 +118,8 @@ fn are_done(facts: &[Fact], journals: &Journals, dues: &[Fact], seat: SeatNo, in
 
 /// Whether all that was listed to the processor in this epoch was queued before the index.
 fn takes_all_due(
-    facts: &[Fact],
     journals: &Journals,
+    facts: &[Fact],
     seat: SeatNo,
     index: u64,
     c: CpuNo,
@@ -129,8 +129,8 @@ fn takes_all_due(
     ensures { IsTrue result ↔ TakesAllOf journals.now seat index c e }
 {
     are_done(
-        facts,
         journals,
+        facts,
         facts_on(facts, Kind::Due, c, e, 0),
         seat,
         index,
@@ -140,8 +140,8 @@ fn takes_all_due(
 /// Whether the processor may go offline here. What was listed to it in earlier epochs was queued before it went
 /// offline then.
 fn may_leave(
-    facts: &[Fact],
     journals: &Journals,
+    facts: &[Fact],
     seat: SeatNo,
     index: u64,
     c: CpuNo,
@@ -152,16 +152,16 @@ fn may_leave(
     requires own { c ≡ seat }
     ensures { IsTrue result ↔ OutageLeavesNone journals.now seat index (entry.Offline c e) }
 {
-    if !may_go(last_turn(facts, journals, seat, index), e) {
+    if !may_go(last_turn(journals, facts, seat, index), e) {
         return false;
     }
-    takes_all_due(facts, journals, seat, index, c, e)
+    takes_all_due(journals, facts, seat, index, c, e)
 }
 
 /// Whether the processor may come back here.
 fn may_come(
-    facts: &[Fact],
     journals: &Journals,
+    facts: &[Fact],
     seat: SeatNo,
     index: u64,
     c: CpuNo,
@@ -171,25 +171,25 @@ fn may_come(
     ensures { IsTrue result ↔ OutageLeavesNone journals.now seat index (entry.Up c e) }
 {
     let _cpu = c;
-    may_return(last_turn(facts, journals, seat, index), e)
+    may_return(last_turn(journals, facts, seat, index), e)
 }
 
 /// Whether the processor is another one than this seat's, or isn't offline here.
-fn may_act(facts: &[Fact], journals: &Journals, seat: SeatNo, index: u64, c: CpuNo) -> bool
+fn may_act(journals: &Journals, facts: &[Fact], seat: SeatNo, index: u64, c: CpuNo) -> bool
     requires { KnowsFacts journals.now facts.now }
     ensures { IsTrue result ↔ (c ≡ seat → IsOffline journals.now seat index → ⊥) }
 {
     if c != seat {
         return true;
     }
-    !is_gone(last_turn(facts, journals, seat, index))
+    !is_gone(last_turn(journals, facts, seat, index))
 }
 
 /// Whether departures and returns take turns, with their epochs; all that was listed to a processor was queued
 /// before it goes offline; and while it is offline it picks nothing and queues nothing to itself.
 pub fn outage_leaves_none(
-    facts: &[Fact],
     journals: &Journals,
+    facts: &[Fact],
     seat: SeatNo,
     index: u64,
     entry: Entry,
@@ -200,11 +200,11 @@ pub fn outage_leaves_none(
     ensures { IsTrue result ↔ OutageLeavesNone journals.now seat index entry }
 {
     match entry {
-        Entry::Offline { c, e } => may_leave(facts, journals, seat, index, c, e),
-        Entry::Up { c, e } => may_come(facts, journals, seat, index, c, e),
-        Entry::Pick { c, .. } => may_act(facts, journals, seat, index, c),
-        Entry::Enq { c, .. } => may_act(facts, journals, seat, index, c),
-        Entry::In { c, .. } => may_act(facts, journals, seat, index, c),
+        Entry::Offline { c, e } => may_leave(journals, facts, seat, index, c, e),
+        Entry::Up { c, e } => may_come(journals, facts, seat, index, c, e),
+        Entry::Pick { c, .. } => may_act(journals, facts, seat, index, c),
+        Entry::Enq { c, .. } => may_act(journals, facts, seat, index, c),
+        Entry::In { c, .. } => may_act(journals, facts, seat, index, c),
         _ => true,
     }
 }
