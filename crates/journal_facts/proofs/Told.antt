@@ -61,27 +61,32 @@ to_of (x ∷ ks) k s i e f among tells =
       | inr more ↦ Contains-append_right (option_to_list (fact_at x s i e)) (told_of ks s i e) f (to_of ks k s i e f more tells)
     ]
 
-all_kinds : (k : Kind) → Among k kinds
-all_kinds kind.Change = inl refl
-all_kinds kind.Run = inr (inl refl)
-all_kinds kind.Wake = inr (inr (inl refl))
-all_kinds kind.Listing = inr (inr (inr (inl refl)))
-all_kinds kind.Mask = inr (inr (inr (inr (inl refl))))
-all_kinds kind.Offline = inr (inr (inr (inr (inr (inl refl)))))
-all_kinds kind.Up = inr (inr (inr (inr (inr (inr (inl refl))))))
-all_kinds kind.Queued = inr (inr (inr (inr (inr (inr (inr (inl refl)))))))
-all_kinds kind.Slept = inr (inr (inr (inr (inr (inr (inr (inr (inl refl))))))))
-all_kinds kind.Left = inr (inr (inr (inr (inr (inr (inr (inr (inr (inl refl)))))))))
-all_kinds kind.Died = inr (inr (inr (inr (inr (inr (inr (inr (inr (inr (inl refl))))))))))
-all_kinds kind.ListedTo = inr (inr (inr (inr (inr (inr (inr (inr (inr (inr (inr (inl refl)))))))))))
-all_kinds kind.Taken = inr (inr (inr (inr (inr (inr (inr (inr (inr (inr (inr (inr (inl refl))))))))))))
-all_kinds kind.Picked = inr (inr (inr (inr (inr (inr (inr (inr (inr (inr (inr (inr (inr (inl refl)))))))))))))
-all_kinds kind.Finished = inr (inr (inr (inr (inr (inr (inr (inr (inr (inr (inr (inr (inr (inr (inl refl))))))))))))))
-all_kinds kind.Stood = inr (inr (inr (inr (inr (inr (inr (inr (inr (inr (inr (inr (inr (inr (inr (inl refl)))))))))))))))
+all_kinds : (k : Kind) (s i : ℕ) (e : Entry) (f : Fact) → fact_at k s i e ≡ Some f → Among k kinds
+all_kinds kind.Change s i e f tells = inl refl
+all_kinds kind.Run s i e f tells = inr (inl refl)
+all_kinds kind.Wake s i e f tells = inr (inr (inl refl))
+all_kinds kind.Listing s i e f tells = inr (inr (inr (inl refl)))
+all_kinds kind.Mask s i e f tells = inr (inr (inr (inr (inl refl))))
+all_kinds kind.Offline s i e f tells = inr (inr (inr (inr (inr (inl refl)))))
+all_kinds kind.Up s i e f tells = inr (inr (inr (inr (inr (inr (inl refl))))))
+all_kinds kind.Queued s i e f tells = inr (inr (inr (inr (inr (inr (inr (inl refl)))))))
+all_kinds kind.Slept s i e f tells = inr (inr (inr (inr (inr (inr (inr (inr (inl refl))))))))
+all_kinds kind.Left s i e f tells = inr (inr (inr (inr (inr (inr (inr (inr (inr (inl refl)))))))))
+all_kinds kind.Died s i e f tells = inr (inr (inr (inr (inr (inr (inr (inr (inr (inr (inl refl))))))))))
+all_kinds kind.ListedTo s i e f tells = inr (inr (inr (inr (inr (inr (inr (inr (inr (inr (inr (inl refl)))))))))))
+all_kinds kind.Taken s i e f tells = inr (inr (inr (inr (inr (inr (inr (inr (inr (inr (inr (inr (inl refl))))))))))))
+all_kinds kind.Picked s i e f tells = inr (inr (inr (inr (inr (inr (inr (inr (inr (inr (inr (inr (inr (inl refl)))))))))))))
+all_kinds kind.Finished s i e f tells = inr (inr (inr (inr (inr (inr (inr (inr (inr (inr (inr (inr (inr (inr (inl refl))))))))))))))
+all_kinds kind.Stood s i e f tells = inr (inr (inr (inr (inr (inr (inr (inr (inr (inr (inr (inr (inr (inr (inr (inl refl)))))))))))))))
+all_kinds kind.ChangeIn s i e f tells = inr (inr (inr (inr (inr (inr (inr (inr (inr (inr (inr (inr (inr (inr (inr (inr (inl refl))))))))))))))))
+all_kinds kind.RunIn s i e f tells = inr (inr (inr (inr (inr (inr (inr (inr (inr (inr (inr (inr (inr (inr (inr (inr (inr (inl refl)))))))))))))))))
+all_kinds kind.TurnIn s i e f tells = inr (inr (inr (inr (inr (inr (inr (inr (inr (inr (inr (inr (inr (inr (inr (inr (inr (inr (inl refl))))))))))))))))))
+all_kinds kind.Due s i e f tells = inr (inr (inr (inr (inr (inr (inr (inr (inr (inr (inr (inr (inr (inr (inr (inr (inr (inr (inr (inl refl)))))))))))))))))))
+all_kinds kind.Member s i e f tells = absurd (cc)
 
 to_by : (s i : ℕ) (e : Entry) (f : Fact) → ToldAt s i e f → Contains (told_by s i e) f
 unfolding told_by
-to_by s i e f t = to_of kinds t.kind s i e f (all_kinds t.kind) t.tells
+to_by s i e f t = to_of kinds t.kind s i e f (all_kinds t.kind s i e f t.tells) t.tells
 
 from_in : (s i : ℕ) (es : List Entry) (f : Fact) → Contains (told_in s i es) f → ToldIn s i es f
 from_in s i [] f c = absurd (omega (arith, c.1))

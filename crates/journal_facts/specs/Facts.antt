@@ -53,6 +53,14 @@ fact_at kind.Finished seat index (entry.Finish t n c) = Some (here kind.Finished
 fact_at kind.Finished seat index _ = None
 fact_at kind.Stood seat index (entry.Stood t r m at) = Some (here kind.Stood 0 0 (t, r))
 fact_at kind.Stood seat index _ = None
+fact_at kind.ChangeIn seat index e = option_map (λ x. here kind.ChangeIn seat index (x.0, 0)) (change_of e)
+fact_at kind.RunIn seat index e = option_map (λ x. here kind.RunIn seat index (x.0, 0)) (run_of e)
+fact_at kind.TurnIn seat index (entry.Offline c e) = Some (here kind.TurnIn seat index (0, 0))
+fact_at kind.TurnIn seat index (entry.Up c e) = Some (here kind.TurnIn seat index (0, 0))
+fact_at kind.TurnIn seat index _ = None
+fact_at kind.Due seat index (entry.List t m c e) = Some (here kind.Due seat index (c, e))
+fact_at kind.Due seat index _ = None
+fact_at kind.Member seat index _ = None
 
 -- some entry of these journals tells the fact
 pub record IsTold (journals : List (List Entry)) (f : Fact) : Type 0 where
@@ -65,10 +73,11 @@ pub record IsTold (journals : List (List Entry)) (f : Fact) : Type 0 where
   pub kind : Kind
   pub tells : fact_at kind seat index entry ≡ Some f
 
--- each kind
+-- each kind but Member, which `members_of` tells
 abbrev pub kinds : List Kind
 kinds = kind.Change ∷ kind.Run ∷ kind.Wake ∷ kind.Listing ∷ kind.Mask ∷ kind.Offline ∷ kind.Up ∷ kind.Queued ∷ kind.Slept
-    ∷ kind.Left ∷ kind.Died ∷ kind.ListedTo ∷ kind.Taken ∷ kind.Picked ∷ kind.Finished ∷ kind.Stood ∷ []
+    ∷ kind.Left ∷ kind.Died ∷ kind.ListedTo ∷ kind.Taken ∷ kind.Picked ∷ kind.Finished ∷ kind.Stood
+    ∷ kind.ChangeIn ∷ kind.RunIn ∷ kind.TurnIn ∷ kind.Due ∷ []
 
 -- what the entry tells of these kinds
 abbrev pub told_of : List Kind → ℕ → ℕ → Entry → List Fact
@@ -106,6 +115,11 @@ kind_number kind.Taken = 12
 kind_number kind.Picked = 13
 kind_number kind.Finished = 14
 kind_number kind.Stood = 15
+kind_number kind.ChangeIn = 16
+kind_number kind.RunIn = 17
+kind_number kind.TurnIn = 18
+kind_number kind.Due = 19
+kind_number kind.Member = 20
 
 -- by the kind, and then by the other fields in their order
 abbrev pub fact_cmp : Fact → Fact → Ordering

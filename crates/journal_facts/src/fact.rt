@@ -35,6 +35,17 @@ pub enum Kind {
     Finished,
     /// The task stood under its mask `number`.
     Stood,
+    /// A change of the task stands at this place. The kind names no number, so such facts of one journal are
+    /// in the order of its entries.
+    ChangeIn,
+    /// A run entry of the task stands at this place, likewise.
+    RunIn,
+    /// A departure or a return of a processor stands at this place, likewise, and the kind names no subject.
+    TurnIn,
+    /// A listing to the processor in its epoch `number` stands at this place.
+    Due,
+    /// Mask `number` of the task has `cpu`. Only `members_of` tells such facts.
+    Member,
 }
 
 /// What an entry tells.

@@ -2,7 +2,9 @@
 #![tactic(auto)]
 
 mod fact;
+mod members;
 mod telling;
 
 pub use fact::{Fact, Kind};
+pub use members::members_of;
 pub use telling::{fact_of, facts_of};

@@ -63,11 +63,27 @@ pub fn fact_of(kind: Kind, seat: SeatNo, index: u64, entry: Entry) -> Option<Fac
         (Kind::Picked, Entry::Pick { t, n, c }) => Some(about(kind, seat, index, t, n, c)),
         (Kind::Finished, Entry::Finish { t, n, .. }) => Some(about(kind, 0, 0, t, n, 0)),
         (Kind::Stood, Entry::Stood { t, r, .. }) => Some(about(kind, 0, 0, t, r, 0)),
+        (
+            Kind::ChangeIn,
+            Entry::New { t, .. }
+            | Entry::Sleep { t, .. }
+            | Entry::Enq { t, .. }
+            | Entry::Out { t, .. }
+            | Entry::In { t, .. }
+            | Entry::Die { t, .. },
+        ) => Some(about(kind, seat, index, t, 0, 0)),
+        (Kind::RunIn, Entry::Pick { t, .. } | Entry::Finish { t, .. }) => Some(about(
+            kind, seat, index, t, 0, 0,
+        )),
+        (Kind::TurnIn, Entry::Offline { .. } | Entry::Up { .. }) => Some(about(
+            kind, seat, index, 0, 0, 0,
+        )),
+        (Kind::Due, Entry::List { c, e, .. }) => Some(about(kind, seat, index, c, e, 0)),
         _ => None,
     }
 }
 
-const KINDS: [Kind; 16] = [
+const KINDS: [Kind; 20] = [
     Kind::Change,
     Kind::Run,
     Kind::Wake,
@@ -84,6 +100,10 @@ const KINDS: [Kind; 16] = [
     Kind::Picked,
     Kind::Finished,
     Kind::Stood,
+    Kind::ChangeIn,
+    Kind::RunIn,
+    Kind::TurnIn,
+    Kind::Due,
 ];
 
 /// Adds a fact, if one is told.

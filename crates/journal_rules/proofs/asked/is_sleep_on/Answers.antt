@@ -1,0 +1,5 @@
+use Rattle.journal_rules.proofs.Words.{both, slept_on_words}
+use Rattle.journal_rules.proofs.asked.is_sleep_on.Goals as goal
+
+pub returns : goal.returns
+returns c = λ j knows. both c.is_told_on.ensures (slept_on_words j c.args.facts.now knows c.args.t c.args.m c.args.c)
