@@ -1,5 +1,5 @@
 -- The rules by their numbers.
-use Rattle.std.proofs.Common.{◌≡◌, ◌+◌, ◌<◌, ◌≤◌, ℕ, zero, suc, arith, refl, sym, subst, inr}
+use Rattle.std.proofs.Common.{◌≡◌, ◌+◌, ◌<◌, ◌≤◌, ℕ, zero, suc, List, Option, Some, None, arith, refl, subst, inl, inr}
 use Rattle.std.proofs.lemmas.Bool.{cases_lt}
 use Rattle.handoff_data.specs.declared.entry.Entry.{Entry}
 use Rattle.handoff_data.specs.History.{History}
@@ -8,6 +8,8 @@ use Rattle.handoff_data.specs.Positions.{Stands}
 use Rattle.handoff_data.specs.Rules.{InRange, NotRepeated, Chained, Caused, RisesInJournal, RunsAlternate, LeavesWhileRunning, ListedInOrder, OutageLeavesNone, MaskedAndStood, DoneStood}
 use Rattle.journal_judge.specs.Judging.{KeepsAll, KeepsBelow, EarlierKeepAll, IsLowestBroken}
 use Rattle.journal_order.specs.Order.{RoseBefore}
+use Rattle.journal_turns.specs.declared.marks.Mark.{Mark}
+use Rattle.journal_turns.specs.Marks.{IsTakenFrom, IsMarkOf, AreMarks}
 use Rattle.journal_turns.specs.Turns.{KeptSoFar}
 
 -- the rule of this number
@@ -72,9 +74,6 @@ module _ (j : History) (s i : ℕ) (e : Entry) where
     done_stood = λ is. absurd (omega arith);
   }
 
-  pub none_below : KeepsBelow 1 j s i e
-  none_below lower less = keeps lower (subst (λ (n : ℕ). Rule n j s i e) (omega arith) tt)
-
   -- one more rule is kept
   pub one_more : (rule : ℕ) → KeepsBelow rule j s i e → Rule rule j s i e → KeepsBelow (rule + 1) j s i e
   one_more rule below h lower less = elim (cases_lt lower rule) [
@@ -87,7 +86,7 @@ module _ (j : History) (s i : ℕ) (e : Entry) where
 
   -- the rule is the lowest that is broken
   pub lowest : (rule : ℕ) → 1 ≤ rule → rule ≤ 11 → KeepsBelow rule j s i e → (Rule rule j s i e → ⊥) → IsLowestBroken j s i e rule
-  lowest rule from to below no = record { from_1 = from; to_11 = to; broken = λ k. no (kept rule k); lower_kept = below }
+  lowest rule from to below broken = record { from_1 = from; to_11 = to; broken = λ k. broken (kept rule k); lower_kept = below }
 
 -- what earlier entries of the journal keep
 pub rose : (j : History) (s i : ℕ) → EarlierKeepAll j s i → RoseBefore j s i
@@ -98,3 +97,17 @@ kept_so_far j s i earlier = record {
   in_range = λ before e less stands. (earlier s before e (inr (refl, less)) stands 1).in_range refl;
   leaves_none = λ before e less stands. (earlier s before e (inr (refl, less)) stands 9).outage_leaves_none refl;
 }
+
+enter_mark : (j : History) (before i s w : ℕ) (mark : Option Mark) → before < s → IsMarkOf (IsTakenFrom j before i w) before mark → IsMarkOf (IsTakenFrom j s 0 w) s mark
+enter_mark j before i s w None later x = λ k t. let less : t.0 < 0 = t.4 in omega arith
+enter_mark j before i s w (Some m) later x =
+    let low : m.seat ≤ before = x.not_later in
+    record {
+      not_later = omega arith;
+      last = λ k t. let less : t.0 < 0 = t.4 in absurd (omega arith);
+      taken = λ same. let e : m.seat ≡ s = same in absurd (omega arith);
+    }
+
+-- the marks of an earlier journal are marks at the start of a later one
+pub enter_marks : (j : History) (before i s : ℕ) (marks : List (Option Mark)) → before < s → AreMarks j before i marks → AreMarks j s 0 marks
+enter_marks j before i s marks later x = record { marked = x.marked; each = λ w mark at. enter_mark j before i s w mark later (x.each w mark at) }

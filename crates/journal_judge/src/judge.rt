@@ -1,7 +1,7 @@
 use crate::breaks::{breaks_cause, breaks_order, breaks_standing};
 use handoff_data::{Entry, Journals, NoMemory, SeatNo, TaskNo};
 use journal_facts::{Fact, facts_of, members_of};
-use journal_turns::{Mark, note_taken};
+use journal_turns::{Mark, no_marks, note_taken};
 use std::alloc::Global;
 
 /// What is known of the journals that are judged, and which listings their entries were found to take so far.
@@ -27,7 +27,7 @@ impl Judge {
         Ok(Judge {
             facts: facts_of(alloc, journals.seats.as_slice())?,
             members: members_of(alloc, journals.seats.as_slice())?,
-            marks: vec![in alloc; None; journals.seats.len()]?,
+            marks: no_marks(alloc, journals)?,
         })
     }
 

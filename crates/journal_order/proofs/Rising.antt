@@ -1,13 +1,13 @@
 -- How numbers rise in a journal.
-use Rattle.std.proofs.Common.{◌≡◌, ◌<◌, ◌↔◌, ℕ, Option, Some, ap, sym, ◌∙◌, refl, subst, inl, inr, arith}
+use Rattle.std.proofs.Common.{◌≡◌, ◌<◌, ◌+◌, ◌↔◌, ℕ, Option, Some, ap, sym, ◌∙◌, refl, subst, inl, inr, arith}
 use Rattle.std.proofs.lemmas.Bool.{cases_order}
 use Rattle.handoff_data.specs.declared.entry.Entry.{Entry}
 use Rattle.handoff_data.specs.declared.entry.Entry.TheVariants as entry
 use Rattle.handoff_data.specs.History.{History}
 use Rattle.handoff_data.specs.Numbers.{run_of}
-use Rattle.handoff_data.specs.Positions.{Stands}
-use Rattle.handoff_data.specs.Rules.{IsRunning}
-use Rattle.journal_order.specs.Order.{IsLast, AreBelow}
+use Rattle.handoff_data.specs.Positions.{Stands, entry_at}
+use Rattle.handoff_data.specs.Rules.{IsRunning, RisesInJournal}
+use Rattle.journal_order.specs.Order.{IsLast, AreBelow, RoseBefore}
 
 pub inside : (x y : ℕ × ℕ) → Some x ≡ Some y → x ≡ y
 inside x y e = cc
@@ -52,10 +52,31 @@ picks j s index t e last t' n c is =
 pub picked : (j : History) (s index t : ℕ) (e : Entry) → IsLast run_of j s index t e → IsRunning j s index t → (n c : ℕ) × (e ≡ entry.Pick t n c)
 picked j s index t e last running =
     elim (cases_order running.0 last.last) [
-      | inl one ↦ (running.1, running.2, one_stands j s last.last e (entry.Pick t running.1 running.2) last.stands
-          (subst (λ (y : ℕ). Stands j s y (entry.Pick t running.1 running.2)) one running.4))
+      | inl one ↦ (
+        running.1,
+        running.2,
+        one_stands j s last.last e (entry.Pick t running.1 running.2) last.stands
+            (subst (λ (y : ℕ). Stands j s y (entry.Pick t running.1 running.2)) one running.4),
+      )
       | inr other ↦ elim other [
         | inl earlier ↦ absurd (running.5 last.last last.number e earlier last.below last.stands last.numbered)
         | inr later ↦ absurd (last.none_later running.0 running.1 (entry.Pick t running.1 running.2) later running.3 running.4 refl)
       ]
     ]
+
+-- where the numbers rose before an index, and rise there, they rose before the next
+pub rose_next : (j : History) (s i : ℕ) (e : Entry) → RoseBefore j s i → entry_at j s i ≡ Some e → RisesInJournal j s i e → RoseBefore j s (i + 1)
+rose_next j s i e rose at rises before e' below stands =
+    elim (cases_order before i) [
+      | inl one ↦
+          let there = subst (λ (y : ℕ). Stands j s y e') one stands in
+          let it : e ≡ e' = one_stands j s i e e' (record { at = at }) there in
+          subst (λ (y : ℕ). RisesInJournal j s y e') (sym one) (subst (λ (y : Entry). RisesInJournal j s i y) it rises)
+      | inr other ↦ elim other [
+        | inl earlier ↦ rose before e' earlier stands
+        | inr later ↦ absurd (omega (arith, below, later))
+      ]
+    ]
+
+pub rose_none : (j : History) (s : ℕ) → RoseBefore j s 0
+rose_none j s before e below stands = absurd (omega (arith, below))

@@ -12,3 +12,6 @@ pub use ends::has_ended;
 pub use leaves::leaves_while_running;
 pub use numbers::{change_of, entry_at, run_of};
 pub use rises::rises_in_journal;
+
+#[cfg(test)]
+mod tests;

@@ -78,13 +78,7 @@ fn do_changes_rise(
 }
 
 /// Whether the entry is no run entry, or each run entry of its task before it in this journal has a lower number.
-fn do_runs_rise(
-    journals: &Journals,
-    facts: &[Fact],
-    seat: SeatNo,
-    index: u64,
-    entry: Entry,
-) -> bool
+fn do_runs_rise(journals: &Journals, facts: &[Fact], seat: SeatNo, index: u64, entry: Entry) -> bool
     requires knows { KnowsFacts journals.now facts.now }
     requires rose { RoseBefore journals.now seat index }
     ensures { IsTrue result ↔ ((t n : ℕ) → run_spec entry ≡ Some (t, n) → AreBelow run_spec journals.now seat index t n) }

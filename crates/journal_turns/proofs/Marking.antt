@@ -1,8 +1,8 @@
 -- Marks: what one says, how one is raised, and which listings an entry takes.
 use Rattle.std.proofs.Common.{◌≡◌, ◌+◌, ◌-◌, ◌<◌, ◌≤◌, ◌⊎◌, ◌↔◌, ℕ, zero, suc, Bool, true, false, List, Option, Some, None, arith, ap, sym, ◌∙◌, refl, subst, inl, inr, length, get_or}
-use Rattle.std.specs.Prelude.{Contains, slice_get, slice_set}
+use Rattle.std.specs.Prelude.{Contains, slice_get, slice_set, replicate}
 use Rattle.std.proofs.lemmas.Bool.{cases_lt, cases_eq}
-use Rattle.std.proofs.lemmas.List.{get_or-set_same, get_or-set_other, length-set}
+use Rattle.std.proofs.lemmas.List.{get_or-set_same, get_or-set_other, length-set, get_or-replicate, length-replicate}
 use Rattle.std.proofs.lemmas.List.Elements.{Contains-get_or}
 use Rattle.std.proofs.lemmas.Option.{slice_get_within, slice_get-get_or, get_or_from_slice_get}
 use Rattle.handoff_data.specs.declared.entry.Entry.{Entry}
@@ -19,7 +19,7 @@ use Rattle.journal_rules.specs.Known.{KnowsFacts}
 use Rattle.journal_rules.proofs.Meaning.{says_listed}
 use Rattle.journal_rules.proofs.Words.{found, listed}
 use Rattle.journal_turns.specs.declared.marks.Mark.{Mark}
-use Rattle.journal_turns.specs.Marks.{IsTakenFrom, IsPassed, EndsAt, IsPlaceOf, IsLastOf, IsMarkOf, AreMarksOf, IsRaised}
+use Rattle.journal_turns.specs.Marks.{IsTakenFrom, IsPassed, EndsAt, IsPlaceOf, IsLastOf, IsMarkOf, AreMarks, AreMarksOf, IsRaised}
 use Rattle.journal_turns.proofs.Turning.{one_stands, at_place, some_inside, stands_within}
 
 -- a mark is behind an index where one of the meant indexes is
@@ -280,3 +280,23 @@ module _ (j : History) (e : Entry) (facts : List Fact) (those : (w k : ℕ) → 
         λ h. n.0 (elim h [ inl t ↦ inl t | inr p ↦ inr ((those w k).0 p) ]),
         λ t. elim (n.1 t) [ inl old ↦ inl old | inr x ↦ inr ((those w k).1 x) ],
       )
+
+not_some : (P : Type 0) (m : Mark) → None ≡ Some m → P
+not_some P m e = absurd (cc)
+
+start_mark : (j : History) (n w : ℕ) (mark : Option Mark) → slice_get (replicate n None) w ≡ Some mark → IsMarkOf (IsTakenFrom j 0 0 w) 0 mark
+start_mark j n w None at = λ k t. let less : t.0 < 0 = t.4 in omega arith
+start_mark j n w (Some m) at =
+    let empty : Option Mark = None in
+    let inside : w < length (replicate n empty) = slice_get_within (replicate n empty) w (Some m) at in
+    let long : length (replicate n empty) ≡ n = length-replicate n empty in
+    let is : get_or (replicate n empty) w empty ≡ Some m = get_or_from_slice_get (replicate n empty) w (Some m) empty at in
+    let none : get_or (replicate n empty) w empty ≡ empty = get_or-replicate n w empty empty (omega arith) in
+    not_some _ m (sym none ∙ is)
+
+-- nothing is taken before the first entry of all
+pub start_marks : (j : History) (marks : List (Option Mark)) → marks ≡ replicate (length j.seats) None → AreMarks j 0 0 marks
+start_marks j marks is = record {
+  marked = ap (λ (xs : List (Option Mark)). length xs) is ∙ length-replicate (length j.seats) None;
+  each = λ w mark at. start_mark j (length j.seats) w mark (subst (λ (xs : List (Option Mark)). slice_get xs w ≡ Some mark) is at);
+}

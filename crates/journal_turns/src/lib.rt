@@ -5,6 +5,6 @@ mod listings;
 mod marks;
 mod turns;
 
-pub use listings::{listed_in_order, note_taken};
+pub use listings::{listed_in_order, no_marks, note_taken};
 pub use marks::Mark;
 pub use turns::outage_leaves_none;

@@ -1,6 +1,6 @@
 //! Rule 8: what one waker listed is queued in the order in which it was listed.
 
-ghost use Rattle.std.specs.Prelude.{◌≡◌, ◌+◌, ◌<◌, ◌⊎◌, ◌↔◌, ℕ, Option, Some, true, length, IsTrue, IsSorted, Contains};
+ghost use Rattle.std.specs.Prelude.{◌≡◌, ◌+◌, ◌<◌, ◌⊎◌, ◌↔◌, ℕ, Option, Some, None, true, length, replicate, IfOk, IsTrue, IsSorted, Contains};
 ghost use Rattle.handoff_data.specs.declared.entry.Entry.TheVariants as entry;
 ghost use Rattle.handoff_data.specs.History.{History};
 ghost use Rattle.handoff_data.specs.Positions.{Stands};
@@ -11,9 +11,10 @@ ghost use Rattle.journal_rules.specs.Known.{KnowsFacts};
 ghost use Rattle.journal_turns.specs.Marks.{IsMarkOf, IsPassed, IsTakenFrom, IsPlaceOf, IsRaised, AreMarks, AreMarksOf, EndsAt};
 
 use crate::marks::Mark;
-use handoff_data::{CpuNo, Entry, Journals, SeatNo, TaskNo};
+use handoff_data::{CpuNo, Entry, Journals, NoMemory, SeatNo, TaskNo};
 use journal_facts::{Fact, Kind};
 use journal_questions::facts_on;
+use std::alloc::Global;
 
 /// The listings that a queueing by list as change `m` ends.
 fn ended_by_list(facts: &[Fact], t: TaskNo, m: u64, c: CpuNo) -> &[Fact]
@@ -139,4 +140,20 @@ pub fn note_taken(
 {
     let _place = (journals.tasks, index);
     note_all(ended(facts, entry), marks, seat);
+}
+
+/// So many marks of no listing.
+fn empty_marks(alloc: Global, count: usize) -> Result<Vec<Option<Mark>>, NoMemory>
+    ensures { IfOk result (λ marks. marks.items ≡ replicate count None) }
+{
+    Ok(vec![in alloc; None; count]?)
+}
+
+/// The marks before the first entry of all journals: nothing is taken yet.
+pub fn no_marks(alloc: Global, journals: &Journals) -> Result<Vec<Option<Mark>>, NoMemory>
+    ensures { IfOk result (λ marks. AreMarks journals.now 0 0 marks.items) }
+{
+    let seats = journals.seats.as_slice();
+    let marks = empty_marks(alloc, seats.len())?;
+    Ok(marks)
 }
