@@ -1,0 +1,4 @@
+pub mod Decode
+pub mod Folds
+pub mod Records
+pub mod Words
