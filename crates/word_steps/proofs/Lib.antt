@@ -1,6 +1,8 @@
 mod Flats
 mod Gives
+pub mod Keeps
 mod Loads
+mod OwnRead
 mod Rows
 mod Runs
 mod Shown
