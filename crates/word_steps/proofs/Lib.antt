@@ -1,4 +1,6 @@
+pub mod FirstCore
 mod Flats
+pub mod FlatWords
 mod Gives
 pub mod Keeps
 mod Loads

@@ -1,6 +1,6 @@
 -- The words: their columns, and what each shows. Word n of column c is word 64 n + c, so a task, a processor, a
 -- condition and a seat have 16 words each of their own.
-use Rattle.std.specs.Prelude.{ℕ, zero, suc, ◌+◌, ◌*◌, ◌%◌, ◌==◌, Bool, Option, Some, None, List, slice_index, if◌then◌else◌}
+use Rattle.std.specs.Prelude.{ℕ, zero, suc, ◌+◌, ◌*◌, ◌%◌, ◌==◌, Bool, Option, Some, None, List, slice_index, nat_lt, if◌then◌else◌}
 use Rattle.core_data.specs.declared.words.Phase.{Phase}
 use Rattle.core_data.specs.declared.words.Phase.TheVariants.{Live, Leaving, Swept, Dead, Rising}
 
@@ -70,7 +70,7 @@ STRIDE = 64
 
 -- the words of a flat list
 abbrev pub words_of : List ℕ → ℕ → ℕ → ℕ
-words_of words n c = slice_index words (STRIDE * n + c)
+words_of words n c = if nat_lt c STRIDE then slice_index words (STRIDE * n + c) else 0
 
 -- a lock's word is 0, or 1 more than the seat that holds the lock
 abbrev pub holder : ℕ → Option ℕ
