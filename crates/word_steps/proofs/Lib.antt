@@ -1,3 +1,4 @@
+pub mod Conditions
 pub mod FirstCore
 mod Flats
 pub mod FlatWords
