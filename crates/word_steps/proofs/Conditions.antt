@@ -115,13 +115,15 @@ module _ (shape : Shape) (words : ℕ → ℕ → ℕ) (homes : Homes) (traces :
   settled_unstored t v out unstored =
       (λ moves. absurd (grind (arith, holds.positions.moving_stored s t (task_locked t v out) moves, unstored)), off_or_not t v out unstored)
     where
-      off_or_not : (t : ℕ) (v : TaskVal) → task_held (traces s) t ≡ Some v → has_stored (traces s) t ≡ false → ((core_of shape words homes traces).on_rq t ≢ 0) ⊎ ((core_of shape words homes traces).state t ≢ waking)
+      off_or_not : (t : ℕ) (v : TaskVal) → task_held (traces s) t ≡ Some v → has_stored (traces s) t ≡ false
+          → ((core_of shape words homes traces).on_rq t ≢ 0) ⊎ ((core_of shape words homes traces).state t ≢ waking)
       off_or_not t v out unstored = elim (cases_eq (words t RQ % 4) 0) [
             inl e ↦ inr (λ w. absurd (grind (arith, holds.positions.waking_stored s t (task_locked t v out) e w, unstored)))
           | inr ne ↦ inl ne
           ]
 
-  pub fresh_unstored : (t : ℕ) (v : TaskVal) → t < shape.tasks → task_held (traces s) t ≡ Some v → has_stored (traces s) t ≡ false → words t RQ / 4 ≡ 0 → (core_of shape words homes traces).state t ≡ fresh
+  pub fresh_unstored : (t : ℕ) (v : TaskVal) → t < shape.tasks → task_held (traces s) t ≡ Some v → has_stored (traces s) t ≡ false → words t RQ / 4 ≡ 0
+      → (core_of shape words homes traces).state t ≡ fresh
   fresh_unstored t v task out unstored new = holds.places.new_states.held t s task new (task_locked t v out) unstored
 
   -- .. and where it isn't moving, and the seat hasn't claimed it without queueing it
@@ -174,7 +176,8 @@ module _ (shape : Shape) (words : ℕ → ℕ → ℕ) (homes : Homes) (traces :
       }
 
   -- the busy word of the task that the seat gave up
-  pub clear_busy_may : (t : ℕ) → t < shape.tasks → task_to_clear s (traces s) ≡ Some t → current_task s (traces s) ≢ Some t → words t BUSY / 2 < 2 ^ 60 → MayClearBusy (core_of shape words homes traces) s t
+  pub clear_busy_may : (t : ℕ) → t < shape.tasks → task_to_clear s (traces s) ≡ Some t → current_task s (traces s) ≢ Some t → words t BUSY / 2 < 2 ^ 60
+      → MayClearBusy (core_of shape words homes traces) s t
   clear_busy_may t task left other room = record { seat = seat; task = task; left = left; other = other; room = room }
 
   -- a claimed task that was read as not busy, onto the queue of its processor

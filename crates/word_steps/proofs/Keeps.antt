@@ -63,7 +63,8 @@ module _ (shape : Shape) (words : ℕ → ℕ → ℕ) (homes : Homes) (traces :
   give_works_keeps c taken given holds may =
       subst Holds (sym (give_works_shown shape words homes traces s c taken given)) (Holds-give_works (core_of shape words homes traces) s c given holds may)
 
-  pub give_wait_keeps : (k : ℕ) (taken : List WaitEntry) (given : List WaitEntry) → wait_held (traces s) k ≡ Some taken → Holds (core_of shape words homes traces) → MayGiveWait (core_of shape words homes traces) s k given
+  pub give_wait_keeps : (k : ℕ) (taken : List WaitEntry) (given : List WaitEntry) → wait_held (traces s) k ≡ Some taken → Holds (core_of shape words homes traces)
+      → MayGiveWait (core_of shape words homes traces) s k given
       → Holds (core_after shape (put_at words k WAIT_LOCK 0) (record homes { wait = put homes.wait k (Some given) }) traces s (Gave k (val.Wait taken) (val.Wait given)))
   give_wait_keeps k taken given out holds may =
       subst Holds (sym (give_wait_shown shape words homes traces s k taken given out)) (Holds-give_wait (core_of shape words homes traces) s k given holds may)
@@ -101,7 +102,8 @@ module _ (shape : Shape) (words : ℕ → ℕ → ℕ) (homes : Homes) (traces :
   pub load_state_keeps : (t : ℕ) (mask : Option State) → Holds (core_of shape words homes traces) → MayLoadState (core_of shape words homes traces) s t mask
       → Holds (core_after shape words homes traces s (LoadedState t mask (record { 0 = words t STATE })))
   load_state_keeps t mask holds may =
-      subst Holds (sym (load_state_shown shape words homes traces s t mask (own_read (core_of shape words homes traces) s t holds))) (Holds-load_state (core_of shape words homes traces) s t mask holds may)
+      subst Holds (sym (load_state_shown shape words homes traces s t mask (own_read (core_of shape words homes traces) s t holds))) (Holds-load_state
+          (core_of shape words homes traces) s t mask holds may)
 
   pub load_rq_keeps : (t : ℕ) → Holds (core_of shape words homes traces) → MayLoad (core_of shape words homes traces) s t
       → Holds (core_after shape words homes traces s (LoadedRq t (words t RQ % 4) (words t RQ / 4)))
@@ -128,12 +130,14 @@ module _ (shape : Shape) (words : ℕ → ℕ → ℕ) (homes : Homes) (traces :
   dequeue_task_keeps c t x on_is next holds may =
       subst Holds (sym (dequeue_task_shown shape words homes traces s c t x on_is next)) (Holds-dequeue_task (core_of shape words homes traces) s c t holds may)
 
-  pub move_task_keeps : (c : ℕ) (t : ℕ) (x : ℕ) (queue : Queue) → x % 4 ≡ 2 → x / 4 ≡ words t RQ / 4 + 1 → Holds (core_of shape words homes traces) → MayMove (core_of shape words homes traces) s c t queue
+  pub move_task_keeps : (c : ℕ) (t : ℕ) (x : ℕ) (queue : Queue) → x % 4 ≡ 2 → x / 4 ≡ words t RQ / 4 + 1 → Holds (core_of shape words homes traces)
+      → MayMove (core_of shape words homes traces) s c t queue
       → Holds (core_after shape (put_at words t RQ x) homes traces s (Moved t c (words t RQ / 4)))
   move_task_keeps c t x queue on_is next holds may =
       subst Holds (sym (move_task_shown shape words homes traces s c t x on_is next)) (Holds-move_task (core_of shape words homes traces) s c t queue holds may)
 
-  pub set_busy_keeps : (c : ℕ) (t : ℕ) (x : ℕ) (queue : Queue) → x % 2 ≡ 1 → x / 2 ≡ words t BUSY / 2 + 1 → Holds (core_of shape words homes traces) → MaySetBusy (core_of shape words homes traces) s c t queue
+  pub set_busy_keeps : (c : ℕ) (t : ℕ) (x : ℕ) (queue : Queue) → x % 2 ≡ 1 → x / 2 ≡ words t BUSY / 2 + 1 → Holds (core_of shape words homes traces)
+      → MaySetBusy (core_of shape words homes traces) s c t queue
       → Holds (core_after shape (put_at words t BUSY x) homes traces s (SetBusy t c (words t BUSY / 2)))
   set_busy_keeps c t x queue busy_is next holds may =
       subst Holds (sym (set_busy_shown shape words homes traces s c t x busy_is next)) (Holds-set_busy (core_of shape words homes traces) s c t queue holds may)
