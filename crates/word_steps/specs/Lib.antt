@@ -1,0 +1,5 @@
+pub mod Decode
+pub mod Folds
+pub mod Opening
+pub mod Records
+pub mod Words

@@ -1,0 +1,91 @@
+-- The words: their columns, and what each shows. Word n of column c is word 64 n + c, so a task, a processor, a
+-- condition and a seat have 16 words each of their own.
+use Rattle.std.specs.Prelude.{ℕ, zero, suc, ◌+◌, ◌*◌, ◌%◌, ◌==◌, Bool, Option, Some, None, List, slice_index, nat_lt, if◌then◌else◌}
+use Rattle.core_data.specs.declared.words.Phase.{Phase}
+use Rattle.core_data.specs.declared.words.Phase.TheVariants.{Live, Leaving, Swept, Dead, Rising}
+
+-- of a task; no step changes BODY, by which bodies are taken out and put home
+abbrev pub LOCK : ℕ
+LOCK = 0
+
+abbrev pub BODY : ℕ
+BODY = 1
+
+abbrev pub STATE : ℕ
+STATE = 2
+
+abbrev pub RQ : ℕ
+RQ = 3
+
+abbrev pub BUSY : ℕ
+BUSY = 4
+
+abbrev pub CPU : ℕ
+CPU = 5
+
+abbrev pub COUNT : ℕ
+COUNT = 6
+
+-- of a processor
+abbrev pub QUEUE_LOCK : ℕ
+QUEUE_LOCK = 16
+
+abbrev pub WORKS_LOCK : ℕ
+WORKS_LOCK = 17
+
+abbrev pub LIST_LOCK : ℕ
+LIST_LOCK = 18
+
+abbrev pub HINT : ℕ
+HINT = 19
+
+abbrev pub PINNED : ℕ
+PINNED = 20
+
+abbrev pub PHASE : ℕ
+PHASE = 21
+
+abbrev pub ACTIVE : ℕ
+ACTIVE = 22
+
+-- of a condition
+abbrev pub WAIT_LOCK : ℕ
+WAIT_LOCK = 32
+
+abbrev pub COND : ℕ
+COND = 33
+
+-- of a seat
+abbrev pub MARK : ℕ
+MARK = 48
+
+abbrev pub DONE : ℕ
+DONE = 49
+
+abbrev pub REFS : ℕ
+REFS = 50
+
+abbrev pub STRIDE : ℕ
+STRIDE = 64
+
+-- the words of a flat list
+abbrev pub words_of : List ℕ → ℕ → ℕ → ℕ
+words_of words n c = if nat_lt c STRIDE then slice_index words (STRIDE * n + c) else 0
+
+-- a lock's word is 0, or 1 more than the seat that holds the lock
+abbrev pub holder : ℕ → Option ℕ
+holder zero = None
+holder (suc s) = Some s
+
+abbrev pub is_set : ℕ → Bool
+is_set word = word % 2 == 1
+
+abbrev pub phase_of : ℕ → Phase
+phase_of word = if word == 0 then Live else if word == 1 then Leaving else if word == 2 then Swept else if word == 3 then Dead else Rising
+
+-- the words that steps store
+abbrev pub rq_word : ℕ → ℕ → ℕ
+rq_word m on = 4 * m + on
+
+abbrev pub busy_word : ℕ → ℕ → ℕ
+busy_word n busy = 2 * n + busy

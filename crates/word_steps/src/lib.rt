@@ -1,0 +1,7 @@
+//! The steps of the core as steps on shared words: what a seat's trace tells, which core the words, the values at home
+//! and the traces show, and that each kind of step is that core's step. It knows nothing of threads.
+#![tactic(auto)]
+
+mod val;
+
+pub use val::Val;

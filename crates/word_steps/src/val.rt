@@ -1,0 +1,17 @@
+//! The values that locks guard, in one type.
+
+use core_data::{QueueVal, TaskVal, WaitVal, WorksVal};
+
+/// The value that a lock guards; its kind is the lock's kind. A slot of the shared table and a record of a trace have
+/// such a value.
+#[derive(Debug, Drop)]
+pub enum Val {
+    /// What a task's lock guards.
+    Task(TaskVal),
+    /// What the lock of a processor's queue guards.
+    Queue(QueueVal),
+    /// What the lock of a processor's works guards.
+    Works(WorksVal),
+    /// What the lock of a condition's wait queue guards.
+    Wait(WaitVal),
+}
