@@ -2,7 +2,7 @@
 """Measures how long a line takes through a chain of `cat`, as bodies over rings of room 1 and 64 on one thread, beside
 plain queues that do the same, in one run: the least of several turns.
 
-Usage: bench/pipes.py [LINES CATS]     (default: 100000 16)
+Usage: bench/pipes.py [LINES CATS]     (default: 2000 16)
 The program must have been built: `rt run` in crates/bench_pipes does it.
 """
 import os
@@ -12,11 +12,11 @@ import sys
 
 TOP = os.path.dirname(os.path.dirname(os.path.abspath(__file__)))
 PROGRAM = os.path.join(TOP, "crates", "bench_pipes", "out", "bench_pipes")
-TURNS = 5
+TURNS = 40
 
 
 def main():
-    words = sys.argv[1:] or ["100000", "16"]
+    words = sys.argv[1:] or ["2000", "16"]
     best = {}
     for _ in range(TURNS):
         text = subprocess.run([PROGRAM, *words], capture_output=True, check=True, text=True).stdout

@@ -56,7 +56,7 @@ module _ {W : Type 0} where
 
         pub building-step : (bodies' : List BodyView) → length bodies' ≡ length bodies + 1
             → ((ds : List TaskDef) (reads : List ℕ) → IsReading (length ds) reads d.from → Built ds reads (map part_of bodies) (map output_of bodies) (map seen_of bodies) → Built (ds ++ d ∷ []) (reads_on d.from reads)
-                (map part_of bodies') (map output_of bodies') (map seen_of bodies'))
+            (map part_of bodies') (map output_of bodies') (map seen_of bodies'))
             → Building tasks (drop (i + 1) tasks) more bodies' (i + 1)
         building-step bodies' n b =
             let long : length (at_task.before ++ d ∷ []) ≡ length at_task.before + 1 = length-append at_task.before (d ∷ []) in

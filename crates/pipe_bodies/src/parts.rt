@@ -1,5 +1,6 @@
 // A body's plan, its ends of rings and what it holds.
-ghost use Rattle.std.specs.Prelude.{◌≡◌, ◌<◌, ◌↔◌, [], ◌∷◌, ◌++◌, IfOk, IsTrue, MatchOption, IsSome, OnOk, false, if◌then◌else◌};
+ghost use Rattle.std.specs.Prelude.{◌≡◌, ◌<◌, ◌↔◌, [], ◌∷◌, ◌++◌, if◌then◌else◌};
+ghost use Rattle.std.specs.Prelude.{IfOk, IsTrue, MatchOption, IsSome, OnOk, false};
 ghost use Rattle.pipe_tasks.specs.Plans.{wants};
 ghost use Rattle.pipe_bodies.specs.Items.{heard, after, makes, more, as_texts, pinned};
 ghost use Rattle.pipe_bodies.specs.Rings.{in_ring, out_ring, got, out_of, known, free_slots};
@@ -133,7 +134,8 @@ fn hear<W: Work>(
     requires wanted { wants (plan_in course.old) ≡ Some side }
     requires said { said.old ≡ [] }
     ensures said { OnOk result (said.new ≡ []) }
-    ensures heard { IfOk result (λ on. (after (plan_in course.old) side item ≡ (if on then Some (plan_in course.new) else None))
+    ensures heard { IfOk result (λ on. (after (plan_in course.old) side item
+        ≡ (if on then Some (plan_in course.new) else None))
         × (held.new ≡ held.old ++ heard (plan_in course.old) side item)) }
 {
     match course {
@@ -203,7 +205,8 @@ fn is_full(output: &mut Option<Producer<Item>>) -> bool
 fn put(output: &mut Option<Producer<Item>>, kept: &mut Lines, item: Item) -> Result<(), NoMemory>
     requires { 0 < free_slots output.old }
     ensures ring { out_ring output.new ≡ out_ring output.old }
-    ensures out { OnOk result (out_of output.new kept.new (is_end item) ≡ out_of output.old kept.old false ++ item ∷ []) }
+    ensures out { OnOk result (out_of output.new kept.new (is_end item)
+        ≡ out_of output.old kept.old false ++ item ∷ []) }
     ensures bare { KeepsNone (out_ring output.old) kept.old → KeepsNone (out_ring output.new) kept.new }
 {
     match output {

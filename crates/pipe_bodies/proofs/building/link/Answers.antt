@@ -9,7 +9,7 @@ join-requires-clause-out g c κs within = unused-at c.args.from.now c.args.bodie
 pub returns-in_ok-producer-in-len1-up-clause-links : goal.returns-in_ok-producer-in-len1-up-clause-links
 returns-in_ok-producer-in-len1-up-clause-links g c = let same = pair-ring c.in_ok-producer-in-len1-up.producer c.in_ok-producer-in-len1-up.consumer c.in_ok-producer-in-len1-up.ensures.pair in
     rw (← same) (links-by c.args.from.now _ _ (ring_out c.in_ok-producer-in-len1-up.producer) c.in-len1-up.len_at_least (outputs-joined c.args.bodies.now.items (get_or c.args.from.now 0 0) c.index_mut.result.now
-        c.join.new.self _ c.index_mut.ensures.value c.join.ensures.lasting c.join.ensures.seen))
+    c.join.new.self _ c.index_mut.ensures.value c.join.ensures.lasting c.join.ensures.seen))
 
 pub returns-in_ok-producer-in-len1-up-clause-parts : goal.returns-in_ok-producer-in-len1-up-clause-parts
 returns-in_ok-producer-in-len1-up-clause-parts g c = parts-joined c.args.bodies.now.items (get_or c.args.from.now 0 0) c.index_mut.result.now c.join.new.self _ c.index_mut.ensures.value c.join.ensures.lasting c.join.ensures.seen
