@@ -4,7 +4,6 @@ use Rattle.std.proofs.lemmas.Bool.{cases_lt}
 use Rattle.handoff_data.specs.declared.entry.Entry.{Entry}
 use Rattle.handoff_data.specs.History.{History}
 use Rattle.handoff_data.specs.Legal.{Keeps}
-use Rattle.handoff_data.specs.Positions.{Stands}
 use Rattle.handoff_data.specs.Rules.{InRange, NotRepeated, Chained, Caused, RisesInJournal, RunsAlternate, LeavesWhileRunning, ListedInOrder, OutageLeavesNone, MaskedAndStood, DoneStood}
 use Rattle.journal_judge.specs.Judging.{KeepsAll, KeepsBelow, EarlierKeepAll, IsLowestBroken}
 use Rattle.journal_order.specs.Order.{RoseBefore}

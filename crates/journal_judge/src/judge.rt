@@ -60,10 +60,24 @@ impl Judge {
         if let Some(rule) = breaks_cause(journals, facts, seat, index, entry) {
             return Some(rule);
         }
-        if let Some(rule) = breaks_order(journals, facts, self.marks.as_slice(), seat, index, entry) {
+        if let Some(rule) = breaks_order(
+            journals,
+            facts,
+            self.marks.as_slice(),
+            seat,
+            index,
+            entry,
+        ) {
             return Some(rule);
         }
-        if let Some(rule) = breaks_standing(journals, facts, self.members.as_slice(), seat, index, entry) {
+        if let Some(rule) = breaks_standing(
+            journals,
+            facts,
+            self.members.as_slice(),
+            seat,
+            index,
+            entry,
+        ) {
             return Some(rule);
         }
         note_taken(

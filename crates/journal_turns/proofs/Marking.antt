@@ -1,5 +1,5 @@
 -- Marks: what one says, how one is raised, and which listings an entry takes.
-use Rattle.std.proofs.Common.{◌≡◌, ◌+◌, ◌-◌, ◌<◌, ◌≤◌, ◌⊎◌, ◌↔◌, ℕ, zero, suc, Bool, true, false, List, Option, Some, None, arith, ap, sym, ◌∙◌, refl, subst, inl, inr, length, get_or}
+use Rattle.std.proofs.Common.{◌≡◌, ◌+◌, ◌-◌, ◌<◌, ◌≤◌, ◌⊎◌, ◌↔◌, ℕ, true, false, List, Option, Some, None, arith, ap, sym, ◌∙◌, refl, subst, inl, inr, length, get_or}
 use Rattle.std.specs.Prelude.{Contains, slice_get, slice_set, replicate}
 use Rattle.std.proofs.lemmas.Bool.{cases_lt, cases_eq}
 use Rattle.std.proofs.lemmas.List.{get_or-set_same, get_or-set_other, length-set, get_or-replicate, length-replicate}
@@ -90,7 +90,7 @@ raise P n seat marks w k d after x within r = record {
         let is : Some after ≡ mark = sym (get_or-set_same marks w (Some after) d within) ∙ get_or_from_slice_get (slice_set marks w (Some after)) w mark d at_w in
         let here : IsMarkOf (λ (y : ℕ). P w y ⊎ ((w ≡ w) × (y ≡ k))) seat (Some after)
         = mark_ext (λ (y : ℕ). P w y ⊎ (y ≡ k)) (λ (y : ℕ). P w y ⊎ ((w ≡ w) × (y ≡ k))) seat (Some after)
-            (λ y. (λ h. elim h [ inl p ↦ inl p | inr e ↦ inr (refl, e) ], λ h. elim h [ inl p ↦ inl p | inr e ↦ inr e.1 ])) new in
+        (λ y. (λ h. elim h [ inl p ↦ inl p | inr e ↦ inr (refl, e) ], λ h. elim h [ inl p ↦ inl p | inr e ↦ inr e.1 ])) new in
         subst (λ (v : ℕ). IsMarkOf (λ (y : ℕ). P v y ⊎ ((v ≡ w) × (y ≡ k))) seat mark) (sym same)
         (subst (λ (z : Option Mark). IsMarkOf (λ (y : ℕ). P w y ⊎ ((w ≡ w) × (y ≡ k))) seat z) is here)
     | inr other ↦

@@ -1,5 +1,5 @@
 -- What turns say of one another, and what stands behind the facts of the kinds TurnIn, Due and Taken.
-use Rattle.std.proofs.Common.{◌≡◌, ◌+◌, ◌<◌, ◌≤◌, ◌⊎◌, ◌↔◌, ℕ, zero, suc, Bool, true, false, List, Option, Some, None, arith, ap, sym, ◌∙◌, refl, subst, inl, inr, length, get_or}
+use Rattle.std.proofs.Common.{◌≡◌, ◌+◌, ◌<◌, ◌⊎◌, ◌↔◌, ℕ, zero, suc, Bool, true, false, List, Option, Some, None, arith, sym, ◌∙◌, refl, subst, inl, inr, length, get_or}
 use Rattle.std.specs.Prelude.{Contains, slice_get}
 use Rattle.std.proofs.lemmas.Option.{get_or_from_slice_get, slice_get_within}
 use Rattle.std.specs.Option.{option_and_then}
@@ -17,7 +17,7 @@ use Rattle.journal_questions.proofs.KindNumbers.{rebuilt}
 use Rattle.journal_rules.specs.Known.{KnowsFacts}
 use Rattle.journal_rules.proofs.Meaning.{same, says_turn, says_due}
 use Rattle.journal_rules.proofs.Words.{found, listed}
-use Rattle.journal_turns.specs.Turns.{IsTurnBefore, MayGo, MayReturn, IsGone, TakesAllOf, KeptSoFar}
+use Rattle.journal_turns.specs.Turns.{IsTurnBefore, MayGo, MayReturn, IsGone, KeptSoFar}
 
 pub some_inside : {A : Type 0} (x y : A) → Some x ≡ Some y → x ≡ y
 some_inside x y e = cc

@@ -63,14 +63,7 @@ fn is_gone(turn: Option<Entry>) -> bool
 }
 
 /// Whether the task was queued by list on the processor before the index, by the change after `m`.
-fn is_queued_after(
-    facts: &[Fact],
-    t: TaskNo,
-    m: u64,
-    c: CpuNo,
-    seat: SeatNo,
-    index: u64,
-) -> bool
+fn is_queued_after(facts: &[Fact], t: TaskNo, m: u64, c: CpuNo, seat: SeatNo, index: u64) -> bool
     requires { IsSorted fact_cmp facts.now }
     ensures { (j : History) → KnowsFacts j facts.now → IsTrue result ↔ IsBefore j seat index (entry.Enq t (m + 1) c true) }
 {
@@ -94,12 +87,7 @@ fn is_done(journals: &Journals, facts: &[Fact], due: Fact, seat: SeatNo, index: 
     requires stands { (e : Told) × Stands journals.now due.seat due.index e }
     ensures { IsTrue result ↔ ((e : Told) → Stands journals.now due.seat due.index e → IsTakenBefore journals.now seat index e) }
 {
-    is_taken(
-        facts,
-        standing(journals, due.seat, due.index),
-        seat,
-        index,
-    )
+    is_taken(facts, standing(journals, due.seat, due.index), seat, index)
 }
 
 /// Whether the entries at the places of these facts were queued so.
@@ -159,14 +147,7 @@ fn may_leave(
 }
 
 /// Whether the processor may come back here.
-fn may_come(
-    journals: &Journals,
-    facts: &[Fact],
-    seat: SeatNo,
-    index: u64,
-    c: CpuNo,
-    e: u64,
-) -> bool
+fn may_come(journals: &Journals, facts: &[Fact], seat: SeatNo, index: u64, c: CpuNo, e: u64) -> bool
     requires { KnowsFacts journals.now facts.now }
     ensures { IsTrue result ↔ OutageLeavesNone journals.now seat index (entry.Up c e) }
 {

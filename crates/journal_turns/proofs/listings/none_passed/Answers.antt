@@ -1,4 +1,4 @@
-use Rattle.std.proofs.Common.{◌≡◌, ◌<◌, ◌∙◌, ap, arith, refl, ℕ, length, get_or, Some}
+use Rattle.std.proofs.Common.{◌∙◌, ap, arith, refl, Some}
 use Rattle.std.proofs.lemmas.List.Elements.{Contains-get_or}
 use Rattle.std.proofs.lemmas.Option.{slice_get-get_or}
 use Rattle.journal_facts.specs.declared.fact.Fact.{Fact}

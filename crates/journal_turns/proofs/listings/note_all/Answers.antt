@@ -1,5 +1,5 @@
 use Rattle.std.proofs.Common.{◌+◌, ◌⊎◌, ℕ, length}
-use Rattle.journal_turns.specs.Marks.{IsTakenFrom, AreMarksOf}
+use Rattle.journal_turns.specs.Marks.{IsTakenFrom}
 use Rattle.journal_turns.proofs.Marking.{none_below, one_more, all_below, marks_ext, raise, inside, IsPlaceBelow}
 use Rattle.journal_turns.proofs.listings.note_all.Goals as goal
 
@@ -23,8 +23,8 @@ loop-listing-preserved c = λ j here are.
     let i = c.loop-listing.listing-index in
     marks_ext _ (λ (w k : ℕ). T w k ⊎ IsPlaceBelow xs (i + 1) w k) (length j.seats) c.args.seat _ (one_more T xs i _ c.loop-listing-test.true)
     (raise (λ (w k : ℕ). T w k ⊎ IsPlaceBelow xs i w k) (length j.seats) c.args.seat c.loop-listing.marks _ _ _ c.raised.result
-        (c.loop-listing.invariant j here are)
-        (inside xs (length c.args.marks.now) (length c.loop-listing.marks) i _ c.requires c.loop-listing-test.true c.loop-listing.auto.marks) c.raised.ensures)
+    (c.loop-listing.invariant j here are)
+    (inside xs (length c.args.marks.now) (length c.loop-listing.marks) i _ c.requires c.loop-listing-test.true c.loop-listing.auto.marks) c.raised.ensures)
 
 pub returns : goal.returns
 returns c = λ j here are.

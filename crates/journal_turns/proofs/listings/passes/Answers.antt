@@ -1,4 +1,4 @@
-use Rattle.std.proofs.Common.{subst, ◌≡◌, ℕ, Option, Some, None}
+use Rattle.std.proofs.Common.{subst, Option}
 use Rattle.journal_rules.proofs.Words.{both}
 use Rattle.journal_turns.specs.declared.marks.Mark.{Mark}
 use Rattle.journal_turns.specs.Marks.{IsMarkOf, IsTakenFrom}

@@ -1,4 +1,4 @@
-use Rattle.std.proofs.Common.{arith, inl, inr, subst, sym, ◌≡◌, ◌<◌, ℕ}
+use Rattle.std.proofs.Common.{arith, inl, inr, subst, ◌≡◌, ◌<◌, ℕ}
 use Rattle.std.proofs.lemmas.Bool.{cases_lt}
 use Rattle.handoff_data.specs.declared.entry.Entry.TheVariants as entry
 use Rattle.handoff_data.specs.Positions.{IsSomewhere}
