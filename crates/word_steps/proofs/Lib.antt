@@ -5,7 +5,9 @@ pub mod FlatWords
 mod Gives
 pub mod Keeps
 mod Loads
+pub mod MovingKept
 mod OwnRead
+mod Puts
 mod Rows
 mod Runs
 mod Shown

@@ -248,6 +248,19 @@ abbrev pub is_requeued : List Rec → ℕ → Bool
 is_requeued [] = λ t. false
 is_requeued (r ∷ rs) = requeued_after r (is_requeued rs)
 
+-- the seat has taken t off a queue to move it, and hasn't queued it since
+abbrev pub moving_after : Rec → (ℕ → Bool) → ℕ → Bool
+moving_after (Took t (val.Task v)) h = put h t false
+moving_after (Gave t (val.Task v) given) h = put h t false
+moving_after (Queued t c on m) h = put h t false
+moving_after (Dequeued t c m) h = put h t false
+moving_after (Moved t c m) h = put h t true
+moving_after r h = h
+
+abbrev pub is_moving : List Rec → ℕ → Bool
+is_moving [] = λ t. false
+is_moving (r ∷ rs) = moving_after r (is_moving rs)
+
 -- the last reads in their order
 abbrev pub reads_after : Rec → (ℕ → TaskReads) → ℕ → TaskReads
 reads_after (Took t (val.Task v)) h = put h t (no_reads t)
