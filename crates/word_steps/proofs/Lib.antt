@@ -6,6 +6,7 @@ mod Gives
 pub mod Keeps
 mod Loads
 pub mod MovingKept
+pub mod MovingSteps
 mod OwnRead
 mod Puts
 mod Rows

@@ -20,7 +20,7 @@ states_put words n c x fit small t = elim (cases_eq STATE c) [
     ]
 
 -- the seat that has the lock is one
-one_seat : (o : Option ℕ) (s j : ℕ) → o ≡ Some s → o ≡ Some j → j ≡ s
+pub one_seat : (o : Option ℕ) (s j : ℕ) → o ≡ Some s → o ≡ Some j → j ≡ s
 one_seat o s j a b = grind (arith, a, b)
 
 module _ (words : ℕ → ℕ → ℕ) (traces : ℕ → List Rec) (s : ℕ) where
