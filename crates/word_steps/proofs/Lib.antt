@@ -1,4 +1,5 @@
 pub mod Conditions
+pub mod CurrentKept
 pub mod FirstCore
 mod Flats
 pub mod FlatWords
