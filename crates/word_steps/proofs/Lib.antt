@@ -8,6 +8,7 @@ pub mod Keeps
 mod Loads
 pub mod MovingKept
 pub mod MovingSteps
+pub mod NumbersKept
 mod OwnRead
 mod Puts
 mod Rows
