@@ -6,6 +6,7 @@ pub mod FlatWords
 mod Gives
 pub mod Keeps
 mod Loads
+pub mod MatchedKept
 pub mod MovingKept
 pub mod MovingSteps
 pub mod NumbersKept

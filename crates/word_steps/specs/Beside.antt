@@ -1,6 +1,6 @@
 -- What words and traces keep beside the invariant of the core that they show.
-use Rattle.std.specs.Prelude.{◌≡◌, ℕ, ◌/◌, ◌%◌, ◌<◌, ◌^◌, true, List, Some}
-use Rattle.word_steps.specs.Folds.{is_moving, current_task, stays_queued, number_read}
+use Rattle.std.specs.Prelude.{◌≡◌, ◌≢◌, ℕ, ◌/◌, ◌%◌, ◌<◌, ◌^◌, true, List, Some}
+use Rattle.word_steps.specs.Folds.{is_moving, current_task, stays_queued, number_read, is_matched_by}
 use Rattle.word_steps.specs.Records.{Rec}
 use Rattle.word_steps.specs.Words.{LOCK, STATE, RQ, holder}
 
@@ -16,6 +16,10 @@ CurrentHolds words traces = (s t : ℕ) → current_task s (traces s) ≡ Some t
 -- a task that was new as its lock's holder read it is new
 abbrev pub NumbersHold : (ℕ → ℕ → ℕ) → (ℕ → List Rec) → Type 0
 NumbersHold words traces = (s t : ℕ) → holder (words t LOCK) ≡ Some s → number_read (traces s) t ≡ Some 0 → words t RQ / 4 ≡ 0
+
+-- a task that matched since its lock was taken was queued before
+abbrev pub MatchedHolds : (ℕ → ℕ → ℕ) → (ℕ → List Rec) → Type 0
+MatchedHolds words traces = (s t : ℕ) → holder (words t LOCK) ≡ Some s → is_matched_by (traces s) t ≡ true → words t RQ / 4 ≢ 0
 
 -- a state has 16 bits
 abbrev pub StatesFit : (ℕ → ℕ → ℕ) → Type 0
