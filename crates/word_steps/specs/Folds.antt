@@ -129,6 +129,16 @@ abbrev pub current_task : ℕ → List Rec → Option ℕ
 current_task s [] = None
 current_task s (r ∷ rs) = current_after s r (current_task s rs)
 
+-- the seat hasn't taken its current task off its queue since it picked it
+abbrev pub stays_after : Rec → Bool → Bool
+stays_after (SetBusy t c n) h = true
+stays_after (Dequeued t c m) h = false
+stays_after r h = h
+
+abbrev pub stays_queued : List Rec → Bool
+stays_queued [] = false
+stays_queued (r ∷ rs) = stays_after r (stays_queued rs)
+
 -- the task whose busy word is left to clear
 abbrev pub to_clear_after : ℕ → Rec → Option ℕ → Option ℕ → Option ℕ
 to_clear_after s (ClearedBusy t n) current h = None
@@ -247,6 +257,32 @@ requeued_after r h = h
 abbrev pub is_requeued : List Rec → ℕ → Bool
 is_requeued [] = λ t. false
 is_requeued (r ∷ rs) = requeued_after r (is_requeued rs)
+
+-- the seat has taken t off a queue to move it, and hasn't queued it since
+abbrev pub moving_after : Rec → (ℕ → Bool) → ℕ → Bool
+moving_after (Took t (val.Task v)) h = put h t false
+moving_after (Gave t (val.Task v) given) h = put h t false
+moving_after (Queued t c on m) h = put h t false
+moving_after (Dequeued t c m) h = put h t false
+moving_after (Moved t c m) h = put h t true
+moving_after r h = h
+
+abbrev pub is_moving : List Rec → ℕ → Bool
+is_moving [] = λ t. false
+is_moving (r ∷ rs) = moving_after r (is_moving rs)
+
+-- the number of the changes of t that the seat last read or made
+abbrev pub number_after : Rec → (ℕ → Option ℕ) → ℕ → Option ℕ
+number_after (Took t (val.Task v)) h = put h t None
+number_after (LoadedRq t on m) h = put h t (Some m)
+number_after (Queued t c on m) h = put h t (Some (m + 1))
+number_after (Dequeued t c m) h = put h t (Some (m + 1))
+number_after (Moved t c m) h = put h t (Some (m + 1))
+number_after r h = h
+
+abbrev pub number_read : List Rec → ℕ → Option ℕ
+number_read [] = λ t. None
+number_read (r ∷ rs) = number_after r (number_read rs)
 
 -- the last reads in their order
 abbrev pub reads_after : Rec → (ℕ → TaskReads) → ℕ → TaskReads

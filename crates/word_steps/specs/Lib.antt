@@ -1,3 +1,4 @@
+pub mod Beside
 pub mod Decode
 pub mod Folds
 pub mod Opening

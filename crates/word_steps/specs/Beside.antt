@@ -1,0 +1,26 @@
+-- What words and traces keep beside the invariant of the core that they show.
+use Rattle.std.specs.Prelude.{◌≡◌, ◌≢◌, ℕ, ◌/◌, ◌%◌, ◌<◌, ◌^◌, true, List, Some}
+use Rattle.word_steps.specs.Folds.{is_moving, current_task, stays_queued, number_read, is_matched_by}
+use Rattle.word_steps.specs.Records.{Rec}
+use Rattle.word_steps.specs.Words.{LOCK, STATE, RQ, holder}
+
+-- a task stands between two queues exactly where the seat that has its lock has taken it off one
+pub record MovingHolds (words : ℕ → ℕ → ℕ) (traces : ℕ → List Rec) : Type 0 where
+  pub known : (s t : ℕ) → is_moving (traces s) t ≡ true → (holder (words t LOCK) ≡ Some s) × (words t RQ % 4 ≡ 2)
+  pub noted : (s t : ℕ) → holder (words t LOCK) ≡ Some s → words t RQ % 4 ≡ 2 → is_moving (traces s) t ≡ true
+
+-- a current task that its seat hasn't taken off its queue is queued
+abbrev pub CurrentHolds : (ℕ → ℕ → ℕ) → (ℕ → List Rec) → Type 0
+CurrentHolds words traces = (s t : ℕ) → current_task s (traces s) ≡ Some t → stays_queued (traces s) ≡ true → words t RQ % 4 ≡ 1
+
+-- a task that was new as its lock's holder read it is new
+abbrev pub NumbersHold : (ℕ → ℕ → ℕ) → (ℕ → List Rec) → Type 0
+NumbersHold words traces = (s t : ℕ) → holder (words t LOCK) ≡ Some s → number_read (traces s) t ≡ Some 0 → words t RQ / 4 ≡ 0
+
+-- a task that matched since its lock was taken was queued before
+abbrev pub MatchedHolds : (ℕ → ℕ → ℕ) → (ℕ → List Rec) → Type 0
+MatchedHolds words traces = (s t : ℕ) → holder (words t LOCK) ≡ Some s → is_matched_by (traces s) t ≡ true → words t RQ / 4 ≢ 0
+
+-- a state has 16 bits
+abbrev pub StatesFit : (ℕ → ℕ → ℕ) → Type 0
+StatesFit words = (t : ℕ) → words t STATE < 2 ^ 16
