@@ -82,8 +82,8 @@ module _ (xs : List Fact) (key : Fact) (n : ℕ) (sorted : IsSorted fact_cmp xs)
 pub next_too : (xs : List Fact) (i : ℕ) (P : Fact → Type 0) (x : Fact) → P (get_or xs i x) → i < length xs → ((k : ℕ) (d : Fact) → k < i → P (get_or xs k d))
     → (k : ℕ) (d : Fact) → k < i + 1 → P (get_or xs k d)
 next_too xs i P x here inside so_far k d less = elim (cases_lt k i) [
-    | inl below ↦ so_far k d below
-    | inr more ↦
-        let same : k ≡ i = omega arith in
-        subst (λ (n : ℕ). P (get_or xs n d)) (sym same) (subst P (sym (same_default xs i x d inside)) here)
-  ]
+  | inl below ↦ so_far k d below
+  | inr more ↦
+      let same : k ≡ i = omega arith in
+      subst (λ (n : ℕ). P (get_or xs n d)) (sym same) (subst P (sym (same_default xs i x d inside)) here)
+]

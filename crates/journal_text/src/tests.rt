@@ -105,7 +105,9 @@ fn journals_are_written_in_one_way(rt: HostRuntime) -> Result<(), Fail> {
 
 // The text of one processor, one task and one seat whose journal has this line.
 fn with_line<R: AllocGlobal>(rt: &R, line: &str) -> Result<String, NoMemory> {
-    let text = format!(in rt.alloc(); "journal 1\ncpus 1\ntasks 1\nseats 1\nseat 0\n{line}\nend\n")?;
+    let text = format!(in rt.alloc();
+        "journal 1\ncpus 1\ntasks 1\nseats 1\nseat 0\n{line}\nend\n"
+    )?;
     Ok(text)
 }
 
@@ -189,18 +191,12 @@ fn first_lines_and_last_ones_have_their_places(rt: HostRuntime) -> Result<(), Fa
         ("journal 1\ncpus 2\ntasks 1\nseats 1\n", 4),
         ("journal 1\ncpus 1\ntasks 1\nseats 1\nseat 1\n", 5),
         ("journal 1\ncpus 1\ntasks 1\nseats 1\nnew 0 1 0\n", 5),
-        (
-            "journal 1\ncpus 1\ntasks 1\nseats 1\nseat 0\nend\nend\n",
-            7,
-        ),
+        ("journal 1\ncpus 1\ntasks 1\nseats 1\nseat 0\nend\nend\n", 7),
         (
             "journal 1\ncpus 1\ntasks 1\nseats 1\nseat 0\nend\n\t\n \r\n.",
             9,
         ),
-        (
-            "journal 1\ncpus 1\ntasks 1\nseats 2\nseat 0\nseat 0\n",
-            6,
-        ),
+        ("journal 1\ncpus 1\ntasks 1\nseats 2\nseat 0\nseat 0\n", 6),
         ("journal 1\ncpus 16\ntasks 200\nseats 20\nseat 0", 6),
     ];
     for (text, line) in table {
