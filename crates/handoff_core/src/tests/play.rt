@@ -10,8 +10,8 @@
 //! A word that is the name of a part stands for that part.
 
 use super::parts::part;
-use super::words::{entry_of_words, event_of, number};
-use super::wrong::{Wrong, WrongLine};
+use super::words::Word::*;
+use super::words::{Word, entry_of, event_of, word_of};
 use crate::{Act, Core, Event, law_run, step_core};
 use handoff_data::{Entry, NoMemory, Shape};
 use std::alloc::Global;
@@ -26,15 +26,22 @@ const MACHINE: Shape = Shape {
 };
 
 /// The words of a list, with those of the parts that it names.
-fn words_of<'a>(alloc: Global, text: &'a str) -> Result<Vec<&'a str>, NoMemory> {
+fn words_of(alloc: Global, text: &'static str) -> Result<Vec<Word<'static>>, NoMemory> {
     let mut words = Vec::new(alloc);
     for word in text.split_whitespace() {
         match part(word) {
-            Some(steps) => words.append(&mut steps.split_whitespace().collect(alloc)?)?,
-            None => words.push(word)?,
+            Some(steps) => add_words(&mut words, steps)?,
+            None => words.push(word_of(word))?,
         }
     }
     Ok(words)
+}
+
+fn add_words(words: &mut Vec<Word<'static>>, text: &'static str) -> Result<(), NoMemory> {
+    for word in text.split_whitespace() {
+        words.push(word_of(word))?;
+    }
+    Ok(())
 }
 
 /// What a list has come to: its events since the opening, and the core after them.
@@ -51,137 +58,114 @@ fn opening(alloc: Global) -> Result<Played, NoMemory> {
     })
 }
 
-/// An event that is possible: `step_core` has a core after it.
-fn possible(play: Played, event: Event) -> Result<Played, Wrong> {
-    let Played { mut events, core } = play;
-    let Some(core) = step_core(&core, &event)? else {
-        return Err(Wrong("impossible"));
+/// Goes on by an event that is possible: `step_core` has a core after it. Whether it is.
+fn go(played: &mut Played, event: Event) -> Result<bool, NoMemory> {
+    let Some(core) = step_core(&played.core, &event)? else {
+        return Ok(false);
     };
-    events.push(event)?;
-    Ok(Played { events, core })
+    played.core = core;
+    played.events.push(event)?;
+    Ok(true)
 }
 
-/// An event that isn't: `step_core` has no core after it, and `law_run` takes all events before it.
-fn impossible(alloc: Global, mut play: Played, event: Event) -> Result<Played, Wrong> {
-    if step_core(&play.core, &event)?.is_some() {
-        return Err(Wrong("possible"));
+/// How many of the events `law_run` takes, and whether it comes to a core with the same journals.
+fn run_of(alloc: Global, played: &Played) -> Result<(usize, bool), NoMemory> {
+    let run = law_run(Core::start(alloc, &MACHINE)?, played.events.as_slice())?;
+    let same = (0..3).all(|seat| journal(&run.core, seat) == journal(&played.core, seat));
+    Ok((run.taken, same))
+}
+
+/// Whether `law_run` takes all events, to a core with the same journals.
+fn is_whole(alloc: Global, played: &Played) -> Result<bool, NoMemory> {
+    Ok(run_of(alloc, played)? == (played.events.len(), true))
+}
+
+/// Whether an event isn't possible: `step_core` has no core after it, and `law_run` takes all events before it.
+fn is_impossible(alloc: Global, played: &mut Played, event: Event) -> Result<bool, NoMemory> {
+    if step_core(&played.core, &event)?.is_some() {
+        return Ok(false);
     }
-    let before = play.events.len();
-    play.events.push(event)?;
-    let run = law_run(Core::start(alloc, &MACHINE)?, play.events.as_slice())?;
-    if run.taken != before {
-        return Err(Wrong("law_run takes another number of events"));
-    }
-    let _ = play.events.pop();
-    Ok(play)
+    let before = played.events.len();
+    played.events.push(event)?;
+    let stops = run_of(alloc, played)? == (before, true);
+    let _ = played.events.pop();
+    Ok(stops)
 }
 
 /// The journal of a seat.
-fn journal(core: &Core, seat: usize) -> Result<&[Entry], Wrong> {
-    match core.seats.get(seat) {
-        Some(words) => Ok(words.journal.entries.as_slice()),
-        None => Err(Wrong("no such seat")),
-    }
-}
-
-/// `law_run` takes all events, to a core with the same journals.
-fn whole(alloc: Global, play: &Played) -> Result<(), Wrong> {
-    let run = law_run(Core::start(alloc, &MACHINE)?, play.events.as_slice())?;
-    if run.taken != play.events.len() {
-        return Err(Wrong("law_run stops"));
-    }
-    for seat in 0..3 {
-        if journal(&run.core, seat)? != journal(&play.core, seat)? {
-            return Err(Wrong("law_run comes to another journal"));
-        }
-    }
-    Ok(())
+fn journal(core: &Core, seat: usize) -> Option<&[Entry]> {
+    let words = core.seats.get(seat)?;
+    Some(words.journal.entries.as_slice())
 }
 
 /// Whether the journal of a seat is what is said.
-fn is_journal(alloc: Global, core: &Core, words: &[&str]) -> Result<bool, Wrong> {
-    let [seat, rest @ ..] = words else {
-        return Err(Wrong("whose journal"));
-    };
+fn is_journal(alloc: Global, core: &Core, seat: u32, words: &[Word<'static>]) -> Result<bool, NoMemory> {
     let mut entries = Vec::new(alloc);
-    for entry in rest.split(|word| *word == ",") {
-        if !entry.is_empty() {
-            entries.push(entry_of_words(entry)?)?;
+    for said in words.split(|word| matches!(word, Name(","))) {
+        match entry_of(said) {
+            Some(entry) => entries.push(entry)?,
+            None if words.is_empty() => {}
+            None => return Ok(false),
         }
     }
-    Ok(journal(core, number(seat)? as usize)? == entries.as_slice())
+    Ok(journal(core, seat as usize) == Some(entries.as_slice()))
 }
 
-/// Whether a seat owes a condition a walk.
-fn owes(core: &Core, seat: &str, k: &str) -> Result<bool, Wrong> {
-    let k = number(k)?;
-    match core.seats.get(number(seat)? as usize) {
-        Some(words) => Ok(words.pos.is_since(Act::Bumped { k }, Act::Walked { k })),
-        None => Err(Wrong("no such seat")),
-    }
+/// Whether a seat owes a condition a walk, if there is such a seat.
+fn owes(core: &Core, seat: u32, k: u32) -> Option<bool> {
+    let words = core.seats.get(seat as usize)?;
+    Some(words.pos.is_since(Act::Bumped { k }, Act::Walked { k }))
 }
 
 /// Whether a condition has this value.
-fn is_cond(core: &Core, k: &str, value: &str) -> Result<bool, Wrong> {
-    match core.conds.get(number(k)? as usize) {
-        Some(words) => Ok(words.cond == u64::from(number(value)?)),
-        None => Err(Wrong("no such condition")),
+fn is_cond(core: &Core, k: u32, value: u32) -> bool {
+    match core.conds.get(k as usize) {
+        Some(words) => words.cond == u64::from(value),
+        None => false,
     }
 }
 
-/// What a line says of the core, if it says something of it.
-fn says(alloc: Global, core: &Core, line: &[&str]) -> Result<Option<bool>, Wrong> {
-    Ok(Some(match line {
-        ["journal", rest @ ..] => is_journal(alloc, core, rest)?,
-        ["owes", seat, k] => owes(core, seat, k)?,
-        ["owes_not", seat, k] => !owes(core, seat, k)?,
-        ["cond", k, value] => is_cond(core, k, value)?,
-        _ => return Ok(None),
-    }))
-}
-
-/// Goes on by one line.
-fn play_line(alloc: Global, play: Played, line: &[&str]) -> Result<Played, Wrong> {
+/// Goes on by one line; whether it is as it should be.
+fn play_line(alloc: Global, played: &mut Played, line: &[Word<'static>]) -> Result<bool, NoMemory> {
     match line {
-        [] => Ok(play),
-        ["opening"] => {
-            whole(alloc, &play)?;
-            Ok(opening(alloc)?)
+        [] => Ok(true),
+        [Name("opening")] => {
+            let whole = is_whole(alloc, played)?;
+            *played = opening(alloc)?;
+            Ok(whole)
         }
-        ["not", rest @ ..] => {
-            let event = rest.iter().take_while(|word| **word != "--");
-            let event: Vec<&str> = event.copied().collect(alloc)?;
-            let event = event_of(alloc, event.as_slice())?;
-            impossible(alloc, play, event)
-        }
-        _ => match says(alloc, &play.core, line)? {
-            Some(true) => Ok(play),
-            Some(false) => Err(Wrong("not so")),
-            None => possible(play, event_of(alloc, line)?),
+        [Name("journal"), Number(seat), rest @ ..] => is_journal(alloc, &played.core, *seat, rest),
+        [Name("owes"), Number(seat), Number(k)] => Ok(owes(&played.core, *seat, *k) == Some(true)),
+        [Name("owes_not"), Number(seat), Number(k)] => Ok(owes(&played.core, *seat, *k) == Some(false)),
+        [Name("cond"), Number(k), Number(value)] => Ok(is_cond(&played.core, *k, *value)),
+        [Name("not"), rest @ ..] => match rest.split(|word| matches!(word, Name("--"))).next() {
+            Some(said) => match event_of(alloc, said)? {
+                Some(event) => is_impossible(alloc, played, event),
+                None => Ok(false),
+            },
+            None => Ok(false),
+        },
+        _ => match event_of(alloc, line)? {
+            Some(event) => go(played, event),
+            None => Ok(false),
         },
     }
 }
 
-/// Plays a list from the opening core. Each event has to be possible, each that is said to be impossible has to be so,
-/// and what is said of the core has to hold.
-pub fn play(alloc: Global, text: &str) -> Result<(), WrongLine> {
-    let words = words_of(alloc, text).map_err(unread)?;
-    let mut play = opening(alloc).map_err(unread)?;
-    for (line, words) in words.split(|word| *word == ";").enumerate() {
-        play = match play_line(alloc, play, words) {
-            Ok(next) => next,
-            Err(why) => return Err(WrongLine { line, why }),
-        };
+/// Plays a list from the opening core, and answers the first line, from 0, that isn't as it should be: an event that
+/// isn't possible, one that is and shouldn't be, something of the core that isn't so, or a word that means nothing.
+pub fn wrong_line(alloc: Global, text: &'static str) -> Result<Option<usize>, NoMemory> {
+    let words = words_of(alloc, text)?;
+    let mut played = opening(alloc)?;
+    let mut lines = 0;
+    for line in words.split(|word| matches!(word, Name(";"))) {
+        if !play_line(alloc, &mut played, line)? {
+            return Ok(Some(lines));
+        }
+        lines += 1;
     }
-    match whole(alloc, &play) {
-        Ok(()) => Ok(()),
-        Err(why) => Err(WrongLine { line: 0, why }),
+    if is_whole(alloc, &played)? {
+        return Ok(None);
     }
-}
-
-fn unread(_refused: NoMemory) -> WrongLine {
-    WrongLine {
-        line: 0,
-        why: Wrong("no memory"),
-    }
+    Ok(Some(lines))
 }

@@ -1,104 +1,123 @@
-//! Steps and entries in words, such as `give_queue 0 cur 0 left - waiting 1`. A word that isn't one of these, or
-//! stands where it may not, is an error.
+//! Steps and entries in words, such as `give_queue 0 cur 0 left - waiting 1`. Where a word isn't one of these, or stands
+//! where it may not, there is none.
 
-use super::wrong::Wrong;
+ghost use Rattle.std.specs.Prelude.{◌≤◌, ◌<◌, ◌+◌, length};
+
+use self::Word::*;
 use crate::{Event, QueueVal, StepKind, TaskVal, WaitEntry, WaitVal, WorkItem, WorksVal};
-use handoff_data::{CpuMask, CpuNo, Entry, State, TaskNo};
+use handoff_data::{CpuMask, Entry, NoMemory, State, TaskNo};
 use std::alloc::Global;
 
-/// A number.
-pub fn number(word: &str) -> Result<u32, Wrong> {
-    Ok(word.parse()?)
+/// A number, or any other word.
+#[derive(Clone, Copy)]
+pub enum Word<'a> {
+    Number(u32),
+    Name(&'a str),
+}
+
+/// What a word is.
+pub fn word_of(text: &str) -> Word<'_> {
+    match text.parse() {
+        Ok(number) => Number(number),
+        Err(_) => Name(text),
+    }
 }
 
 /// A number, or `-` for none.
-fn optional(word: &str) -> Result<Option<u32>, Wrong> {
-    if word == "-" {
-        return Ok(None);
-    }
-    Ok(Some(number(word)?))
-}
-
-fn state_of(word: &str) -> Result<State, Wrong> {
+fn optional(word: Word<'_>) -> Option<Option<u32>> {
     match word {
-        "TASK_RUNNING" => Ok(State::TASK_RUNNING),
-        "TASK_INTERRUPTIBLE" => Ok(State::TASK_INTERRUPTIBLE),
-        "TASK_DEAD" => Ok(State::TASK_DEAD),
-        "TASK_WAKING" => Ok(State::TASK_WAKING),
-        "TASK_NORMAL" => Ok(State::TASK_NORMAL),
-        _ => Err(Wrong("no such state")),
+        Number(n) => Some(Some(n)),
+        Name("-") => Some(None),
+        Name(_) => None,
     }
 }
 
-/// The mask of a wake-up, or `-` for none.
-fn mask_of(word: &str) -> Result<Option<State>, Wrong> {
-    if word == "-" {
-        return Ok(None);
+fn state_of(name: &str) -> Option<State> {
+    match name {
+        "TASK_RUNNING" => Some(State::TASK_RUNNING),
+        "TASK_INTERRUPTIBLE" => Some(State::TASK_INTERRUPTIBLE),
+        "TASK_DEAD" => Some(State::TASK_DEAD),
+        "TASK_WAKING" => Some(State::TASK_WAKING),
+        "TASK_NORMAL" => Some(State::TASK_NORMAL),
+        _ => None,
     }
-    Ok(Some(state_of(word)?))
 }
 
-/// A queue: `cur` and `left`, and then those that wait.
-fn queue_of(alloc: Global, words: &[&str]) -> Result<QueueVal, Wrong> {
-    let mut queue = QueueVal::new(alloc)?;
-    let ["cur", cur, "left", left, "waiting", waiting @ ..] = words else {
-        return Err(Wrong("no such queue"));
-    };
-    queue.cur = optional(cur)?;
-    queue.left = optional(left)?;
-    for word in waiting {
-        let t = number(word)?;
-        if queue.contains(t) || queue.len() >= 200 {
-            return Err(Wrong("a task that waits twice"));
-        }
+fn add_task(queue: &mut QueueVal, t: TaskNo)
+    requires { length queue.old.waiting < 200 }
+    ensures { length queue.new.waiting ≤ length queue.old.waiting + 1 }
+{
+    if !queue.contains(t) {
         queue.push(t);
     }
-    Ok(queue)
 }
 
-fn entry_of(t: &str, sort: &str) -> Result<WaitEntry, Wrong> {
-    let exclusive = match sort {
-        "plain" => false,
-        "exclusive" => true,
-        _ => return Err(Wrong("no such sort of entry")),
+/// A queue: `cur` and `left`, and then at most two tasks that wait.
+fn queue_of(alloc: Global, words: &[Word<'_>]) -> Result<Option<QueueVal>, NoMemory> {
+    let [Name("cur"), cur, Name("left"), left, Name("waiting"), waiting @ ..] = words else {
+        return Ok(None);
     };
-    let t = number(t)?;
-    Ok(WaitEntry { t, exclusive })
+    let (Some(cur), Some(left)) = (optional(*cur), optional(*left)) else {
+        return Ok(None);
+    };
+    let mut queue = QueueVal::new(alloc)?;
+    match waiting {
+        [] => {}
+        [Number(t)] => add_task(&mut queue, *t),
+        [Number(t), Number(u)] => {
+            add_task(&mut queue, *t);
+            add_task(&mut queue, *u);
+        }
+        _ => return Ok(None),
+    }
+    queue.cur = cur;
+    queue.left = left;
+    Ok(Some(queue))
 }
 
-/// A wait queue of at most two entries.
-fn wait_of(alloc: Global, words: &[&str]) -> Result<WaitVal, Wrong> {
+fn plain(t: TaskNo) -> WaitEntry {
+    WaitEntry {
+        t,
+        exclusive: false,
+    }
+}
+
+fn exclusive(t: TaskNo) -> WaitEntry {
+    WaitEntry { t, exclusive: true }
+}
+
+/// A wait queue: nobody, an entry, or two.
+fn wait_of(alloc: Global, words: &[Word<'_>]) -> Result<Option<WaitVal>, NoMemory> {
     let mut entries = Vec::new(alloc);
     match words {
-        ["nobody"] => {}
-        [sort, t] => entries.push(entry_of(t, sort)?)?,
-        [sort, t, other_sort, other] => {
-            entries.push(entry_of(t, sort)?)?;
-            entries.push(entry_of(other, other_sort)?)?;
+        [Name("nobody")] => {}
+        [Name("plain"), Number(t)] => entries.push(plain(*t))?,
+        [Name("exclusive"), Number(t)] => entries.push(exclusive(*t))?,
+        [Name("plain"), Number(t), Name("exclusive"), Number(u)] => {
+            entries.push(plain(*t))?;
+            entries.push(exclusive(*u))?;
         }
-        _ => return Err(Wrong("no such wait queue")),
+        _ => return Ok(None),
     }
-    Ok(WaitVal { entries })
+    Ok(Some(WaitVal { entries }))
 }
 
-/// A stopper's works: none, or one.
-fn works_of(alloc: Global, words: &[&str]) -> Result<WorksVal, Wrong> {
+/// A stopper's works: nothing, or one.
+fn works_of(alloc: Global, words: &[Word<'_>]) -> Result<Option<WorksVal>, NoMemory> {
     let mut items = Vec::new(alloc);
     match words {
-        ["nothing"] => {}
-        ["task", t, "seat", rec] => {
-            let t = number(t)?;
-            let rec = number(rec)?;
-            items.push(WorkItem { t, rec })?;
+        [Name("nothing")] => {}
+        [Name("task"), Number(t), Name("seat"), Number(rec)] => {
+            items.push(WorkItem { t: *t, rec: *rec })?;
         }
-        _ => return Err(Wrong("no such works")),
+        _ => return Ok(None),
     }
-    Ok(WorksVal { items })
+    Ok(Some(WorksVal { items }))
 }
 
-/// What a task's lock guards on a machine of two processors: as at the opening, but for what is said.
-fn val_of(words: &[&str]) -> Result<TaskVal, Wrong> {
-    let mut val = TaskVal {
+/// What a task's lock guards on a machine of two processors, at the opening.
+fn opening_val() -> TaskVal {
+    TaskVal {
         mask: CpuMask::all(2),
         r: 0,
         narrowed: None,
@@ -106,32 +125,34 @@ fn val_of(words: &[&str]) -> Result<TaskVal, Wrong> {
         pending: None,
         stop_queued: false,
         dest: 0,
-    };
+    }
+}
+
+/// What a task's lock guards: as at the opening, but for what is said.
+fn val_of(words: &[Word<'_>]) -> Option<TaskVal> {
+    let mut val = opening_val();
     match words {
         [] => {}
-        ["mask", "0"] => val.mask = CpuMask::all(1),
-        ["r", r] => val.r = u64::from(number(r)?),
-        ["narrowed", c] => val.narrowed = Some(number(c)?),
-        ["wake_cpu", c] => val.wake_cpu = number(c)?,
-        ["pending", seat] => val.pending = Some(number(seat)?),
-        ["stop_queued"] => val.stop_queued = true,
-        ["dest", c] => val.dest = number(c)?,
-        _ => return Err(Wrong("no such value")),
+        [Name("mask"), Number(0)] => val.mask = CpuMask::all(1),
+        [Name("r"), Number(r)] => val.r = u64::from(*r),
+        [Name("narrowed"), Number(c)] => val.narrowed = Some(*c),
+        [Name("wake_cpu"), Number(c)] => val.wake_cpu = *c,
+        [Name("pending"), Number(seat)] => val.pending = Some(*seat),
+        [Name("stop_queued")] => val.stop_queued = true,
+        [Name("dest"), Number(c)] => val.dest = *c,
+        _ => return None,
     }
-    Ok(val)
+    Some(val)
 }
 
 /// The give of a task's lock, which may say that it makes Stood or Done.
-fn give_task(t: &str, words: &[&str]) -> Result<StepKind, Wrong> {
-    let t = number(t)?;
-    let stood = words == ["stood"].as_slice();
-    let done = words == ["done"].as_slice();
-    let val = if stood || done {
-        val_of(&[])?
-    } else {
-        val_of(words)?
+fn give_task(t: TaskNo, words: &[Word<'_>]) -> Option<StepKind> {
+    let (val, stood, done) = match words {
+        [Name("stood")] => (opening_val(), true, false),
+        [Name("done")] => (opening_val(), false, true),
+        _ => (val_of(words)?, false, false),
     };
-    Ok(StepKind::GiveTask {
+    Some(StepKind::GiveTask {
         t,
         val,
         stood,
@@ -139,150 +160,147 @@ fn give_task(t: &str, words: &[&str]) -> Result<StepKind, Wrong> {
     })
 }
 
-/// A step that takes or gives a lock, if it is one.
-fn lock_step(alloc: Global, words: &[&str]) -> Result<Option<StepKind>, Wrong> {
-    Ok(Some(match words {
-        ["take_task", t] => StepKind::TakeTask { t: number(t)? },
-        ["give_task", t, rest @ ..] => give_task(t, rest)?,
-        ["take_queue", c] => StepKind::TakeQueue { c: number(c)? },
-        ["give_queue", c, rest @ ..] => {
-            let c = number(c)?;
-            let val = queue_of(alloc, rest)?;
-            StepKind::GiveQueue { c, val }
-        }
-        ["take_wait", k] => StepKind::TakeWait { k: number(k)? },
-        ["give_wait", k, rest @ ..] => {
-            let k = number(k)?;
-            let val = wait_of(alloc, rest)?;
-            StepKind::GiveWait { k, val }
-        }
-        ["take_works", c] => StepKind::TakeWorks { c: number(c)? },
-        ["give_works", c, rest @ ..] => {
-            let c = number(c)?;
-            let val = works_of(alloc, rest)?;
-            StepKind::GiveWorks { c, val }
-        }
-        _ => return Ok(None),
-    }))
-}
-
-/// A step by which a task is queued, runs or leaves, if it is one.
-fn running_step(alloc: Global, words: &[&str]) -> Result<Option<StepKind>, Wrong> {
-    Ok(Some(match words {
-        ["store_rq_on", c, t] => StepKind::StoreRqOn {
-            c: number(c)?,
-            t: number(t)?,
+/// A step whose arguments are numbers.
+fn plain_step(verb: &str, words: &[Word<'_>]) -> Option<StepKind> {
+    match words {
+        [Number(n)] => step_at(verb, *n),
+        [Number(n), Number(m)] => match verb {
+            "store_rq_on" => Some(StepKind::StoreRqOn { c: *n, t: *m }),
+            "store_rq_off" => Some(StepKind::StoreRqOff { c: *n, t: *m }),
+            "store_cpu" => Some(StepKind::StoreCpu { t: *n, c: *m }),
+            _ => None,
         },
-        ["store_rq_off", c, t] => StepKind::StoreRqOff {
-            c: number(c)?,
-            t: number(t)?,
-        },
-        ["store_rq_moving", c, t, rest @ ..] => {
-            let c = number(c)?;
-            let t = number(t)?;
-            let val = queue_of(alloc, rest)?;
-            StepKind::StoreRqMoving { c, t, val }
-        }
-        ["set_busy", c, t, rest @ ..] => {
-            let c = number(c)?;
-            let t = number(t)?;
-            let val = queue_of(alloc, rest)?;
-            StepKind::SetBusy { c, t, val }
-        }
-        ["clear_busy", t] => StepKind::ClearBusy { t: number(t)? },
-        ["body_out", t] => StepKind::BodyOut { t: number(t)? },
-        ["body_home", t, "ended"] => StepKind::BodyHome {
-            t: number(t)?,
-            ended: true,
-        },
-        ["body_home", t, "goes_on"] => StepKind::BodyHome {
-            t: number(t)?,
-            ended: false,
-        },
-        _ => return Ok(None),
-    }))
-}
-
-/// A step on the state, the processor or a condition, if it is one.
-fn waking_step(words: &[&str]) -> Result<Option<StepKind>, Wrong> {
-    Ok(Some(match words {
-        ["own_state", t, state] => StepKind::OwnState {
-            t: number(t)?,
-            state: state_of(state)?,
-        },
-        ["store_waking", t] => StepKind::StoreWaking { t: number(t)? },
-        ["store_running", t] => StepKind::StoreRunning { t: number(t)? },
-        ["load_state", t, mask] => StepKind::LoadState {
-            t: number(t)?,
-            mask: mask_of(mask)?,
-        },
-        ["load_rq", t] => StepKind::LoadRq { t: number(t)? },
-        ["load_busy", t] => StepKind::LoadBusy { t: number(t)? },
-        ["load_cpu", t] => StepKind::LoadCpu { t: number(t)? },
-        ["store_cpu", t, c] => StepKind::StoreCpu {
-            t: number(t)?,
-            c: number(c)?,
-        },
-        ["bump", k] => StepKind::Bump { k: number(k)? },
-        ["load_cond", k] => StepKind::LoadCond { k: number(k)? },
-        _ => return Ok(None),
-    }))
-}
-
-fn step_of(alloc: Global, words: &[&str]) -> Result<StepKind, Wrong> {
-    if let Some(step) = lock_step(alloc, words)? {
-        return Ok(step);
+        _ => None,
     }
-    if let Some(step) = running_step(alloc, words)? {
-        return Ok(step);
+}
+
+/// A step whose argument is one number.
+fn step_at(verb: &str, n: u32) -> Option<StepKind> {
+    match verb {
+        "take_task" => Some(StepKind::TakeTask { t: n }),
+        "take_queue" => Some(StepKind::TakeQueue { c: n }),
+        "take_wait" => Some(StepKind::TakeWait { k: n }),
+        "take_works" => Some(StepKind::TakeWorks { c: n }),
+        "body_out" => Some(StepKind::BodyOut { t: n }),
+        "clear_busy" => Some(StepKind::ClearBusy { t: n }),
+        "store_waking" => Some(StepKind::StoreWaking { t: n }),
+        "store_running" => Some(StepKind::StoreRunning { t: n }),
+        "load_rq" => Some(StepKind::LoadRq { t: n }),
+        "load_busy" => Some(StepKind::LoadBusy { t: n }),
+        "load_cpu" => Some(StepKind::LoadCpu { t: n }),
+        "bump" => Some(StepKind::Bump { k: n }),
+        "load_cond" => Some(StepKind::LoadCond { k: n }),
+        _ => None,
     }
-    match waking_step(words)? {
-        Some(step) => Ok(step),
-        None => Err(Wrong("no such step")),
+}
+
+/// A step with a state, or with how a body comes home.
+fn named_step(verb: &str, t: TaskNo, name: &str) -> Option<StepKind> {
+    match (verb, name) {
+        ("body_home", "ended") => Some(StepKind::BodyHome { t, ended: true }),
+        ("body_home", "goes_on") => Some(StepKind::BodyHome { t, ended: false }),
+        ("load_state", "-") => Some(StepKind::LoadState { t, mask: None }),
+        ("load_state", _) => Some(StepKind::LoadState {
+            t,
+            mask: Some(state_of(name)?),
+        }),
+        ("own_state", _) => Some(StepKind::OwnState {
+            t,
+            state: state_of(name)?,
+        }),
+        _ => None,
+    }
+}
+
+/// A step with a value that takes memory.
+fn valued_step(alloc: Global, verb: &str, n: u32, words: &[Word<'_>]) -> Result<Option<StepKind>, NoMemory> {
+    Ok(match verb {
+        "give_queue" => match queue_of(alloc, words)? {
+            Some(val) => Some(StepKind::GiveQueue { c: n, val }),
+            None => None,
+        },
+        "give_wait" => match wait_of(alloc, words)? {
+            Some(val) => Some(StepKind::GiveWait { k: n, val }),
+            None => None,
+        },
+        "give_works" => match works_of(alloc, words)? {
+            Some(val) => Some(StepKind::GiveWorks { c: n, val }),
+            None => None,
+        },
+        "store_rq_moving" => queued_step(alloc, true, n, words)?,
+        "set_busy" => queued_step(alloc, false, n, words)?,
+        _ => None,
+    })
+}
+
+/// A step with a task and the queue that its seat has out.
+fn queued_step(alloc: Global, moves: bool, c: u32, words: &[Word<'_>]) -> Result<Option<StepKind>, NoMemory> {
+    let [Number(t), rest @ ..] = words else {
+        return Ok(None);
+    };
+    let Some(val) = queue_of(alloc, rest)? else {
+        return Ok(None);
+    };
+    let t = *t;
+    Ok(Some(if moves {
+        StepKind::StoreRqMoving { c, t, val }
+    } else {
+        StepKind::SetBusy { c, t, val }
+    }))
+}
+
+fn step_of(alloc: Global, verb: &str, words: &[Word<'_>]) -> Result<Option<StepKind>, NoMemory> {
+    if let Some(step) = plain_step(verb, words) {
+        return Ok(Some(step));
+    }
+    match words {
+        [Number(t), Name(name)] => {
+            if let Some(step) = named_step(verb, *t, name) {
+                return Ok(Some(step));
+            }
+        }
+        _ => {}
+    }
+    match words {
+        [Number(t), rest @ ..] if verb == "give_task" => Ok(give_task(*t, rest)),
+        [Number(n), rest @ ..] => valued_step(alloc, verb, *n, rest),
+        _ => Ok(None),
     }
 }
 
 /// The event that is meant: a seat, and its step.
-pub fn event_of(alloc: Global, words: &[&str]) -> Result<Event, Wrong> {
-    let [seat, rest @ ..] = words else {
-        return Err(Wrong("no seat"));
+pub fn event_of(alloc: Global, words: &[Word<'_>]) -> Result<Option<Event>, NoMemory> {
+    let [Number(seat), Name(verb), rest @ ..] = words else {
+        return Ok(None);
     };
-    let seat = number(seat)?;
-    let step = step_of(alloc, rest)?;
-    Ok(Event { seat, step })
-}
-
-/// The entry of a journal that is meant: its kind, the task, and then the number and the processor.
-pub fn entry_of_words(words: &[&str]) -> Result<Entry, Wrong> {
-    match words {
-        [kind, t, m, c] => numbered_entry(kind, number(t)?, u64::from(number(m)?), number(c)?),
-        ["wake", t, m] => Ok(Entry::Wake {
-            t: number(t)?,
-            m: u64::from(number(m)?),
-        }),
-        ["refused", t, state] => Ok(Entry::Refused {
-            t: number(t)?,
-            state: state_of(state)?,
-        }),
-        _ => Err(Wrong("no such entry")),
+    match step_of(alloc, verb, rest)? {
+        Some(step) => Ok(Some(Event { seat: *seat, step })),
+        None => Ok(None),
     }
 }
 
-fn numbered_entry(kind: &str, t: TaskNo, m: u64, c: CpuNo) -> Result<Entry, Wrong> {
-    match kind {
-        "new" => Ok(Entry::New { t, m, c }),
-        "sleep" => Ok(Entry::Sleep { t, m, c }),
-        "enq" => Ok(Entry::Enq {
-            t,
-            m,
-            c,
-            by_list: false,
+/// The entry of a journal that is meant: its kind and the task, and then mostly a number and the processor.
+pub fn entry_of(words: &[Word<'_>]) -> Option<Entry> {
+    match words {
+        [Name(kind), Number(t), Number(m), Number(c)] => {
+            let (t, m, c) = (*t, u64::from(*m), *c);
+            match *kind {
+                "new" => Some(Entry::New { t, m, c }),
+                "sleep" => Some(Entry::Sleep { t, m, c }),
+                "enq" => Some(Entry::Enq { t, m, c, by_list: false }),
+                "out" => Some(Entry::Out { t, m, c }),
+                "in" => Some(Entry::In { t, m, c }),
+                "die" => Some(Entry::Die { t, m, c }),
+                "pick" => Some(Entry::Pick { t, n: m, c }),
+                "finish" => Some(Entry::Finish { t, n: m, c }),
+                _ => None,
+            }
+        }
+        [Name("wake"), Number(t), Number(m)] => Some(Entry::Wake { t: *t, m: u64::from(*m) }),
+        [Name("refused"), Number(t), Name(name)] => Some(Entry::Refused {
+            t: *t,
+            state: state_of(name)?,
         }),
-        "out" => Ok(Entry::Out { t, m, c }),
-        "in" => Ok(Entry::In { t, m, c }),
-        "die" => Ok(Entry::Die { t, m, c }),
-        "pick" => Ok(Entry::Pick { t, n: m, c }),
-        "finish" => Ok(Entry::Finish { t, n: m, c }),
-        _ => Err(Wrong("no such entry")),
+        _ => None,
     }
 }
