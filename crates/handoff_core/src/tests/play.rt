@@ -15,6 +15,7 @@ use super::words::{Word, entry_of, event_of, word_of};
 use crate::{Act, Core, Event, law_run, step_core};
 use handoff_data::{Entry, NoMemory, Shape};
 use std::alloc::Global;
+use std::process::Abort;
 
 /// Two processors, whose seats are 0 and 1, an agent, whose seat is 2, two tasks, and two conditions.
 const MACHINE: Shape = Shape {
@@ -26,7 +27,7 @@ const MACHINE: Shape = Shape {
 };
 
 /// The words of a list, with those of the parts that it names.
-fn words_of(alloc: Global, text: &'static str) -> Result<Vec<Word<'static>>, NoMemory> {
+fn words_of<'a>(alloc: Global, text: &'a str) -> Result<Vec<Word<'a>>, NoMemory> {
     let mut words = Vec::new(alloc);
     for word in text.split_whitespace() {
         match part(word) {
@@ -37,7 +38,7 @@ fn words_of(alloc: Global, text: &'static str) -> Result<Vec<Word<'static>>, NoM
     Ok(words)
 }
 
-fn add_words(words: &mut Vec<Word<'static>>, text: &'static str) -> Result<(), NoMemory> {
+fn add_words<'a>(words: &mut Vec<Word<'a>>, text: &'a str) -> Result<(), NoMemory> {
     for word in text.split_whitespace() {
         words.push(word_of(word))?;
     }
@@ -99,7 +100,7 @@ fn journal(core: &Core, seat: usize) -> Option<&[Entry]> {
 }
 
 /// Whether the journal of a seat is what is said.
-fn is_journal(alloc: Global, core: &Core, seat: u32, words: &[Word<'static>]) -> Result<bool, NoMemory> {
+fn is_journal(alloc: Global, core: &Core, seat: u32, words: &[Word<'_>]) -> Result<bool, NoMemory> {
     let mut entries = Vec::new(alloc);
     for said in words.split(|word| matches!(word, Name(","))) {
         match entry_of(said) {
@@ -126,7 +127,7 @@ fn is_cond(core: &Core, k: u32, value: u32) -> bool {
 }
 
 /// Goes on by one line; whether it is as it should be.
-fn play_line(alloc: Global, played: &mut Played, line: &[Word<'static>]) -> Result<bool, NoMemory> {
+fn play_line(alloc: Global, played: &mut Played, line: &[Word<'_>]) -> Result<bool, NoMemory> {
     match line {
         [] => Ok(true),
         [Name("opening")] => {
@@ -136,7 +137,9 @@ fn play_line(alloc: Global, played: &mut Played, line: &[Word<'static>]) -> Resu
         }
         [Name("journal"), Number(seat), rest @ ..] => is_journal(alloc, &played.core, *seat, rest),
         [Name("owes"), Number(seat), Number(k)] => Ok(owes(&played.core, *seat, *k) == Some(true)),
-        [Name("owes_not"), Number(seat), Number(k)] => Ok(owes(&played.core, *seat, *k) == Some(false)),
+        [Name("owes_not"), Number(seat), Number(k)] => Ok(
+            owes(&played.core, *seat, *k) == Some(false),
+        ),
         [Name("cond"), Number(k), Number(value)] => Ok(is_cond(&played.core, *k, *value)),
         [Name("not"), rest @ ..] => match rest.split(|word| matches!(word, Name("--"))).next() {
             Some(said) => match event_of(alloc, said)? {
@@ -154,7 +157,7 @@ fn play_line(alloc: Global, played: &mut Played, line: &[Word<'static>]) -> Resu
 
 /// Plays a list from the opening core, and answers the first line, from 0, that isn't as it should be: an event that
 /// isn't possible, one that is and shouldn't be, something of the core that isn't so, or a word that means nothing.
-pub fn wrong_line(alloc: Global, text: &'static str) -> Result<Option<usize>, NoMemory> {
+pub fn wrong_line(alloc: Global, text: &str) -> Result<Option<usize>, NoMemory> {
     let words = words_of(alloc, text)?;
     let mut played = opening(alloc)?;
     let mut lines = 0;
@@ -168,4 +171,10 @@ pub fn wrong_line(alloc: Global, text: &'static str) -> Result<Option<usize>, No
         return Ok(None);
     }
     Ok(Some(lines))
+}
+
+/// Plays a list, each line of which has to be as it should be.
+pub fn plays<R: Abort + AllocGlobal>(rt: &R, list: &str) -> Result<(), NoMemory> {
+    assert_eq!(rt; wrong_line(rt.alloc(), list)?, None);
+    Ok(())
 }

@@ -1,11 +1,13 @@
 //! Events that are impossible where they stand, by one condition that fails.
 
-use super::play::wrong_line;
+use super::play::plays;
 use std::test::Fail;
 
 #[test]
 fn nothing_of_another_shape(rt: HostRuntime) -> Result<(), Fail> {
-    let list = "
+    plays(
+        &rt,
+        "
         not 3 take_task 0 -- a seat too many takes a task ;
         not 0 take_task 2 -- a task too many ;
         not 3 take_queue 0 -- a seat too many takes a queue ;
@@ -18,20 +20,25 @@ fn nothing_of_another_shape(rt: HostRuntime) -> Result<(), Fail> {
         not 0 load_state 2 - -- a state too many ;
         not 3 load_rq 0 -- a seat too many loads a word ;
         not 0 load_rq 2 -- an on_rq too many ;
+        not 3 load_busy 0 -- a seat too many loads a busy word ;
         not 0 load_busy 2 -- a busy word too many ;
+        not 3 load_cpu 0 -- a seat too many loads a processor word ;
         not 0 load_cpu 2 -- a processor word too many ;
         not 3 bump 0 -- a seat too many bumps ;
         not 0 bump 2 -- a condition too many is bumped ;
+        not 3 load_cond 0 -- a seat too many loads a condition ;
         not 0 load_cond 2 -- a condition too many is loaded ;
         not 0 load_state 0 TASK_DEAD -- a mask with the bit of TASK_DEAD ;
-        ";
-    assert_eq!(rt; wrong_line(rt.alloc(), list)?, None);
+        ",
+    )?;
     Ok(())
 }
 
 #[test]
 fn nothing_without_its_lock(rt: HostRuntime) -> Result<(), Fail> {
-    let list = "
+    plays(
+        &rt,
+        "
         not 0 give_task 0 -- a task given ;
         not 0 give_queue 0 cur - left - waiting -- a queue given ;
         not 0 give_wait 0 nobody -- a wait queue given ;
@@ -61,14 +68,16 @@ fn nothing_without_its_lock(rt: HostRuntime) -> Result<(), Fail> {
         opening ;
         start_0 ;
         not 0 set_busy 0 0 cur 0 left - waiting -- picked without the lock of the queue ;
-        ";
-    assert_eq!(rt; wrong_line(rt.alloc(), list)?, None);
+        ",
+    )?;
     Ok(())
 }
 
 #[test]
 fn a_task_is_given_as_it_was_taken(rt: HostRuntime) -> Result<(), Fail> {
-    let list = "
+    plays(
+        &rt,
+        "
         0 take_task 0 ;
         not 0 give_task 0 mask 0 -- another mask ;
         not 0 give_task 0 r 1 -- another number of its mask ;
@@ -84,14 +93,16 @@ fn a_task_is_given_as_it_was_taken(rt: HostRuntime) -> Result<(), Fail> {
         not 0 store_rq_on 1 0 -- queued on another processor than its own ;
         0 store_running 0 ;
         not 0 give_task 0 -- never started, and not TASK_NEW ;
-        ";
-    assert_eq!(rt; wrong_line(rt.alloc(), list)?, None);
+        ",
+    )?;
     Ok(())
 }
 
 #[test]
 fn a_queue_says_what_the_words_say(rt: HostRuntime) -> Result<(), Fail> {
-    let list = "
+    plays(
+        &rt,
+        "
         0 take_task 0 ; 0 store_running 0 ; 0 store_cpu 0 0 ; 0 take_queue 0 ; 0 store_rq_on 0 0 ;
         not 0 give_queue 0 cur - left - waiting -- a queued task left out ;
         not 0 give_queue 0 cur - left - waiting 0 1 -- a task that isn't queued ;
@@ -123,15 +134,17 @@ fn a_queue_says_what_the_words_say(rt: HostRuntime) -> Result<(), Fail> {
         not 1 store_cpu 0 1 -- placed once it is queued ;
         1 load_busy 0 ;
         not 1 store_rq_moving 0 0 cur - left - waiting 0 -- moved with TASK_WAKING ;
-        ";
-    assert_eq!(rt; wrong_line(rt.alloc(), list)?, None);
+        ",
+    )?;
     Ok(())
 }
 
 #[test]
 fn no_task_is_picked_that_may_not_run(rt: HostRuntime) -> Result<(), Fail> {
     // at first the seat of the processor wakes the task itself
-    let list = "
+    plays(
+        &rt,
+        "
         start_0 ; pick_0 ; prepare_0 ; leave_0 ; clear_0 ;
         0 take_task 0 ; 0 load_state 0 TASK_NORMAL ; 0 load_rq 0 ; 0 store_waking 0 ;
         0 load_busy 0 ; 0 take_queue 0 ; 0 store_rq_on 0 0 ;
@@ -154,14 +167,16 @@ fn no_task_is_picked_that_may_not_run(rt: HostRuntime) -> Result<(), Fail> {
         not 0 set_busy 0 1 cur 1 left 0 waiting 0 -- picked before the last one is cleared ;
         not 0 give_queue 0 cur - left - waiting 0 1 -- forgets whom it left ;
         not 0 clear_busy 1 -- clears another task ;
-        ";
-    assert_eq!(rt; wrong_line(rt.alloc(), list)?, None);
+        ",
+    )?;
     Ok(())
 }
 
 #[test]
 fn a_body_is_out_with_its_own_seat(rt: HostRuntime) -> Result<(), Fail> {
-    let list = "
+    plays(
+        &rt,
+        "
         start_0 ; pick_0 ;
         not 1 body_out 0 -- the body of the task of another seat ;
         not 0 body_home 0 goes_on -- a body home that is home ;
@@ -174,14 +189,16 @@ fn a_body_is_out_with_its_own_seat(rt: HostRuntime) -> Result<(), Fail> {
         0 body_home 0 ended ;
         0 body_out 0 ;
         not 0 body_home 0 goes_on -- a body that has ended goes on ;
-        ";
-    assert_eq!(rt; wrong_line(rt.alloc(), list)?, None);
+        ",
+    )?;
     Ok(())
 }
 
 #[test]
 fn a_task_stores_its_own_state(rt: HostRuntime) -> Result<(), Fail> {
-    let list = "
+    plays(
+        &rt,
+        "
         start_0 ; pick_0 ;
         not 1 own_state 0 TASK_INTERRUPTIBLE -- the task of another seat ;
         not 0 own_state 0 TASK_WAKING -- TASK_WAKING ;
@@ -198,14 +215,16 @@ fn a_task_stores_its_own_state(rt: HostRuntime) -> Result<(), Fail> {
         0 take_queue 0 ; 0 load_state 0 - ; 0 store_rq_off 0 0 ;
         not 0 own_state 0 TASK_RUNNING -- a state after it left its queue ;
         not 0 store_rq_off 0 0 -- off its queue twice ;
-        ";
-    assert_eq!(rt; wrong_line(rt.alloc(), list)?, None);
+        ",
+    )?;
     Ok(())
 }
 
 #[test]
 fn a_task_leaves_by_a_state_that_was_read(rt: HostRuntime) -> Result<(), Fail> {
-    let list = "
+    plays(
+        &rt,
+        "
         start_0 ; pick_0 ; prepare_0 ;
         0 take_queue 0 ;
         not 0 store_rq_off 0 0 -- no state read ;
@@ -222,14 +241,16 @@ fn a_task_leaves_by_a_state_that_was_read(rt: HostRuntime) -> Result<(), Fail> {
         start_0 ; start_1 ; pick_0_of_two ; prepare_0 ;
         0 take_queue 0 ; 0 load_state 0 - ;
         not 0 store_rq_off 0 1 -- another task by its state ;
-        ";
-    assert_eq!(rt; wrong_line(rt.alloc(), list)?, None);
+        ",
+    )?;
     Ok(())
 }
 
 #[test]
 fn a_waker_claims_what_it_read_as_off(rt: HostRuntime) -> Result<(), Fail> {
-    let list = "
+    plays(
+        &rt,
+        "
         start_0 ; pick_0 ; prepare_0 ; leave_0 ;
         1 take_task 0 ; 1 load_state 0 TASK_NORMAL ;
         not 1 store_waking 0 -- on_rq not read ;
@@ -260,14 +281,16 @@ fn a_waker_claims_what_it_read_as_off(rt: HostRuntime) -> Result<(), Fail> {
         1 take_task 0 ; 1 load_busy 0 ; 1 take_queue 0 ;
         not 1 store_rq_on 0 0 -- queued without being claimed ;
         not 1 store_cpu 0 1 -- placed without being claimed ;
-        ";
-    assert_eq!(rt; wrong_line(rt.alloc(), list)?, None);
+        ",
+    )?;
     Ok(())
 }
 
 #[test]
 fn a_waker_stores_running_under_both_locks(rt: HostRuntime) -> Result<(), Fail> {
-    let list = "
+    plays(
+        &rt,
+        "
         start_0 ; pick_0 ; prepare_0 ;
         1 take_task 0 ; 1 load_state 0 TASK_NORMAL ;
         not 1 store_running 0 -- without the lock of the queue ;
@@ -288,14 +311,16 @@ fn a_waker_stores_running_under_both_locks(rt: HostRuntime) -> Result<(), Fail> 
         start_0 ; pick_0 ; prepare_0 ; leave_0 ;
         1 take_task 0 ; 1 load_state 0 TASK_NORMAL ; 1 take_queue 0 ;
         not 1 store_running 0 -- of a task that left its queue ;
-        ";
-    assert_eq!(rt; wrong_line(rt.alloc(), list)?, None);
+        ",
+    )?;
     Ok(())
 }
 
 #[test]
 fn a_seat_stores_running_of_what_it_queued(rt: HostRuntime) -> Result<(), Fail> {
-    let list = "
+    plays(
+        &rt,
+        "
         start_0 ;
         not 0 store_running 0 -- once the queue is given ;
         1 take_queue 0 ;
@@ -310,14 +335,16 @@ fn a_seat_stores_running_of_what_it_queued(rt: HostRuntime) -> Result<(), Fail> 
         0 take_task 0 ; 0 store_running 0 ; 0 take_queue 0 ; 0 store_rq_on 0 0 ;
         0 set_busy 0 0 cur 0 left - waiting ;
         not 0 store_running 0 -- picked since ;
-        ";
-    assert_eq!(rt; wrong_line(rt.alloc(), list)?, None);
+        ",
+    )?;
     Ok(())
 }
 
 #[test]
 fn a_task_is_moved_that_waits(rt: HostRuntime) -> Result<(), Fail> {
-    let list = "
+    plays(
+        &rt,
+        "
         start_0 ;
         2 take_task 0 ; 2 load_busy 0 ;
         not 2 store_rq_moving 0 0 cur - left - waiting 0 -- without the lock of the queue ;
@@ -345,14 +372,16 @@ fn a_task_is_moved_that_waits(rt: HostRuntime) -> Result<(), Fail> {
         0 take_task 0 ; 0 take_queue 0 ; 0 load_busy 0 ;
         0 set_busy 0 0 cur 0 left - waiting ;
         not 0 store_rq_moving 0 0 cur - left - waiting 0 -- its own current task ;
-        ";
-    assert_eq!(rt; wrong_line(rt.alloc(), list)?, None);
+        ",
+    )?;
     Ok(())
 }
 
 #[test]
 fn entries_are_put_in_and_taken_out_by_those_who_may(rt: HostRuntime) -> Result<(), Fail> {
-    let list = "
+    plays(
+        &rt,
+        "
         start_0 ; pick_0 ;
         0 take_wait 0 ; 0 own_state 0 TASK_INTERRUPTIBLE ;
         not 0 give_wait 0 plain 0 exclusive 0 -- two entries of a task ;
@@ -370,7 +399,7 @@ fn entries_are_put_in_and_taken_out_by_those_who_may(rt: HostRuntime) -> Result<
         not 1 give_wait 0 exclusive 0 -- another sort of entry ;
         1 load_state 0 - ;
         not 1 give_wait 0 nobody -- an entry of a task that was read asleep ;
-        ";
-    assert_eq!(rt; wrong_line(rt.alloc(), list)?, None);
+        ",
+    )?;
     Ok(())
 }

