@@ -1,57 +1,14 @@
-//! Lists of events that are possible from the opening core, and lists that stop where one condition fails.
+//! Lists of events that are possible from the opening core, and events that are impossible where they stand.
 
-mod lists;
-mod said;
+mod parts;
+mod play;
 mod stops;
+mod words;
 
-use super::{Act, Core, Event, StepKind, law_run, step_core};
-use handoff_data::{Entry, NoMemory, Shape, State};
-use lists::*;
-use said::Said::*;
-use said::event_of;
-use std::alloc::Global;
-use std::process::Abort;
+use super::{Core, Event, StepKind, step_core};
+use handoff_data::{Shape, State};
+use play::{plays, wrong_line};
 use std::test::Fail;
-
-/// Two processors, an agent, two tasks, two conditions.
-const MACHINE: Shape = Shape {
-    cpus: 2,
-    caches: 1,
-    tasks: 2,
-    conds: 2,
-    agents: 1,
-};
-
-/// The events of some lists, one after the other.
-fn events_of(alloc: Global, lists: &[&[Made]]) -> Result<Vec<Event>, NoMemory> {
-    let mut events = Vec::new(alloc);
-    for list in lists {
-        for (seat, said) in *list {
-            let event = event_of(alloc, *seat, *said)?;
-            events.push(event)?;
-        }
-    }
-    Ok(events)
-}
-
-/// The opening core of the machine.
-fn start(alloc: Global) -> Result<Core, NoMemory> {
-    Core::start(alloc, &MACHINE)
-}
-
-/// What the events of some lists come to, from the opening core. All of them have to be possible.
-fn run<R: Abort + AllocGlobal>(rt: &R, lists: &[&[Made]]) -> Result<Core, NoMemory> {
-    let events = events_of(rt.alloc(), lists)?;
-    let run = law_run(start(rt.alloc())?, events.as_slice())?;
-    assert_eq!(rt; run.taken, events.len());
-    Ok(run.core)
-}
-
-/// The changes of a task in the journals, in the order of the seats.
-fn journal_of<'a, R: Abort>(rt: &R, core: &'a Core, seat: usize) -> &'a [Entry] {
-    assert!(rt; seat < core.seats.len());
-    core.seats[seat].journal.entries.as_slice()
-}
 
 // The smallest machine: seat 0, and task 0 at its opening.
 #[test]
@@ -80,120 +37,102 @@ fn the_smallest_core_starts(rt: HostRuntime) -> Result<(), Fail> {
     Ok(())
 }
 
+// A list with a word that means nothing isn't played.
+#[test]
+fn a_misspelt_word_is_refused(rt: HostRuntime) -> Result<(), Fail> {
+    let misspelt = [
+        "0 take_tusk 0",
+        "0 take_task zero",
+        "0 take_task 0 0",
+        "x take_task 0",
+        "strat_0",
+        "nut 0 take_task 2",
+        "not 0 take_tusk 2",
+        "0 take_queue 0 ; not 0 give_queue 0 cur - left - wating 0",
+        "0 take_queue 0 ; not 0 give_queue 0 cur - left x waiting",
+        "0 take_wait 0 ; not 0 give_wait 0 plane 0",
+        "0 take_works 0 ; not 0 give_works 0 nothin",
+        "0 take_task 0 ; not 0 give_task 0 stod",
+        "not 0 own_state 0 TASK_WALKING",
+        "not 0 body_home 0 end",
+        "journal 0 now 0 1 0",
+        "journl 0",
+        "owe 0 0",
+    ];
+    for text in misspelt {
+        assert!(rt; wrong_line(rt.alloc(), text)?.is_some(), "{text}");
+    }
+    // what is said of a core has to be so
+    for text in [
+        "journal 0 new 0 1 0",
+        "owes 0 0",
+        "cond 0 1",
+        "not 0 take_task 0",
+    ] {
+        assert!(rt; wrong_line(rt.alloc(), text)?.is_some(), "{text}");
+    }
+    Ok(())
+}
+
 #[test]
 fn a_task_sleeps_is_woken_and_ends(rt: HostRuntime) -> Result<(), Fail> {
-    let core = run(
+    plays(
         &rt,
-        &[
-            &START_0,
-            &PICK_0,
-            &PREPARE_0,
-            &LEAVE_0,
-            &CLEAR_0,
-            &CLAIM_0,
-            &ENQUEUE_0,
-            &PICK_0_AGAIN,
-            &FINISH_0,
-            &END_0,
-            &LEAVE_0,
-            &CLEAR_0,
-        ],
+        "
+        start_0 ; pick_0 ; prepare_0 ; leave_0 ; clear_0 ; claim_0 ; enqueue_0 ; pick_0_again ; finish_0 ;
+        end_0 ; leave_0 ; clear_0 ;
+        journal 0 new 0 1 0 , pick 0 1 0 , sleep 0 2 0 , finish 0 2 0 ,
+                  pick 0 3 0 , die 0 4 0 , finish 0 4 0 ;
+        journal 1 wake 0 2 , enq 0 3 0 ;
+        ",
     )?;
-    let own = [
-        Entry::New { t: 0, m: 1, c: 0 },
-        Entry::Pick { t: 0, n: 1, c: 0 },
-        Entry::Sleep { t: 0, m: 2, c: 0 },
-        Entry::Finish { t: 0, n: 2, c: 0 },
-        Entry::Pick { t: 0, n: 3, c: 0 },
-        Entry::Die { t: 0, m: 4, c: 0 },
-        Entry::Finish { t: 0, n: 4, c: 0 },
-    ];
-    assert_eq!(rt; journal_of(&rt, &core, 0), own.as_slice());
-    let waker = [
-        Entry::Wake { t: 0, m: 2 },
-        Entry::Enq {
-            t: 0,
-            m: 3,
-            c: 0,
-            by_list: false,
-        },
-    ];
-    assert_eq!(rt; journal_of(&rt, &core, 1), waker.as_slice());
     Ok(())
 }
 
 #[test]
-fn a_waiting_task_is_moved(rt: HostRuntime) -> Result<(), Fail> {
-    let core = run(&rt, &[&START_0, &MOVE_0])?;
-    let moved = [
-        Entry::Out { t: 0, m: 2, c: 0 },
-        Entry::In { t: 0, m: 3, c: 1 },
-    ];
-    assert_eq!(rt; journal_of(&rt, &core, 2), moved.as_slice());
-    Ok(())
-}
+fn a_task_is_switched_out_and_another_time_moved(rt: HostRuntime) -> Result<(), Fail> {
+    plays(
+        &rt,
+        "
+        start_0 ; pick_0 ;
+        0 body_out 0 ; 0 body_home 0 goes_on ;
+        yield_0 ; clear_0 ; pick_0_again ;
+        journal 0 new 0 1 0 , pick 0 1 0 , finish 0 2 0 , pick 0 3 0 ;
 
-#[test]
-fn a_task_is_switched_out_and_picked_again(rt: HostRuntime) -> Result<(), Fail> {
-    let core = run(&rt, &[&START_0, &PICK_0, &YIELD_0, &CLEAR_0, &PICK_0_AGAIN])?;
-    let own = [
-        Entry::New { t: 0, m: 1, c: 0 },
-        Entry::Pick { t: 0, n: 1, c: 0 },
-        Entry::Finish { t: 0, n: 2, c: 0 },
-        Entry::Pick { t: 0, n: 3, c: 0 },
-    ];
-    assert_eq!(rt; journal_of(&rt, &core, 0), own.as_slice());
+        opening ;
+        start_0 ; move_0 ;
+        journal 0 new 0 1 0 ;
+        journal 2 out 0 2 0 , in 0 3 1 ;
+        ",
+    )?;
     Ok(())
 }
 
 // The waker may claim a sleeper whose busy word isn't clear yet; it waits for that before it queues the task.
 #[test]
 fn a_waker_waits_until_the_task_is_off_its_processor(rt: HostRuntime) -> Result<(), Fail> {
-    let core = run(
+    plays(
         &rt,
-        &[
-            &START_0,
-            &PICK_0,
-            &PREPARE_0,
-            &LEAVE_0,
-            &CLAIM_0,
-            &[(1, LoadBusy(0))],
-            &CLEAR_0,
-            &ENQUEUE_0,
-        ],
+        "
+        start_0 ; pick_0 ; prepare_0 ; leave_0 ; claim_0 ;
+        1 load_busy 0 ;
+        clear_0 ; enqueue_0 ;
+        journal 1 wake 0 2 , enq 0 3 0 ;
+        ",
     )?;
-    let waker = [
-        Entry::Wake { t: 0, m: 2 },
-        Entry::Enq {
-            t: 0,
-            m: 3,
-            c: 0,
-            by_list: false,
-        },
-    ];
-    assert_eq!(rt; journal_of(&rt, &core, 1), waker.as_slice());
     Ok(())
 }
 
 #[test]
 fn a_wake_of_a_task_that_runs_is_refused(rt: HostRuntime) -> Result<(), Fail> {
-    let core = run(
+    plays(
         &rt,
-        &[
-            &START_0,
-            &PICK_0,
-            &[
-                (1, TakeTask(0)),
-                (1, LoadState(0, NORMAL)),
-                (1, GiveTask(0, AS_TAKEN)),
-            ],
-        ],
+        "
+        start_0 ; pick_0 ;
+        1 take_task 0 ; 1 load_state 0 TASK_NORMAL ; 1 give_task 0 ;
+        journal 1 refused 0 TASK_RUNNING ;
+        ",
     )?;
-    let refused = [Entry::Refused {
-        t: 0,
-        state: State::TASK_RUNNING,
-    }];
-    assert_eq!(rt; journal_of(&rt, &core, 1), refused.as_slice());
     Ok(())
 }
 
@@ -202,149 +141,78 @@ fn a_wake_of_a_task_that_runs_is_refused(rt: HostRuntime) -> Result<(), Fail> {
 // stores TASK_RUNNING. There is no Enq, and the sleeper tests again.
 #[test]
 fn a_wake_finds_its_task_queued_and_for_another_wait(rt: HostRuntime) -> Result<(), Fail> {
-    let core = run(
+    plays(
         &rt,
-        &[
-            &START_0,
-            &PICK_0,
-            &PREPARE_0,
-            &[(1, TakeTask(0)), (1, LoadState(0, NORMAL)), (1, LoadRq(0))],
-            &[
-                (0, LoadCond(0)),
-                (0, OwnState(0, RUNS)),
-                (0, TakeWait(0)),
-                (0, GiveWait(0, NOBODY)),
-            ],
-            &[
-                (0, TakeWait(1)),
-                (0, OwnState(0, SLEEPS)),
-                (0, GiveWait(1, SLEEPER_0)),
-            ],
-            &[
-                (1, TakeQueue(0)),
-                (1, StoreRunning(0)),
-                (1, GiveQueue(0, RUN_0)),
-                (1, GiveTask(0, AS_TAKEN)),
-            ],
-            &[
-                (0, LoadCond(1)),
-                (0, TakeQueue(0)),
-                (0, LoadState(0, None)),
-                (0, GiveQueue(0, RUN_0)),
-            ],
-            &[
-                (0, TakeWait(1)),
-                (0, OwnState(0, SLEEPS)),
-                (0, GiveWait(1, SLEEPER_0)),
-                (0, LoadCond(1)),
-            ],
-        ],
+        "
+        start_0 ; pick_0 ; prepare_0 ;
+        1 take_task 0 ; 1 load_state 0 TASK_NORMAL ; 1 load_rq 0 ;
+        0 load_cond 0 ; 0 own_state 0 TASK_RUNNING ; 0 take_wait 0 ; 0 give_wait 0 nobody ;
+        0 take_wait 1 ; 0 own_state 0 TASK_INTERRUPTIBLE ; 0 give_wait 1 plain 0 ;
+        1 take_queue 0 ; 1 store_running 0 ; 1 give_queue 0 cur 0 left - waiting ; 1 give_task 0 ;
+        0 load_cond 1 ; 0 take_queue 0 ; 0 load_state 0 - ; 0 give_queue 0 cur 0 left - waiting ;
+        0 take_wait 1 ; 0 own_state 0 TASK_INTERRUPTIBLE ; 0 give_wait 1 plain 0 ; 0 load_cond 1 ;
+        journal 0 new 0 1 0 , pick 0 1 0 ;
+        journal 1 ;
+        ",
     )?;
-    assert_eq!(rt; journal_of(&rt, &core, 1), [].as_slice());
-    let own = [
-        Entry::New { t: 0, m: 1, c: 0 },
-        Entry::Pick { t: 0, n: 1, c: 0 },
-    ];
-    assert_eq!(rt; journal_of(&rt, &core, 0), own.as_slice());
     Ok(())
 }
 
 #[test]
 fn a_walk_wakes_the_sleeper(rt: HostRuntime) -> Result<(), Fail> {
-    let core = run(
+    plays(
         &rt,
-        &[
-            &START_0,
-            &PICK_0,
-            &PREPARE_0,
-            &LEAVE_0,
-            &CLEAR_0,
-            &WALK_AND_WAKE_0,
-            &PICK_0_AGAIN,
-            &[(0, LoadCond(0))],
-            &FINISH_0,
-        ],
+        "
+        start_0 ; pick_0 ; prepare_0 ; leave_0 ; clear_0 ;
+        walk_and_wake_0 ;
+        pick_0_again ; 0 load_cond 0 ; finish_0 ;
+        cond 0 1 ;
+        journal 2 wake 0 2 , enq 0 3 0 ;
+        owes_not 2 0 ;
+        ",
     )?;
-    assert_eq!(rt; core.conds.len(), 2);
-    assert_eq!(rt; core.conds[0].cond, 1);
-    let waker = [
-        Entry::Wake { t: 0, m: 2 },
-        Entry::Enq {
-            t: 0,
-            m: 3,
-            c: 0,
-            by_list: false,
-        },
-    ];
-    assert_eq!(rt; journal_of(&rt, &core, 2), waker.as_slice());
-    assert!(rt; !owes(&rt, &core, 2));
     Ok(())
-}
-
-/// Whether the seat owes condition 0 a walk.
-fn owes<R: Abort>(rt: &R, core: &Core, seat: usize) -> bool {
-    assert!(rt; seat < core.seats.len());
-    core.seats[seat]
-        .pos
-        .is_since(Act::Bumped { k: 0 }, Act::Walked { k: 0 })
 }
 
 // A seat that raised the condition owes it until it gives the wait queue with each entry passed.
 #[test]
 fn a_walk_that_skips_an_entry_is_still_owed(rt: HostRuntime) -> Result<(), Fail> {
-    let skips = [(1, Bump(0)), (1, TakeWait(0)), (1, GiveWait(0, SLEEPER_0))];
-    assert!(rt; owes(&rt, &run(&rt, &[&START_0, &PICK_0, &PREPARE_0, &skips])?, 1));
-    let early = [
-        (1, TakeWait(0)),
-        (1, Bump(0)),
-        (0, OwnState(0, RUNS)),
-        (1, LoadState(0, None)),
-        (1, GiveWait(0, SLEEPER_0)),
-    ];
-    assert!(rt; owes(&rt, &run(&rt, &[&START_0, &PICK_0, &PREPARE_0, &early])?, 1));
-    let whole = [
-        (1, Bump(0)),
-        (1, TakeWait(0)),
-        (0, OwnState(0, RUNS)),
-        (1, LoadState(0, None)),
-        (1, GiveWait(0, SLEEPER_0)),
-    ];
-    assert!(rt; !owes(&rt, &run(&rt, &[&START_0, &PICK_0, &PREPARE_0, &whole])?, 1));
+    plays(
+        &rt,
+        "
+        start_0 ; pick_0 ; prepare_0 ;
+        1 bump 0 ; 1 take_wait 0 ; 1 give_wait 0 plain 0 ;
+        owes 1 0 ;
+
+        opening ;
+        start_0 ; pick_0 ; prepare_0 ;
+        1 take_wait 0 ; 1 bump 0 ; 0 own_state 0 TASK_RUNNING ; 1 load_state 0 - ; 1 give_wait 0 plain 0 ;
+        owes 1 0 ;
+
+        opening ;
+        start_0 ; pick_0 ; prepare_0 ;
+        1 bump 0 ; 1 take_wait 0 ; 0 own_state 0 TASK_RUNNING ; 1 load_state 0 - ; 1 give_wait 0 plain 0 ;
+        owes_not 1 0 ;
+        ",
+    )?;
     Ok(())
 }
 
 // An exclusive entry, taken out by the waker that passed it; and works, taken and given as they were.
 #[test]
 fn an_entry_is_taken_out_by_its_waker(rt: HostRuntime) -> Result<(), Fail> {
-    let core = run(
+    plays(
         &rt,
-        &[
-            &START_0,
-            &PICK_0,
-            &[
-                (0, TakeWait(0)),
-                (0, OwnState(0, SLEEPS)),
-                (0, GiveWait(0, EXCLUSIVE_0)),
-                (0, LoadCond(0)),
-            ],
-            &LEAVE_0,
-            &CLEAR_0,
-            &[(1, Bump(0)), (1, TakeWait(0))],
-            &CLAIM_0,
-            &ENQUEUE_0,
-            &[(1, GiveWait(0, NOBODY))],
-            &[(1, TakeWorks(0)), (1, GiveWorks(0, None))],
-        ],
+        "
+        start_0 ; pick_0 ;
+        0 take_wait 0 ; 0 own_state 0 TASK_INTERRUPTIBLE ; 0 give_wait 0 exclusive 0 ; 0 load_cond 0 ;
+        leave_0 ; clear_0 ;
+        1 bump 0 ; 1 take_wait 0 ;
+        claim_0 ; enqueue_0 ;
+        1 give_wait 0 nobody ;
+        1 take_works 0 ; 1 give_works 0 nothing ;
+        journal 1 wake 0 2 , enq 0 3 0 ;
+        ",
     )?;
-    let waker = [
-        Entry::Wake { t: 0, m: 2 },
-        Entry::Enq {
-            t: 0,
-            m: 3,
-            c: 0,
-            by_list: false,
-        },
-    ];
-    assert_eq!(rt; journal_of(&rt, &core, 1), waker.as_slice());
     Ok(())
 }

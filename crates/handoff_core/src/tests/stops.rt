@@ -1,749 +1,405 @@
-//! Lists that stop at their last event, where one condition fails.
+//! Events that are impossible where they stand, by one condition that fails.
 
-use super::lists::*;
-use super::said::Said::*;
-use super::said::{Given, Line};
-use super::{events_of, start};
-use crate::law_run;
-use handoff_data::{CpuNo, NoMemory, State, TaskNo};
-use std::process::Abort;
+use super::play::plays;
 use std::test::Fail;
-
-/// After these lists, all of which are possible, each of these acts is impossible.
-fn stop<R: Abort + AllocGlobal>(
-    rt: &R,
-    way: &[&[Made]],
-    acts: &[(&str, Made)],
-) -> Result<(), NoMemory> {
-    for (what, act) in acts {
-        let mut events = events_of(rt.alloc(), way)?;
-        let possible = events.len();
-        events.append(&mut events_of(rt.alloc(), &[&[*act]])?)?;
-        let run = law_run(start(rt.alloc())?, events.as_slice())?;
-        assert_eq!(rt; run.taken, possible, "{what}");
-    }
-    Ok(())
-}
-
-fn line(waiting: [Option<TaskNo>; 2], cur: Option<TaskNo>, left: Option<TaskNo>) -> Line {
-    Line { waiting, cur, left }
-}
 
 #[test]
 fn nothing_of_another_shape(rt: HostRuntime) -> Result<(), Fail> {
-    stop(
+    plays(
         &rt,
-        &[],
-        &[
-            ("a seat too many takes a task", (3, TakeTask(0))),
-            ("a task too many", (0, TakeTask(2))),
-            ("a seat too many takes a queue", (3, TakeQueue(0))),
-            ("a queue too many", (0, TakeQueue(2))),
-            ("a seat too many takes a wait queue", (3, TakeWait(0))),
-            ("a wait queue too many", (0, TakeWait(2))),
-            ("a seat too many takes works", (3, TakeWorks(0))),
-            ("works too many", (0, TakeWorks(2))),
-            ("a seat too many loads a state", (3, LoadState(0, None))),
-            ("a state too many", (0, LoadState(2, None))),
-            ("a seat too many loads a word", (3, LoadRq(0))),
-            ("an on_rq too many", (0, LoadRq(2))),
-            ("a busy word too many", (0, LoadBusy(2))),
-            ("a processor word too many", (0, LoadCpu(2))),
-            ("a seat too many bumps", (3, Bump(0))),
-            ("a condition too many is bumped", (0, Bump(2))),
-            ("a condition too many is loaded", (0, LoadCond(2))),
-            (
-                "a mask with the bit of TASK_DEAD",
-                (0, LoadState(0, Some(DEAD))),
-            ),
-        ],
+        "
+        not 3 take_task 0 -- a seat too many takes a task ;
+        not 0 take_task 2 -- a task too many ;
+        not 3 take_queue 0 -- a seat too many takes a queue ;
+        not 0 take_queue 2 -- a queue too many ;
+        not 3 take_wait 0 -- a seat too many takes a wait queue ;
+        not 0 take_wait 2 -- a wait queue too many ;
+        not 3 take_works 0 -- a seat too many takes works ;
+        not 0 take_works 2 -- works too many ;
+        not 3 load_state 0 - -- a seat too many loads a state ;
+        not 0 load_state 2 - -- a state too many ;
+        not 3 load_rq 0 -- a seat too many loads a word ;
+        not 0 load_rq 2 -- an on_rq too many ;
+        not 3 load_busy 0 -- a seat too many loads a busy word ;
+        not 0 load_busy 2 -- a busy word too many ;
+        not 3 load_cpu 0 -- a seat too many loads a processor word ;
+        not 0 load_cpu 2 -- a processor word too many ;
+        not 3 bump 0 -- a seat too many bumps ;
+        not 0 bump 2 -- a condition too many is bumped ;
+        not 3 load_cond 0 -- a seat too many loads a condition ;
+        not 0 load_cond 2 -- a condition too many is loaded ;
+        not 0 load_state 0 TASK_DEAD -- a mask with the bit of TASK_DEAD ;
+        ",
     )?;
     Ok(())
 }
 
 #[test]
 fn nothing_without_its_lock(rt: HostRuntime) -> Result<(), Fail> {
-    stop(
+    plays(
         &rt,
-        &[],
-        &[
-            ("a task given", (0, GiveTask(0, AS_TAKEN))),
-            ("a queue given", (0, GiveQueue(0, EMPTY))),
-            ("a wait queue given", (0, GiveWait(0, NOBODY))),
-            ("works given", (0, GiveWorks(0, None))),
-            ("TASK_RUNNING stored of a new task", (0, StoreRunning(0))),
-            ("the processor of a new task stored", (0, StoreCpu(0, 1))),
-        ],
-    )?;
-    stop(
-        &rt,
-        &[&[
-            (0, TakeTask(0)),
-            (0, TakeQueue(0)),
-            (0, TakeWait(0)),
-            (0, TakeWorks(0)),
-        ]],
-        &[
-            ("a task taken that is held", (1, TakeTask(0))),
-            ("a queue taken that is held", (1, TakeQueue(0))),
-            ("a wait queue taken that is held", (1, TakeWait(0))),
-            ("works taken that are held", (1, TakeWorks(0))),
-            ("a task given by another seat", (1, GiveTask(0, AS_TAKEN))),
-            ("a queue given by another seat", (1, GiveQueue(0, EMPTY))),
-            (
-                "a wait queue given by another seat",
-                (1, GiveWait(0, NOBODY)),
-            ),
-            ("works given by another seat", (1, GiveWorks(0, None))),
-            (
-                "works given that weren't taken so",
-                (0, GiveWorks(0, Some((0, 0)))),
-            ),
-        ],
-    )?;
-    stop(
-        &rt,
-        &[&[(0, TakeTask(0))]],
-        &[("queued without the queue's lock", (0, QueueTask(0, 0)))],
-    )?;
-    stop(
-        &rt,
-        &[&[(0, TakeQueue(0))]],
-        &[("queued without the task's lock", (0, QueueTask(0, 0)))],
-    )?;
-    stop(
-        &rt,
-        &[&START_0],
-        &[("picked without the queue's lock", (0, SetBusy(0, 0, RUN_0)))],
+        "
+        not 0 give_task 0 -- a task given ;
+        not 0 give_queue 0 cur - left - waiting -- a queue given ;
+        not 0 give_wait 0 nobody -- a wait queue given ;
+        not 0 give_works 0 nothing -- works given ;
+        not 0 store_running 0 -- TASK_RUNNING of a new task ;
+        not 0 store_cpu 0 1 -- the processor of a new task ;
+        0 take_task 0 ;
+        not 0 store_rq_on 0 0 -- queued without the lock of the queue ;
+        0 take_queue 0 ;
+        0 take_wait 0 ;
+        0 take_works 0 ;
+        not 1 take_task 0 -- a task taken that is held ;
+        not 1 take_queue 0 -- a queue taken that is held ;
+        not 1 take_wait 0 -- a wait queue taken that is held ;
+        not 1 take_works 0 -- works taken that are held ;
+        not 1 give_task 0 -- a task given by another seat ;
+        not 1 give_queue 0 cur - left - waiting -- a queue given by another seat ;
+        not 1 give_wait 0 nobody -- a wait queue given by another seat ;
+        not 1 give_works 0 nothing -- works given by another seat ;
+        not 0 give_works 0 task 0 seat 0 -- works given that weren't taken so ;
+
+        opening ;
+        0 take_queue 0 ;
+        not 0 store_rq_on 0 0 -- queued without the lock of the task ;
+        not 0 set_busy 0 0 cur 0 left - waiting -- picked before it was queued ;
+
+        opening ;
+        start_0 ;
+        not 0 set_busy 0 0 cur 0 left - waiting -- picked without the lock of the queue ;
+        ",
     )?;
     Ok(())
 }
 
 #[test]
 fn a_task_is_given_as_it_was_taken(rt: HostRuntime) -> Result<(), Fail> {
-    stop(
+    plays(
         &rt,
-        &[&[(0, TakeTask(0))]],
-        &[
-            (
-                "another mask",
-                (
-                    0,
-                    GiveTask(
-                        0,
-                        Given {
-                            cpus: 1,
-                            ..AS_TAKEN
-                        },
-                    ),
-                ),
-            ),
-            (
-                "another number of its mask",
-                (0, GiveTask(0, Given { r: 1, ..AS_TAKEN })),
-            ),
-            (
-                "narrowed",
-                (
-                    0,
-                    GiveTask(
-                        0,
-                        Given {
-                            narrowed: Some(0),
-                            ..AS_TAKEN
-                        },
-                    ),
-                ),
-            ),
-            (
-                "a pending record",
-                (
-                    0,
-                    GiveTask(
-                        0,
-                        Given {
-                            pending: Some(0),
-                            ..AS_TAKEN
-                        },
-                    ),
-                ),
-            ),
-            (
-                "a stop work",
-                (
-                    0,
-                    GiveTask(
-                        0,
-                        Given {
-                            stop_queued: true,
-                            ..AS_TAKEN
-                        },
-                    ),
-                ),
-            ),
-            (
-                "no processor for wake-ups",
-                (
-                    0,
-                    GiveTask(
-                        0,
-                        Given {
-                            wake_cpu: 2,
-                            ..AS_TAKEN
-                        },
-                    ),
-                ),
-            ),
-            (
-                "no processor to go to",
-                (
-                    0,
-                    GiveTask(
-                        0,
-                        Given {
-                            dest: 2,
-                            ..AS_TAKEN
-                        },
-                    ),
-                ),
-            ),
-            (
-                "Stood",
-                (
-                    0,
-                    GiveTask(
-                        0,
-                        Given {
-                            stood: true,
-                            ..AS_TAKEN
-                        },
-                    ),
-                ),
-            ),
-            (
-                "Done",
-                (
-                    0,
-                    GiveTask(
-                        0,
-                        Given {
-                            done: true,
-                            ..AS_TAKEN
-                        },
-                    ),
-                ),
-            ),
-            ("a processor too many", (0, StoreCpu(0, 2))),
-        ],
-    )?;
-    stop(
-        &rt,
-        &[&[(0, TakeTask(0)), (0, StoreRunning(0))]],
-        &[(
-            "never started, and not TASK_NEW",
-            (0, GiveTask(0, AS_TAKEN)),
-        )],
-    )?;
-    stop(
-        &rt,
-        &[&[(0, TakeTask(0)), (0, TakeQueue(1))]],
-        &[(
-            "queued on another processor than its own",
-            (0, QueueTask(1, 0)),
-        )],
+        "
+        0 take_task 0 ;
+        not 0 give_task 0 mask 0 -- another mask ;
+        not 0 give_task 0 r 1 -- another number of its mask ;
+        not 0 give_task 0 narrowed 0 -- narrowed ;
+        not 0 give_task 0 pending 0 -- a pending record ;
+        not 0 give_task 0 stop_queued -- a stop work ;
+        not 0 give_task 0 wake_cpu 2 -- no processor for wake-ups ;
+        not 0 give_task 0 dest 2 -- no processor to go to ;
+        not 0 give_task 0 stood -- Stood ;
+        not 0 give_task 0 done -- Done ;
+        not 0 store_cpu 0 2 -- a processor too many ;
+        0 take_queue 1 ;
+        not 0 store_rq_on 1 0 -- queued on another processor than its own ;
+        0 store_running 0 ;
+        not 0 give_task 0 -- never started, and not TASK_NEW ;
+        ",
     )?;
     Ok(())
 }
 
 #[test]
 fn a_queue_says_what_the_words_say(rt: HostRuntime) -> Result<(), Fail> {
-    stop(
+    plays(
         &rt,
-        &[&START_0[..5]],
-        &[
-            ("a queued task left out", (0, GiveQueue(0, EMPTY))),
-            ("a task that isn't queued", (0, GiveQueue(0, WAIT_01))),
-            (
-                "a task twice",
-                (0, GiveQueue(0, line([Some(0), None], Some(0), None))),
-            ),
-            (
-                "a task too many was left",
-                (0, GiveQueue(0, line([Some(0), None], None, Some(2)))),
-            ),
-            (
-                "moved before its busy word was read",
-                (0, MoveTask(0, 0, WAIT_0)),
-            ),
-        ],
-    )?;
-    stop(
-        &rt,
-        &[&START_0, &[(1, TakeQueue(0))]],
-        &[
-            ("cur changed by another seat", (1, GiveQueue(0, RUN_0))),
-            (
-                "left changed by another seat",
-                (1, GiveQueue(0, LEFT_0_WAIT_0)),
-            ),
-            ("picked by another seat", (1, SetBusy(0, 0, RUN_0))),
-        ],
-    )?;
-    stop(
-        &rt,
-        &[&START_0, &[(0, TakeQueue(0))]],
-        &[("picked and not chosen", (0, SetBusy(0, 0, WAIT_0)))],
-    )?;
-    stop(
-        &rt,
-        &[&START_0, &MOVE_0, &[(0, TakeQueue(0))]],
-        &[("picked from another processor", (0, SetBusy(0, 0, RUN_0)))],
-    )?;
-    stop(
-        &rt,
-        &[
-            &START_0,
-            &PICK_0,
-            &PREPARE_0,
-            &LEAVE_0,
-            &CLEAR_0,
-            &CLAIM_0,
-            &ENQUEUE_0[..5],
-        ],
-        &[(
-            "a task that waits with TASK_WAKING",
-            (1, GiveQueue(0, LEFT_0_WAIT_0)),
-        )],
-    )?;
-    stop(
-        &rt,
-        &[
-            &START_0,
-            &PICK_0,
-            &PREPARE_0,
-            &LEAVE_0,
-            &CLEAR_0,
-            &CLAIM_0,
-            &ENQUEUE_0[..5],
-            &[(1, LoadBusy(0))],
-        ],
-        &[("moved with TASK_WAKING", (1, MoveTask(0, 0, WAIT_0)))],
+        "
+        0 take_task 0 ; 0 store_running 0 ; 0 store_cpu 0 0 ; 0 take_queue 0 ; 0 store_rq_on 0 0 ;
+        not 0 give_queue 0 cur - left - waiting -- a queued task left out ;
+        not 0 give_queue 0 cur - left - waiting 0 1 -- a task that isn't queued ;
+        not 0 give_queue 0 cur 0 left - waiting 0 -- a task twice ;
+        not 0 give_queue 0 cur - left 2 waiting 0 -- a task too many was left ;
+        not 0 store_rq_moving 0 0 cur - left - waiting 0 -- moved before its busy word was read ;
+
+        opening ;
+        start_0 ;
+        1 take_queue 0 ;
+        not 1 give_queue 0 cur 0 left - waiting -- cur changed by another seat ;
+        not 1 give_queue 0 cur - left 0 waiting 0 -- left changed by another seat ;
+        not 1 set_busy 0 0 cur 0 left - waiting -- picked by another seat ;
+
+        opening ;
+        start_0 ;
+        0 take_queue 0 ;
+        not 0 set_busy 0 0 cur - left - waiting 0 -- picked and not chosen ;
+
+        opening ;
+        start_0 ; move_0 ;
+        0 take_queue 0 ;
+        not 0 set_busy 0 0 cur 0 left - waiting -- picked from another processor ;
+
+        opening ;
+        start_0 ; pick_0 ; prepare_0 ; leave_0 ; clear_0 ; claim_0 ;
+        1 load_busy 0 ; 1 load_cpu 0 ; 1 store_cpu 0 0 ; 1 take_queue 0 ; 1 store_rq_on 0 0 ;
+        not 1 give_queue 0 cur - left 0 waiting 0 -- a task that waits with TASK_WAKING ;
+        not 1 store_cpu 0 1 -- placed once it is queued ;
+        1 load_busy 0 ;
+        not 1 store_rq_moving 0 0 cur - left - waiting 0 -- moved with TASK_WAKING ;
+        ",
     )?;
     Ok(())
 }
 
-// The seat of the processor wakes the task itself.
 #[test]
 fn no_task_is_picked_that_may_not_run(rt: HostRuntime) -> Result<(), Fail> {
-    let own_wake = [
-        (0, TakeTask(0)),
-        (0, LoadState(0, NORMAL)),
-        (0, LoadRq(0)),
-        (0, StoreWaking(0)),
-        (0, LoadBusy(0)),
-        (0, TakeQueue(0)),
-        (0, QueueTask(0, 0)),
-    ];
-    stop(
+    // at first the seat of the processor wakes the task itself
+    plays(
         &rt,
-        &[&START_0, &PICK_0, &PREPARE_0, &LEAVE_0, &CLEAR_0, &own_wake],
-        &[
-            ("picked with TASK_WAKING", (0, SetBusy(0, 0, LEFT_0_RUN_0))),
-            ("next with TASK_WAKING", (0, GiveQueue(0, LEFT_0_RUN_0))),
-        ],
-    )?;
-    stop(
-        &rt,
-        &[
-            &START_0,
-            &PICK_0,
-            &PREPARE_0,
-            &LEAVE_0,
-            &CLEAR_0,
-            &[(0, TakeQueue(0))],
-        ],
-        &[("picked asleep", (0, SetBusy(0, 0, LEFT_0_RUN_0)))],
-    )?;
-    stop(
-        &rt,
-        &[&START_0, &START_1, &PICK_0_OF_TWO, &[(0, TakeQueue(0))]],
-        &[
-            (
-                "picked beside the current task",
-                (0, SetBusy(0, 1, line([Some(0), None], Some(1), None))),
-            ),
-            (
-                "the current task is neither kept nor given up",
-                (0, GiveQueue(0, line([Some(0), None], Some(1), None))),
-            ),
-            (
-                "the current task given up and not left",
-                (0, GiveQueue(0, WAIT_01)),
-            ),
-        ],
-    )?;
-    let yielded = [
-        (0, TakeQueue(0)),
-        (0, GiveQueue(0, line([Some(0), Some(1)], None, Some(0)))),
-        (0, TakeQueue(0)),
-    ];
-    stop(
-        &rt,
-        &[&START_0, &START_1, &PICK_0_OF_TWO, &yielded],
-        &[
-            (
-                "picked before the last one is cleared",
-                (0, SetBusy(0, 1, line([Some(0), None], Some(1), Some(0)))),
-            ),
-            ("forgets whom it left", (0, GiveQueue(0, WAIT_01))),
-            ("clears another task", (0, ClearBusy(1))),
-        ],
+        "
+        start_0 ; pick_0 ; prepare_0 ; leave_0 ; clear_0 ;
+        0 take_task 0 ; 0 load_state 0 TASK_NORMAL ; 0 load_rq 0 ; 0 store_waking 0 ;
+        0 load_busy 0 ; 0 take_queue 0 ; 0 store_rq_on 0 0 ;
+        not 0 set_busy 0 0 cur 0 left 0 waiting -- picked with TASK_WAKING ;
+        not 0 give_queue 0 cur 0 left 0 waiting -- next with TASK_WAKING ;
+
+        opening ;
+        start_0 ; pick_0 ; prepare_0 ; leave_0 ; clear_0 ;
+        0 take_queue 0 ;
+        not 0 set_busy 0 0 cur 0 left 0 waiting -- picked asleep ;
+
+        opening ;
+        start_0 ; start_1 ; pick_0_of_two ;
+        0 take_queue 0 ;
+        not 0 set_busy 0 1 cur 1 left - waiting 0 -- picked beside the current task ;
+        not 0 give_queue 0 cur 1 left - waiting 0 -- the current task is neither kept nor given up ;
+        not 0 give_queue 0 cur - left - waiting 0 1 -- the current task given up and not left ;
+        0 give_queue 0 cur - left 0 waiting 0 1 ;
+        0 take_queue 0 ;
+        not 0 set_busy 0 1 cur 1 left 0 waiting 0 -- picked before the last one is cleared ;
+        not 0 give_queue 0 cur - left - waiting 0 1 -- forgets whom it left ;
+        not 0 clear_busy 1 -- clears another task ;
+        ",
     )?;
     Ok(())
 }
 
 #[test]
 fn a_body_is_out_with_its_own_seat(rt: HostRuntime) -> Result<(), Fail> {
-    stop(
+    plays(
         &rt,
-        &[&START_0, &PICK_0],
-        &[
-            ("the body of another seat's task", (1, BodyOut(0))),
-            ("a body home that is home", (0, BodyHome(0, false))),
-            ("cleared while it runs", (0, ClearBusy(0))),
-        ],
-    )?;
-    stop(
-        &rt,
-        &[&START_0, &PICK_0, &[(0, BodyOut(0))]],
-        &[
-            ("a body out twice", (0, BodyOut(0))),
-            ("put home by another seat", (1, BodyHome(0, false))),
-        ],
-    )?;
-    stop(
-        &rt,
-        &[&START_0, &PICK_0, &[(0, BodyOut(0)), (0, TakeQueue(0))]],
-        &[(
-            "given up with its body out",
-            (0, GiveQueue(0, LEFT_0_WAIT_0)),
-        )],
-    )?;
-    stop(
-        &rt,
-        &[
-            &START_0,
-            &PICK_0,
-            &[(0, BodyOut(0)), (0, BodyHome(0, true)), (0, BodyOut(0))],
-        ],
-        &[("a body that has ended goes on", (0, BodyHome(0, false)))],
+        "
+        start_0 ; pick_0 ;
+        not 1 body_out 0 -- the body of the task of another seat ;
+        not 0 body_home 0 goes_on -- a body home that is home ;
+        not 0 clear_busy 0 -- cleared while it runs ;
+        0 body_out 0 ;
+        not 0 body_out 0 -- a body out twice ;
+        not 1 body_home 0 goes_on -- put home by another seat ;
+        0 take_queue 0 ;
+        not 0 give_queue 0 cur - left 0 waiting 0 -- given up with its body out ;
+        0 body_home 0 ended ;
+        0 body_out 0 ;
+        not 0 body_home 0 goes_on -- a body that has ended goes on ;
+        ",
     )?;
     Ok(())
 }
 
 #[test]
 fn a_task_stores_its_own_state(rt: HostRuntime) -> Result<(), Fail> {
-    stop(
+    plays(
         &rt,
-        &[&START_0, &PICK_0],
-        &[
-            ("another seat's task", (1, OwnState(0, SLEEPS))),
-            ("TASK_WAKING", (0, OwnState(0, State::TASK_WAKING))),
-        ],
-    )?;
-    stop(
-        &rt,
-        &[&START_0, &PICK_0, &[(0, TakeTask(0))]],
-        &[("dead before its body has ended", (0, OwnState(0, DEAD)))],
-    )?;
-    stop(
-        &rt,
-        &[
-            &START_0,
-            &PICK_0,
-            &[(0, BodyOut(0)), (0, BodyHome(0, true))],
-        ],
-        &[("dead without its lock", (0, OwnState(0, DEAD)))],
-    )?;
-    stop(
-        &rt,
-        &[&START_0, &PICK_0, &PREPARE_0, &LEAVE_0[..3]],
-        &[
-            ("a state after it left its queue", (0, OwnState(0, RUNS))),
-            ("off its queue twice", (0, DequeueTask(0, 0))),
-        ],
+        "
+        start_0 ; pick_0 ;
+        not 1 own_state 0 TASK_INTERRUPTIBLE -- the task of another seat ;
+        not 0 own_state 0 TASK_WAKING -- TASK_WAKING ;
+        0 take_task 0 ;
+        not 0 own_state 0 TASK_DEAD -- dead before its body has ended ;
+
+        opening ;
+        start_0 ; pick_0 ;
+        0 body_out 0 ; 0 body_home 0 ended ;
+        not 0 own_state 0 TASK_DEAD -- dead without its lock ;
+
+        opening ;
+        start_0 ; pick_0 ; prepare_0 ;
+        0 take_queue 0 ; 0 load_state 0 - ; 0 store_rq_off 0 0 ;
+        not 0 own_state 0 TASK_RUNNING -- a state after it left its queue ;
+        not 0 store_rq_off 0 0 -- off its queue twice ;
+        ",
     )?;
     Ok(())
 }
 
 #[test]
 fn a_task_leaves_by_a_state_that_was_read(rt: HostRuntime) -> Result<(), Fail> {
-    stop(
+    plays(
         &rt,
-        &[&START_0, &PICK_0, &PREPARE_0, &[(0, TakeQueue(0))]],
-        &[("no state read", (0, DequeueTask(0, 0)))],
-    )?;
-    stop(
-        &rt,
-        &[
-            &START_0,
-            &PICK_0,
-            &[(0, TakeQueue(0)), (0, LoadState(0, None))],
-        ],
-        &[("TASK_RUNNING read", (0, DequeueTask(0, 0)))],
-    )?;
-    stop(
-        &rt,
-        &[
-            &START_0,
-            &PICK_0,
-            &PREPARE_0,
-            &[
-                (0, TakeQueue(0)),
-                (0, LoadState(0, None)),
-                (0, OwnState(0, RUNS)),
-            ],
-        ],
-        &[("a state stored since", (0, DequeueTask(0, 0)))],
-    )?;
-    stop(
-        &rt,
-        &[
-            &START_0,
-            &START_1,
-            &PICK_0_OF_TWO,
-            &PREPARE_0,
-            &[(0, TakeQueue(0)), (0, LoadState(0, None))],
-        ],
-        &[("another task by its state", (0, DequeueTask(0, 1)))],
+        "
+        start_0 ; pick_0 ; prepare_0 ;
+        0 take_queue 0 ;
+        not 0 store_rq_off 0 0 -- no state read ;
+        0 load_state 0 - ;
+        0 own_state 0 TASK_RUNNING ;
+        not 0 store_rq_off 0 0 -- a state stored since ;
+
+        opening ;
+        start_0 ; pick_0 ;
+        0 take_queue 0 ; 0 load_state 0 - ;
+        not 0 store_rq_off 0 0 -- TASK_RUNNING read ;
+
+        opening ;
+        start_0 ; start_1 ; pick_0_of_two ; prepare_0 ;
+        0 take_queue 0 ; 0 load_state 0 - ;
+        not 0 store_rq_off 0 1 -- another task by its state ;
+        ",
     )?;
     Ok(())
 }
 
 #[test]
 fn a_waker_claims_what_it_read_as_off(rt: HostRuntime) -> Result<(), Fail> {
-    stop(
+    plays(
         &rt,
-        &[&START_0, &PICK_0, &PREPARE_0, &LEAVE_0, &CLAIM_0[..2]],
-        &[("on_rq not read", (1, StoreWaking(0)))],
-    )?;
-    stop(
-        &rt,
-        &[
-            &START_0,
-            &PICK_0,
-            &PREPARE_0,
-            &LEAVE_0,
-            &[(1, TakeTask(0)), (1, LoadState(0, None)), (1, LoadRq(0))],
-        ],
-        &[("no state that matches a mask", (1, StoreWaking(0)))],
-    )?;
-    stop(
-        &rt,
-        &[&START_0, &PICK_0, &PREPARE_0, &CLAIM_0[..3]],
-        &[("read as queued", (1, StoreWaking(0)))],
-    )?;
-    stop(
-        &rt,
-        &[
-            &START_0,
-            &PICK_0,
-            &PREPARE_0,
-            &LEAVE_0,
-            &CLAIM_0[..3],
-            &[(1, GiveTask(0, AS_TAKEN))],
-        ],
-        &[("the lock was given", (1, StoreWaking(0)))],
-    )?;
-    stop(
-        &rt,
-        &[&START_0, &PICK_0, &PREPARE_0, &LEAVE_0, &CLAIM_0],
-        &[
-            ("claimed twice", (1, StoreWaking(0))),
-            ("given on its way", (1, GiveTask(0, AS_TAKEN))),
-            ("placed before it is clear", (1, StoreCpu(0, 1))),
-        ],
-    )?;
-    stop(
-        &rt,
-        &[
-            &START_0,
-            &PICK_0,
-            &PREPARE_0,
-            &LEAVE_0,
-            &CLAIM_0,
-            &[(1, LoadBusy(0)), (1, TakeQueue(0))],
-        ],
-        &[("queued while it is busy", (1, QueueTask(0, 0)))],
-    )?;
-    stop(
-        &rt,
-        &[
-            &START_0,
-            &PICK_0,
-            &PREPARE_0,
-            &LEAVE_0,
-            &CLEAR_0,
-            &[(1, TakeTask(0)), (1, LoadBusy(0)), (1, TakeQueue(0))],
-        ],
-        &[
-            ("queued without being claimed", (1, QueueTask(0, 0))),
-            ("placed without being claimed", (1, StoreCpu(0, 1))),
-        ],
+        "
+        start_0 ; pick_0 ; prepare_0 ; leave_0 ;
+        1 take_task 0 ; 1 load_state 0 TASK_NORMAL ;
+        not 1 store_waking 0 -- on_rq not read ;
+        1 load_rq 0 ;
+        1 give_task 0 ;
+        not 1 store_waking 0 -- the lock was given ;
+
+        opening ;
+        start_0 ; pick_0 ; prepare_0 ; leave_0 ;
+        1 take_task 0 ; 1 load_state 0 - ; 1 load_rq 0 ;
+        not 1 store_waking 0 -- no state that matches a mask ;
+
+        opening ;
+        start_0 ; pick_0 ; prepare_0 ;
+        1 take_task 0 ; 1 load_state 0 TASK_NORMAL ; 1 load_rq 0 ;
+        not 1 store_waking 0 -- read as queued ;
+
+        opening ;
+        start_0 ; pick_0 ; prepare_0 ; leave_0 ; claim_0 ;
+        not 1 store_waking 0 -- claimed twice ;
+        not 1 give_task 0 -- given on its way ;
+        not 1 store_cpu 0 1 -- placed before it is clear ;
+        1 load_busy 0 ; 1 take_queue 0 ;
+        not 1 store_rq_on 0 0 -- queued while it is busy ;
+
+        opening ;
+        start_0 ; pick_0 ; prepare_0 ; leave_0 ; clear_0 ;
+        1 take_task 0 ; 1 load_busy 0 ; 1 take_queue 0 ;
+        not 1 store_rq_on 0 0 -- queued without being claimed ;
+        not 1 store_cpu 0 1 -- placed without being claimed ;
+        ",
     )?;
     Ok(())
 }
 
 #[test]
 fn a_waker_stores_running_under_both_locks(rt: HostRuntime) -> Result<(), Fail> {
-    stop(
+    plays(
         &rt,
-        &[
-            &START_0,
-            &PICK_0,
-            &PREPARE_0,
-            &[(1, TakeTask(0)), (1, LoadState(0, NORMAL))],
-        ],
-        &[("without the queue's lock", (1, StoreRunning(0)))],
+        "
+        start_0 ; pick_0 ; prepare_0 ;
+        1 take_task 0 ; 1 load_state 0 TASK_NORMAL ;
+        not 1 store_running 0 -- without the lock of the queue ;
+        1 give_task 0 ; 1 take_queue 0 ;
+        not 1 store_running 0 -- without the lock of the task ;
+
+        opening ;
+        start_0 ; pick_0 ; prepare_0 ;
+        1 take_task 0 ; 1 take_queue 0 ;
+        not 1 store_running 0 -- without a state that matches ;
+
+        opening ;
+        start_0 ; pick_0 ; prepare_0 ;
+        0 take_task 0 ; 0 load_state 0 TASK_NORMAL ; 0 take_queue 0 ;
+        not 0 store_running 0 -- of its own current task ;
+
+        opening ;
+        start_0 ; pick_0 ; prepare_0 ; leave_0 ;
+        1 take_task 0 ; 1 load_state 0 TASK_NORMAL ; 1 take_queue 0 ;
+        not 1 store_running 0 -- of a task that left its queue ;
+        ",
     )?;
-    stop(
+    Ok(())
+}
+
+#[test]
+fn a_seat_stores_running_of_what_it_queued(rt: HostRuntime) -> Result<(), Fail> {
+    plays(
         &rt,
-        &[
-            &START_0,
-            &PICK_0,
-            &PREPARE_0,
-            &[(1, TakeTask(0)), (1, TakeQueue(0))],
-        ],
-        &[("without a state that matches", (1, StoreRunning(0)))],
-    )?;
-    stop(
-        &rt,
-        &[
-            &START_0,
-            &PICK_0,
-            &PREPARE_0,
-            &[
-                (1, TakeTask(0)),
-                (1, LoadState(0, NORMAL)),
-                (1, GiveTask(0, AS_TAKEN)),
-                (1, TakeQueue(0)),
-            ],
-        ],
-        &[("without the task's lock", (1, StoreRunning(0)))],
-    )?;
-    stop(
-        &rt,
-        &[
-            &START_0,
-            &PICK_0,
-            &PREPARE_0,
-            &[
-                (0, TakeTask(0)),
-                (0, LoadState(0, NORMAL)),
-                (0, TakeQueue(0)),
-            ],
-        ],
-        &[("of its own current task", (0, StoreRunning(0)))],
+        "
+        start_0 ;
+        not 0 store_running 0 -- once the queue is given ;
+        1 take_queue 0 ;
+        not 1 store_running 0 -- queued by another seat ;
+
+        opening ;
+        0 take_task 0 ; 0 store_running 0 ; 0 take_queue 0 ; 0 store_rq_on 0 0 ;
+        0 load_busy 0 ; 0 store_rq_moving 0 0 cur - left - waiting 0 ;
+        not 0 store_running 0 -- taken out since ;
+
+        opening ;
+        0 take_task 0 ; 0 store_running 0 ; 0 take_queue 0 ; 0 store_rq_on 0 0 ;
+        0 set_busy 0 0 cur 0 left - waiting ;
+        not 0 store_running 0 -- picked since ;
+        ",
     )?;
     Ok(())
 }
 
 #[test]
 fn a_task_is_moved_that_waits(rt: HostRuntime) -> Result<(), Fail> {
-    let read = [(2, TakeTask(0)), (2, TakeQueue(0)), (2, LoadBusy(0))];
-    stop(
+    plays(
         &rt,
-        &[&START_0, &read],
-        &[("isn't among those that wait", (2, MoveTask(0, 0, EMPTY)))],
-    )?;
-    stop(
-        &rt,
-        &[&START_0, &read, &[(2, MoveTask(0, 0, WAIT_0))]],
-        &[
-            ("moved twice", (2, MoveTask(0, 0, WAIT_0))),
-            ("given on its way", (2, GiveTask(0, AS_TAKEN))),
-        ],
-    )?;
-    stop(
-        &rt,
-        &[&START_0, &[(2, TakeQueue(0)), (2, LoadBusy(0))]],
-        &[("without its lock", (2, MoveTask(0, 0, WAIT_0)))],
-    )?;
-    stop(
-        &rt,
-        &[
-            &START_0,
-            &[(2, TakeTask(0)), (2, TakeQueue(1)), (2, LoadBusy(0))],
-        ],
-        &[("from another queue", (2, MoveTask(1, 0, WAIT_0)))],
-    )?;
-    stop(
-        &rt,
-        &[
-            &START_0,
-            &[
-                (0, TakeTask(0)),
-                (0, TakeQueue(0)),
-                (0, LoadBusy(0)),
-                (0, SetBusy(0, 0, RUN_0)),
-            ],
-        ],
-        &[("its own current task", (0, MoveTask(0, 0, WAIT_0)))],
+        "
+        start_0 ;
+        2 take_task 0 ; 2 load_busy 0 ;
+        not 2 store_rq_moving 0 0 cur - left - waiting 0 -- without the lock of the queue ;
+
+        opening ;
+        start_0 ;
+        2 take_task 0 ; 2 take_queue 0 ; 2 load_busy 0 ;
+        not 2 store_rq_moving 0 0 cur - left - waiting -- isn't among those that wait ;
+        2 store_rq_moving 0 0 cur - left - waiting 0 ;
+        not 2 store_rq_moving 0 0 cur - left - waiting 0 -- moved twice ;
+        not 2 give_task 0 -- given on its way ;
+
+        opening ;
+        start_0 ;
+        2 take_queue 0 ; 2 load_busy 0 ;
+        not 2 store_rq_moving 0 0 cur - left - waiting 0 -- without its lock ;
+
+        opening ;
+        start_0 ;
+        2 take_task 0 ; 2 take_queue 1 ; 2 load_busy 0 ;
+        not 2 store_rq_moving 1 0 cur - left - waiting 0 -- from another queue ;
+
+        opening ;
+        start_0 ;
+        0 take_task 0 ; 0 take_queue 0 ; 0 load_busy 0 ;
+        0 set_busy 0 0 cur 0 left - waiting ;
+        not 0 store_rq_moving 0 0 cur - left - waiting 0 -- its own current task ;
+        ",
     )?;
     Ok(())
 }
 
 #[test]
 fn entries_are_put_in_and_taken_out_by_those_who_may(rt: HostRuntime) -> Result<(), Fail> {
-    stop(
+    plays(
         &rt,
-        &[&START_0, &PICK_0, &PREPARE_0[..2]],
-        &[
-            (
-                "two entries of a task",
-                (0, GiveWait(0, [Some((0, false)), Some((0, true))])),
-            ),
-            (
-                "an entry of another task",
-                (0, GiveWait(0, [Some((1, false)), None])),
-            ),
-        ],
-    )?;
-    stop(
-        &rt,
-        &[
-            &START_0,
-            &PICK_0,
-            &[(0, OwnState(0, SLEEPS)), (0, TakeWait(0))],
-        ],
-        &[(
-            "no state stored under this lock",
-            (0, GiveWait(0, SLEEPER_0)),
-        )],
-    )?;
-    stop(
-        &rt,
-        &[&START_0, &PICK_0, &PREPARE_0, &[(1, TakeWait(0))]],
-        &[
-            (
-                "an entry of a task that wasn't passed",
-                (1, GiveWait(0, NOBODY)),
-            ),
-            ("another sort of entry", (1, GiveWait(0, EXCLUSIVE_0))),
-        ],
-    )?;
-    stop(
-        &rt,
-        &[
-            &START_0,
-            &PICK_0,
-            &PREPARE_0,
-            &[(1, TakeWait(0)), (1, LoadState(0, None))],
-        ],
-        &[(
-            "an entry of a task that was read asleep",
-            (1, GiveWait(0, NOBODY)),
-        )],
+        "
+        start_0 ; pick_0 ;
+        0 take_wait 0 ; 0 own_state 0 TASK_INTERRUPTIBLE ;
+        not 0 give_wait 0 plain 0 exclusive 0 -- two entries of a task ;
+        not 0 give_wait 0 plain 1 -- an entry of another task ;
+
+        opening ;
+        start_0 ; pick_0 ;
+        0 own_state 0 TASK_INTERRUPTIBLE ; 0 take_wait 0 ;
+        not 0 give_wait 0 plain 0 -- no state stored under this lock ;
+
+        opening ;
+        start_0 ; pick_0 ; prepare_0 ;
+        1 take_wait 0 ;
+        not 1 give_wait 0 nobody -- an entry of a task that wasn't passed ;
+        not 1 give_wait 0 exclusive 0 -- another sort of entry ;
+        1 load_state 0 - ;
+        not 1 give_wait 0 nobody -- an entry of a task that was read asleep ;
+        ",
     )?;
     Ok(())
 }
