@@ -12,6 +12,7 @@ pub mod MovingSteps
 pub mod NumbersKept
 mod OwnRead
 pub mod Puts
+pub mod QueuedKept
 mod Rows
 pub mod Runs
 mod Shown

@@ -336,6 +336,20 @@ abbrev pub has_dropped : List Rec → ℕ → ℕ → Bool
 has_dropped [] = λ c t. false
 has_dropped (r ∷ rs) = dropped_after r (has_dropped rs)
 
+-- `on_rq` of t was read as 1 since the locks of t and of the queue were taken, and t neither left a queue nor moved since
+abbrev pub queued_after : Rec → (ℕ → ℕ → Bool) → ℕ → ℕ → Bool
+queued_after (Took t (val.Task v)) h = put_column h t false
+queued_after (Took c (val.Queue v)) h = put_row h c false
+queued_after (LoadedRq t on m) h = put_column_if (on == 1) t true h
+queued_after (Dequeued t c m) h = put_column h t false
+queued_after (Moved t c m) h = put_column h t false
+queued_after (StoredCpu t c) h = put_column h t false
+queued_after r h = h
+
+abbrev pub saw_queued : List Rec → ℕ → ℕ → Bool
+saw_queued [] = λ c t. false
+saw_queued (r ∷ rs) = queued_after r (saw_queued rs)
+
 -- Of each condition, and task, since the lock of its wait queue was taken
 
 abbrev pub passed_after : Rec → (ℕ → ℕ → Bool) → ℕ → ℕ → Bool
