@@ -21,10 +21,10 @@ use Rattle.word_steps.specs.declared.val.Val.TheVariants as val
 pub current_start : (words : ℕ → ℕ → ℕ) → CurrentHolds words (λ s. [])
 current_start words s t e stays = absurd (grind (arith, stays))
 
-same_task : (t u : ℕ) → ◌≡◌ {A = Option ℕ} (Some t) (Some u) → t ≡ u
+pub same_task : (t u : ℕ) → ◌≡◌ {A = Option ℕ} (Some t) (Some u) → t ≡ u
 same_task t u e = grind (arith, e)
 
-unless : (b : Bool) (h : Option ℕ) (t : ℕ) → (if b then None else h) ≡ Some t → h ≡ Some t
+pub unless : (b : Bool) (h : Option ℕ) (t : ℕ) → (if b then None else h) ≡ Some t → h ≡ Some t
 unless true h t e = absurd (grind (arith, e))
 unless false h t e = e
 

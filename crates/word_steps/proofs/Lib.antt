@@ -1,5 +1,6 @@
 pub mod Conditions
 pub mod CurrentKept
+pub mod EndedKept
 pub mod FirstCore
 mod Flats
 pub mod FlatWords

@@ -117,6 +117,17 @@ abbrev pub body_held : List Rec → Option ℕ
 body_held [] = None
 body_held (r ∷ rs) = body_after r (body_held rs)
 
+-- whether the body of its current task has ended, as the seat took it out or put it home since the pick
+abbrev pub ended_after : Rec → (ℕ → Option Bool) → ℕ → Option Bool
+ended_after (OutBody t ended) h = put h t (Some ended)
+ended_after (HomeBody t ended) h = put h t (Some ended)
+ended_after (SetBusy t c n) h = put h t None
+ended_after r h = h
+
+abbrev pub ended_known : List Rec → ℕ → Option Bool
+ended_known [] = λ t. None
+ended_known (r ∷ rs) = ended_after r (ended_known rs)
+
 -- Of the seat s itself
 
 -- the current task
