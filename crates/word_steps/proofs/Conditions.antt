@@ -118,9 +118,9 @@ module _ (shape : Shape) (words : ℕ → ℕ → ℕ) (homes : Homes) (traces :
       off_or_not : (t : ℕ) (v : TaskVal) → task_held (traces s) t ≡ Some v → has_stored (traces s) t ≡ false
           → ((core_of shape words homes traces).on_rq t ≢ 0) ⊎ ((core_of shape words homes traces).state t ≢ waking)
       off_or_not t v out unstored = elim (cases_eq (words t RQ % 4) 0) [
-            inl e ↦ inr (λ w. absurd (grind (arith, holds.positions.waking_stored s t (task_locked t v out) e w, unstored)))
-          | inr ne ↦ inl ne
-          ]
+        | inl e ↦ inr (λ w. absurd (grind (arith, holds.positions.waking_stored s t (task_locked t v out) e w, unstored)))
+        | inr ne ↦ inl ne
+      ]
 
   pub fresh_unstored : (t : ℕ) (v : TaskVal) → t < shape.tasks → task_held (traces s) t ≡ Some v → has_stored (traces s) t ≡ false → words t RQ / 4 ≡ 0
       → (core_of shape words homes traces).state t ≡ fresh
@@ -133,22 +133,24 @@ module _ (shape : Shape) (words : ℕ → ℕ → ℕ) (homes : Homes) (traces :
       claims : (words t RQ % 4 ≡ 0) → (o : ℕ) → holder (words t LOCK) ≡ Some o → is_claimed (traces o) t ≡ true → ⊥
       claims e o locked claimed = let same : o ≡ s = same_value (holder (words t LOCK)) o s locked (task_locked t v out) in
           absurd (grind (arith, subst (λ z. is_claimed (traces z) t ≡ true) same claimed, unclaimed))
+
       off : words t RQ % 4 ≡ 0 → (core_of shape words homes traces).state t ≡ waking → words t RQ / 4 ≢ 0 → ⊥
       off e w started = elim (holds.places.off t started e) [
-            inl asleep ↦ absurd (grind (arith, subst (λ z. is_sleep z ≡ true) w asleep))
-          | inr rest ↦ elim rest [
-              inl is_dead ↦ absurd (grind (arith, ap (λ z. z.0) (sym is_dead ∙ w)))
-            | inr claimed ↦ claims e claimed.1.0 claimed.1.1 claimed.1.2
-            ]
-          ]
+        | inl asleep ↦ absurd (grind (arith, subst (λ z. is_sleep z ≡ true) w asleep))
+        | inr rest ↦ elim rest [
+          | inl is_dead ↦ absurd (grind (arith, ap (λ z. z.0) (sym is_dead ∙ w)))
+          | inr claimed ↦ claims e claimed.1.0 claimed.1.1 claimed.1.2
+        ]
+      ]
+
       awaits : words t RQ % 4 ≡ 0 → (core_of shape words homes traces).state t ≡ waking → ⊥
       awaits e w = elim (cases_eq (words t RQ / 4) 0) [
-            inl new ↦ elim (subst (λ z. IsRunnable z) w (holds.places.new_states.runnable t new)) [
-              inl h ↦ absurd (omega (arith, h))
-            | inr h ↦ absurd (omega (arith, h))
-            ]
-          | inr started ↦ off e w started
-          ]
+        | inl new ↦ elim (subst (λ z. IsRunnable z) w (holds.places.new_states.runnable t new)) [
+          | inl h ↦ absurd (omega (arith, h))
+          | inr h ↦ absurd (omega (arith, h))
+        ]
+        | inr started ↦ off e w started
+      ]
 
   -- the body of the current task, which the seat doesn't have out
   pub body_out_may : (t : ℕ) → t < shape.tasks → current_task s (traces s) ≡ Some t → body_held (traces s) ≡ None → MayBodyOut (core_of shape words homes traces) s t
@@ -234,9 +236,9 @@ module _ (shape : Shape) (words : ℕ → ℕ → ℕ) (homes : Homes) (traces :
   waits : (c t : ℕ) (q : Queue) → queue_held (traces s) c ≡ Some q → words t RQ % 4 ≡ 1 → words t CPU ≡ c → has_added (traces s) c t ≡ false
       → ((o : ℕ) → current_task o (traces o) ≢ Some t) → IsRunnable ((core_of shape words homes traces).state t)
   waits c t q queue queued here unadded nobody = elim (holds.places.waiting t queued nobody) [
-        inl h ↦ h
-      | inr w ↦ absurd (grind (arith, unadded, by_holder w.1.0 w.1.1 w.1.2))
-      ]
+    | inl h ↦ h
+    | inr w ↦ absurd (grind (arith, unadded, by_holder w.1.0 w.1.1 w.1.2))
+  ]
     where
       by_holder : (o : ℕ) → holder (words (words t CPU) QUEUE_LOCK) ≡ Some o → has_added (traces o) (words t CPU) t ≡ true → has_added (traces s) c t ≡ true
       by_holder o locked added =
@@ -266,11 +268,12 @@ module _ (shape : Shape) (words : ℕ → ℕ → ℕ) (homes : Homes) (traces :
     where
       here : words t CPU ≡ c
       here = holds.positions.cpu s t c (task_locked t v out) read
+
       nobody : (o : ℕ) → current_task o (traces o) ≢ Some t
       nobody o e = elim (holds.positions.idle.read s c t (queue_locked c taken queue) idle queued here) [
-            inl clear ↦ absurd (grind (arith, clear, holds.busy.runner.current_busy o t e))
-          | inr mine ↦ other mine
-          ]
+        | inl clear ↦ absurd (grind (arith, clear, holds.busy.runner.current_busy o t e))
+        | inr mine ↦ other mine
+      ]
 
   -- a task that waited in the seat's own queue, as it was taken, and is its next
   pub set_busy_may : (t : ℕ) (taken val : Queue) → t < shape.tasks → s < shape.cpus → queue_held (traces s) s ≡ Some taken → times taken t ≡ 1 → val.cur ≡ Some t
@@ -295,16 +298,20 @@ module _ (shape : Shape) (words : ℕ → ℕ → ℕ) (homes : Homes) (traces :
     where
       stands : (words t RQ % 4 ≡ 1) × (words t CPU ≡ s)
       stands = at_once (words t RQ % 4) (words t CPU) s (times taken t) once (holds.queues.left s s taken t queue unadded undropped)
+
       queued : words t RQ % 4 ≡ 1
       queued = stands.0
+
       here : words t CPU ≡ s
       here = stands.1
+
       nobody : (o : ℕ) → current_task o (traces o) ≢ Some t
       nobody o e = let same : o ≡ s = sym (holds.busy.runner.current_here o t e) ∙ here in
           absurd (grind (arith, subst (λ z. current_task z (traces z) ≡ Some t) same e, none))
+
       idle : (is_set (words t BUSY) ≡ true) ⊎ (is_set (words t BUSY) ≡ false) → is_set (words t BUSY) ≡ false
       idle (inl busy) = elim (holds.busy.runner.busy_is t busy) [
-            inl runs ↦ absurd (grind (arith, subst (λ z. current_task z (traces z) ≡ Some t) here runs, none))
-          | inr left ↦ absurd (grind (arith, subst (λ z. task_to_clear z (traces z) ≡ Some t) here left, clear))
-          ]
+        | inl runs ↦ absurd (grind (arith, subst (λ z. current_task z (traces z) ≡ Some t) here runs, none))
+        | inr left ↦ absurd (grind (arith, subst (λ z. task_to_clear z (traces z) ≡ Some t) here left, clear))
+      ]
       idle (inr h) = h

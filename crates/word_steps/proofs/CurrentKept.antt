@@ -21,10 +21,10 @@ use Rattle.word_steps.specs.declared.val.Val.TheVariants as val
 pub current_start : (words : ℕ → ℕ → ℕ) → CurrentHolds words (λ s. [])
 current_start words s t e stays = absurd (grind (arith, stays))
 
-same_task : (t u : ℕ) → ◌≡◌ {A = Option ℕ} (Some t) (Some u) → t ≡ u
+pub same_task : (t u : ℕ) → ◌≡◌ {A = Option ℕ} (Some t) (Some u) → t ≡ u
 same_task t u e = grind (arith, e)
 
-unless : (b : Bool) (h : Option ℕ) (t : ℕ) → (if b then None else h) ≡ Some t → h ≡ Some t
+pub unless : (b : Bool) (h : Option ℕ) (t : ℕ) → (if b then None else h) ≡ Some t → h ≡ Some t
 unless true h t e = absurd (grind (arith, e))
 unless false h t e = e
 
@@ -36,10 +36,10 @@ module _ (words : ℕ → ℕ → ℕ) (traces : ℕ → List Rec) (s : ℕ) (ho
       → ((j t : ℕ) → current_task j (traces j) ≡ Some t → (j ≡ s → stays_queued (r ∷ traces s) ≡ true) → words t RQ % 4 ≡ 1 → words' t RQ % 4 ≡ 1)
       → CurrentHolds words' (put traces s (r ∷ traces s))
   current_step words' r current stays rq j t is on = elim (cases_eq j s) [
-        inl e ↦ mine e
-      | inr ne ↦ let is' = sym (fold_else (current_task j) traces s r j ne) ∙ is in
-          rq j t is' (λ e. absurd (ne e)) (holds j t is' (sym (fold_else stays_queued traces s r j ne) ∙ on))
-      ]
+    | inl e ↦ mine e
+    | inr ne ↦ let is' = sym (fold_else (current_task j) traces s r j ne) ∙ is in
+        rq j t is' (λ e. absurd (ne e)) (holds j t is' (sym (fold_else stays_queued traces s r j ne) ∙ on))
+  ]
     where
       mine : j ≡ s → words' t RQ % 4 ≡ 1
       mine e =
@@ -52,7 +52,7 @@ module _ (words : ℕ → ℕ → ℕ) (traces : ℕ → List Rec) (s : ℕ) (ho
       → stays_queued (r ∷ traces s) ≡ stays_queued (traces s) → CurrentHolds (put_at words n c x) (put traces s (r ∷ traces s))
   current_quiet n c x r beside current stays =
       current_step (put_at words n c x) r (λ j t e. sym (current j) ∙ e) (λ e. sym stays ∙ e)
-        (λ j t e q on. ap (λ (z : ℕ). z % 4) (word_beside words n c x t RQ beside) ∙ on)
+      (λ j t e q on. ap (λ (z : ℕ). z % 4) (word_beside words n c x t RQ beside) ∙ on)
 
   pub current_still : (r : Rec) → ((j : ℕ) → current_task j (r ∷ traces s) ≡ current_task j (traces s))
       → stays_queued (r ∷ traces s) ≡ stays_queued (traces s) → CurrentHolds words (put traces s (r ∷ traces s))
@@ -62,14 +62,14 @@ module _ (words : ℕ → ℕ → ℕ) (traces : ℕ → List Rec) (s : ℕ) (ho
       → CurrentHolds (put_at words n c x) (put traces s (Gave n (val.Queue taken) (val.Queue given) ∷ traces s))
   give_queue_current n c x taken given beside =
       current_step (put_at words n c x) (Gave n (val.Queue taken) (val.Queue given))
-        (λ j t e. unless (gives_up j n given) (current_task j (traces s)) t e) (λ e. e)
-        (λ j t e q on. ap (λ (z : ℕ). z % 4) (word_beside words n c x t RQ beside) ∙ on)
+      (λ j t e. unless (gives_up j n given) (current_task j (traces s)) t e) (λ e. e)
+      (λ j t e q on. ap (λ (z : ℕ). z % 4) (word_beside words n c x t RQ beside) ∙ on)
 
   pub queue_task_current : (c t on m x : ℕ) → x % 4 ≡ 1 → CurrentHolds (put_at words t RQ x) (put traces s (Queued t c on m ∷ traces s))
   queue_task_current c t on m x on_is =
       current_step (put_at words t RQ x) (Queued t c on m) (λ j u e. e) (λ e. e) (λ j u e q was. elim (cases_eq u t) [
-        inl same ↦ ap (λ (k : ℕ). put_at words t RQ x k RQ % 4) same ∙ ap (λ (z : ℕ). z % 4) (word_here words t RQ x) ∙ on_is
-      | inr ne ↦ ap (λ (z : ℕ). z % 4) (word_apart words t RQ x u RQ ne) ∙ was
+        | inl same ↦ ap (λ (k : ℕ). put_at words t RQ x k RQ % 4) same ∙ ap (λ (z : ℕ). z % 4) (word_here words t RQ x) ∙ on_is
+        | inr ne ↦ ap (λ (z : ℕ). z % 4) (word_apart words t RQ x u RQ ne) ∙ was
       ])
 
   -- the word that is there, of a task that no seat has as current
@@ -81,7 +81,7 @@ module _ (words : ℕ → ℕ → ℕ) (traces : ℕ → List Rec) (s : ℕ) (ho
         → CurrentHolds (put_at words t RQ x) (put traces s (Dequeued t c m ∷ traces s))
     dequeue_task_current c t m x may =
         current_step (put_at words t RQ x) (Dequeued t c m) (λ j u e. e) (λ e. absurd (grind (arith, e)))
-          (λ j u e mine was. off_current t x j u e (λ same. absurd (grind (arith, mine (theirs j u e same)))) was)
+        (λ j u e mine was. off_current t x j u e (λ same. absurd (grind (arith, mine (theirs j u e same)))) was)
       where
         theirs : (j u : ℕ) → current_task j (traces j) ≡ Some u → u ≡ t → j ≡ s
         theirs j u e same =
@@ -91,20 +91,20 @@ module _ (words : ℕ → ℕ → ℕ) (traces : ℕ → List Rec) (s : ℕ) (ho
         → CurrentHolds (put_at words t RQ x) (put traces s (Moved t c m ∷ traces s))
     move_task_current c t m x queue may =
         current_step (put_at words t RQ x) (Moved t c m) (λ j u e. e) (λ e. e)
-          (λ j u e q was. off_current t x j u e (λ same. nobody j (subst (λ (k : ℕ). current_task j (traces j) ≡ Some k) same e)) was)
+        (λ j u e q was. off_current t x j u e (λ same. nobody j (subst (λ (k : ℕ). current_task j (traces j) ≡ Some k) same e)) was)
       where
         nobody : (j : ℕ) → current_task j (traces j) ≡ Some t → ⊥
         nobody j e = elim (core.positions.idle.read s c t may.locked may.idle may.queued may.here) [
-              inl clear ↦ absurd (grind (arith, clear, core.busy.runner.current_busy j t e))
-            | inr own ↦ may.other own
-            ]
+          | inl clear ↦ absurd (grind (arith, clear, core.busy.runner.current_busy j t e))
+          | inr own ↦ may.other own
+        ]
 
     pub set_busy_current : (c t n x : ℕ) (queue : Queue) → MaySetBusy (core_of shape words homes traces) s c t queue
         → CurrentHolds (put_at words t BUSY x) (put traces s (SetBusy t c n ∷ traces s))
     set_busy_current c t n x queue may j u is on = ap (λ (z : ℕ). z % 4) (word_beside words t BUSY x u RQ (λ q. omega (arith, q))) ∙ elim (cases_eq j s) [
-          inl e ↦ picked (sym (fold_here (current_task j) traces s (SetBusy t c n) j e) ∙ is)
-        | inr ne ↦ holds j u (sym (fold_else (current_task j) traces s (SetBusy t c n) j ne) ∙ is) (sym (fold_else stays_queued traces s (SetBusy t c n) j ne) ∙ on)
-        ]
+      | inl e ↦ picked (sym (fold_here (current_task j) traces s (SetBusy t c n) j e) ∙ is)
+      | inr ne ↦ holds j u (sym (fold_else (current_task j) traces s (SetBusy t c n) j ne) ∙ is) (sym (fold_else stays_queued traces s (SetBusy t c n) j ne) ∙ on)
+    ]
       where
         picked : ◌≡◌ {A = Option ℕ} (Some t) (Some u) → words u RQ % 4 ≡ 1
         picked e = subst (λ (k : ℕ). words k RQ % 4 ≡ 1) (same_task t u e) may.queued

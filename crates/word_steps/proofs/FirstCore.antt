@@ -30,9 +30,9 @@ column_past f d (suc n) x (suc k) h = column_past f d n x k (omega (arith, h))
 -- what depends on whether the row is there is a column of rows that are all alike
 column_is : {A B : Type 0} (g : Bool → B) (f : A → B) (d : B) (n : ℕ) (x : A) (k : ℕ) → g true ≡ f x → g false ≡ d → g (nat_lt k n) ≡ column f d (replicate n x) k
 column_is g f d n x k a b = elim (cases_lt k n) [
-      inl h ↦ ap g (lt-ltb k n h) ∙ a ∙ sym (word_there f d n x k h)
-    | inr h ↦ ap g (le-ltb k n h) ∙ b ∙ column_past f d n x k h
-    ]
+  | inl h ↦ ap g (lt-ltb k n h) ∙ a ∙ sym (word_there f d n x k h)
+  | inr h ↦ ap g (le-ltb k n h) ∙ b ∙ column_past f d n x k h
+]
 
 abbrev opening : Shape → CpuMask → Table
 opening shape mask = table_of shape (replicate shape.tasks (first_task mask)) (replicate shape.cpus first_cpu) (replicate shape.conds first_cond) (replicate (shape.cpus + shape.agents) first_seat)

@@ -17,9 +17,9 @@ past words n c h = rw (le-ltb c 64 h)
 -- another word
 other : (words : List ℕ) (n c x m d : ℕ) → c < 64 → 64 * m + d ≢ 64 * n + c → words_of (set words (64 * n + c) x) m d ≡ words_of words m d
 other words n c x m d low ne = elim (cases_lt d 64) [
-      inl h ↦ within (set words (64 * n + c) x) m d h ∙ get_or-set_other words (64 * n + c) (64 * m + d) x 0 ne ∙ sym (within words m d h)
-    | inr h ↦ past (set words (64 * n + c) x) m d h ∙ sym (past words m d h)
-    ]
+  | inl h ↦ within (set words (64 * n + c) x) m d h ∙ get_or-set_other words (64 * n + c) (64 * m + d) x 0 ne ∙ sym (within words m d h)
+  | inr h ↦ past (set words (64 * n + c) x) m d h ∙ sym (past words m d h)
+]
 
 -- a column past the last shows nothing
 other_column : (words : List ℕ) (n c x d : ℕ) → c < 64 → d ≢ c → words_of (set words (64 * n + c) x) n d ≡ words_of words n d
@@ -27,18 +27,18 @@ other_column words n c x d low ne = other words n c x n d low (λ e. ne (omega (
 
 other_number : (words : List ℕ) (n c x m : ℕ) → c < 64 → m ≢ n → (d : ℕ) → words_of (set words (64 * n + c) x) m d ≡ words_of words m d
 other_number words n c x m low ne d = elim (cases_lt d 64) [
-      inl h ↦ other words n c x m d low (λ e. ne (omega (arith, e, h, low)))
-    | inr h ↦ past (set words (64 * n + c) x) m d h ∙ sym (past words m d h)
-    ]
+  | inl h ↦ other words n c x m d low (λ e. ne (omega (arith, e, h, low)))
+  | inr h ↦ past (set words (64 * n + c) x) m d h ∙ sym (past words m d h)
+]
 
 here : (words : List ℕ) (n c x : ℕ) → c < 64 → 64 * n + c < length words → (d : ℕ) → words_of (set words (64 * n + c) x) n d ≡ put (words_of words n) c x d
 here words n c x low fits d = elim (cases_eq d c) [
-      inl e ↦ ap (words_of (set words (64 * n + c) x) n) e ∙ within (set words (64 * n + c) x) n c low ∙ get_or-set_same words (64 * n + c) x 0 fits ∙ sym (put_there (words_of words n) c x d e)
-    | inr ne ↦ other_column words n c x d low ne ∙ sym (put_other (words_of words n) c x d ne)
-    ]
+  | inl e ↦ ap (words_of (set words (64 * n + c) x) n) e ∙ within (set words (64 * n + c) x) n c low ∙ get_or-set_same words (64 * n + c) x 0 fits ∙ sym (put_there (words_of words n) c x d e)
+  | inr ne ↦ other_column words n c x d low ne ∙ sym (put_other (words_of words n) c x d ne)
+]
 
 pub words_of-set : (words : List ℕ) (n c x : ℕ) → c < 64 → 64 * n + c < length words → words_of (set words (64 * n + c) x) ≡ put_at (words_of words) n c x
 words_of-set words n c x low fits = fun_ext (λ m. elim (cases_eq m n) [
-      inl e ↦ ap (words_of (set words (64 * n + c) x)) e ∙ fun_ext (here words n c x low fits) ∙ sym (put_there (words_of words) n (put (words_of words n) c x) m e)
-    | inr ne ↦ fun_ext (other_number words n c x m low ne) ∙ sym (put_other (words_of words) n (put (words_of words n) c x) m ne)
-    ])
+  | inl e ↦ ap (words_of (set words (64 * n + c) x)) e ∙ fun_ext (here words n c x low fits) ∙ sym (put_there (words_of words) n (put (words_of words n) c x) m e)
+  | inr ne ↦ fun_ext (other_number words n c x m low ne) ∙ sym (put_other (words_of words) n (put (words_of words n) c x) m ne)
+])

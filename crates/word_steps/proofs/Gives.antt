@@ -26,78 +26,104 @@ module _ (shape : Shape) (words : ℕ → ℕ → ℕ) (homes : Homes) (traces :
 
   pub give_task_shown : (t : ℕ) (taken : TaskVal) (given : TaskVal)
       → core_after shape (put_at words t LOCK 0) (record homes { task = put homes.task t (Some given) }) traces s (Gave t (val.Task taken) (val.Task given))
-        ≡ give_task (core_of shape words homes traces) s t given
+      ≡ give_task (core_of shape words homes traces) s t given
   give_task_shown t taken given =
       shown_at shape (put_at words t LOCK 0) (record homes { task = put homes.task t (Some given) }) traces s (Gave t (val.Task taken) (val.Task given)) (give_task now s t given) t here elsewhere
-          mine others
+      mine others
     where
       here : word_row (core_of shape (put_at words t LOCK 0) (record homes { task = put homes.task t (Some given) }) traces) t ≡ word_row (give_task now s t given) t
       here = rw (eq-eqb t t refl)
+
       elsewhere : (i : ℕ) → i ≢ t → word_row (core_of shape (put_at words t LOCK 0) (record homes { task = put homes.task t (Some given) }) traces) i ≡ word_row (give_task now s t given) i
       elsewhere i ne = rw (ne_eqb i t ne)
+
       mine : known shape s (Gave t (val.Task taken) (val.Task given) ∷ traces s) ≡ seat_row (give_task now s t given) s
       mine = rw (eq-eqb s s refl)
+
       others : (j : ℕ) → j ≢ s → known shape j (traces j) ≡ seat_row (give_task now s t given) j
       others j ne = rw (ne_eqb j s ne)
 
   abbrev give_queue_core : (c : ℕ) (taken : Queue) (given : Queue) → Table
-  give_queue_core c taken given = unseen_by (s == c) (give_up_by (gives_up s c given) (record now { queue_lock = put now.queue_lock c None; queue = put now.queue c (Some given);
-      queue_out = put_at now.queue_out s c None }) s) s
+  give_queue_core c taken given = unseen_by (s == c) (give_up_by (gives_up s c given) (record now {
+    queue_lock = put now.queue_lock c None;
+    queue = put now.queue c (Some given);
+    queue_out = put_at now.queue_out s c None;
+  }) s) s
 
   pub give_queue_shown : (c : ℕ) (taken : Queue) (given : Queue)
       → core_after shape (put_at words c QUEUE_LOCK 0) (record homes { queue = put homes.queue c (Some given) }) traces s (Gave c (val.Queue taken) (val.Queue given))
-        ≡ give_queue (core_of shape words homes traces) s c given
+      ≡ give_queue (core_of shape words homes traces) s c given
   give_queue_shown c taken given =
       shown_at shape (put_at words c QUEUE_LOCK 0) (record homes { queue = put homes.queue c (Some given) }) traces s (Gave c (val.Queue taken) (val.Queue given)) (give_queue_core c taken given) c
-          here elsewhere mine others ∙ sym (unseen_flat (give_up_if (gives_up s c given) (record now { queue_lock = put now.queue_lock c None; queue = put now.queue c (Some given);
-          queue_out = put_at now.queue_out s c None }) s) s c ∙ ap (λ (z : Table). unseen_by (s == c) z s) (give_up_flat (gives_up s c given)
-          (record now { queue_lock = put now.queue_lock c None; queue = put now.queue c (Some given); queue_out = put_at now.queue_out s c None }) s))
+      here elsewhere mine others ∙ sym (unseen_flat (give_up_if (gives_up s c given) (record now {
+        queue_lock = put now.queue_lock c None;
+        queue = put now.queue c (Some given);
+        queue_out = put_at now.queue_out s c None;
+      }) s) s c ∙ ap (λ (z : Table). unseen_by (s == c) z s) (give_up_flat (gives_up s c given)
+      (record now { queue_lock = put now.queue_lock c None; queue = put now.queue c (Some given); queue_out = put_at now.queue_out s c None }) s))
     where
       here : word_row (core_of shape (put_at words c QUEUE_LOCK 0) (record homes { queue = put homes.queue c (Some given) }) traces) c ≡ word_row (give_queue_core c taken given) c
       here = rw (eq-eqb c c refl)
+
       elsewhere : (i : ℕ) → i ≢ c → word_row (core_of shape (put_at words c QUEUE_LOCK 0) (record homes { queue = put homes.queue c (Some given) }) traces) i
           ≡ word_row (give_queue_core c taken given) i
       elsewhere i ne = rw (ne_eqb i c ne)
+
       mine : known shape s (Gave c (val.Queue taken) (val.Queue given) ∷ traces s) ≡ seat_row (give_queue_core c taken given) s
       mine = rw (eq-eqb s s refl)
+
       others : (j : ℕ) → j ≢ s → known shape j (traces j) ≡ seat_row (give_queue_core c taken given) j
       others j ne = rw (ne_eqb j s ne)
 
   pub give_works_shown : (c : ℕ) (taken : List WorkItem) (given : List WorkItem)
       → core_after shape (put_at words c WORKS_LOCK 0) (record homes { works = put homes.works c (Some given) }) traces s (Gave c (val.Works taken) (val.Works given))
-        ≡ give_works (core_of shape words homes traces) s c given
+      ≡ give_works (core_of shape words homes traces) s c given
   give_works_shown c taken given =
       shown_at shape (put_at words c WORKS_LOCK 0) (record homes { works = put homes.works c (Some given) }) traces s (Gave c (val.Works taken) (val.Works given)) (give_works now s c given) c here
-          elsewhere mine others
+      elsewhere mine others
     where
       here : word_row (core_of shape (put_at words c WORKS_LOCK 0) (record homes { works = put homes.works c (Some given) }) traces) c ≡ word_row (give_works now s c given) c
       here = rw (eq-eqb c c refl)
+
       elsewhere : (i : ℕ) → i ≢ c → word_row (core_of shape (put_at words c WORKS_LOCK 0) (record homes { works = put homes.works c (Some given) }) traces) i ≡ word_row (give_works now s c given) i
       elsewhere i ne = rw (ne_eqb i c ne)
+
       mine : known shape s (Gave c (val.Works taken) (val.Works given) ∷ traces s) ≡ seat_row (give_works now s c given) s
       mine = rw (eq-eqb s s refl)
+
       others : (j : ℕ) → j ≢ s → known shape j (traces j) ≡ seat_row (give_works now s c given) j
       others j ne = rw (ne_eqb j s ne)
 
   abbrev give_wait_core : (k : ℕ) (taken : List WaitEntry) (given : List WaitEntry) → Table
   give_wait_core k taken given = walked_by (now.owes s k && (now.retaken s k && is_walk (now.passed s k) taken))
-      (record now { wait_lock = put now.wait_lock k None; wait = put now.wait k (Some given); wait_out = put_at now.wait_out s k None;
-      asleep = put now.asleep s (given_asleep k taken given (sleeper_of (now.current s) (now.slept_in s k) given) (now.asleep s)) }) s k
+      (record now {
+        wait_lock = put now.wait_lock k None;
+        wait = put now.wait k (Some given);
+        wait_out = put_at now.wait_out s k None;
+        asleep = put now.asleep s (given_asleep k taken given (sleeper_of (now.current s) (now.slept_in s k) given) (now.asleep s));
+      }) s k
 
   pub give_wait_shown : (k : ℕ) (taken : List WaitEntry) (given : List WaitEntry) → wait_held (traces s) k ≡ Some taken
       → core_after shape (put_at words k WAIT_LOCK 0) (record homes { wait = put homes.wait k (Some given) }) traces s (Gave k (val.Wait taken) (val.Wait given))
-        ≡ give_wait (core_of shape words homes traces) s k given
+      ≡ give_wait (core_of shape words homes traces) s k given
   give_wait_shown k taken given out =
       shown_at shape (put_at words k WAIT_LOCK 0) (record homes { wait = put homes.wait k (Some given) }) traces s (Gave k (val.Wait taken) (val.Wait given)) (give_wait_core k taken given) k here
-          elsewhere mine others ∙ sym (ap (give_by now s k given) out ∙ walked_flat (now.owes s k && (now.retaken s k && is_walk (now.passed s k) taken))
-          (record now { wait_lock = put now.wait_lock k None; wait = put now.wait k (Some given); wait_out = put_at now.wait_out s k None;
-          asleep = put now.asleep s (given_asleep k taken given (sleeper_of (now.current s) (now.slept_in s k) given) (now.asleep s)) }) s k)
+      elsewhere mine others ∙ sym (ap (give_by now s k given) out ∙ walked_flat (now.owes s k && (now.retaken s k && is_walk (now.passed s k) taken))
+      (record now {
+        wait_lock = put now.wait_lock k None;
+        wait = put now.wait k (Some given);
+        wait_out = put_at now.wait_out s k None;
+        asleep = put now.asleep s (given_asleep k taken given (sleeper_of (now.current s) (now.slept_in s k) given) (now.asleep s));
+      }) s k)
     where
       here : word_row (core_of shape (put_at words k WAIT_LOCK 0) (record homes { wait = put homes.wait k (Some given) }) traces) k ≡ word_row (give_wait_core k taken given) k
       here = rw (eq-eqb k k refl)
+
       elsewhere : (i : ℕ) → i ≢ k → word_row (core_of shape (put_at words k WAIT_LOCK 0) (record homes { wait = put homes.wait k (Some given) }) traces) i ≡ word_row (give_wait_core k taken given) i
       elsewhere i ne = rw (ne_eqb i k ne)
+
       mine : known shape s (Gave k (val.Wait taken) (val.Wait given) ∷ traces s) ≡ seat_row (give_wait_core k taken given) s
       mine = rw (eq-eqb s s refl)
+
       others : (j : ℕ) → j ≢ s → known shape j (traces j) ≡ seat_row (give_wait_core k taken given) j
       others j ne = rw (ne_eqb j s ne)

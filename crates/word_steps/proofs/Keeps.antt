@@ -103,7 +103,7 @@ module _ (shape : Shape) (words : ℕ → ℕ → ℕ) (homes : Homes) (traces :
       → Holds (core_after shape words homes traces s (LoadedState t mask (record { 0 = words t STATE })))
   load_state_keeps t mask holds may =
       subst Holds (sym (load_state_shown shape words homes traces s t mask (own_read (core_of shape words homes traces) s t holds))) (Holds-load_state
-          (core_of shape words homes traces) s t mask holds may)
+      (core_of shape words homes traces) s t mask holds may)
 
   pub load_rq_keeps : (t : ℕ) → Holds (core_of shape words homes traces) → MayLoad (core_of shape words homes traces) s t
       → Holds (core_after shape words homes traces s (LoadedRq t (words t RQ % 4) (words t RQ / 4)))

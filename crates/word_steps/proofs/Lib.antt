@@ -1,19 +1,21 @@
 pub mod Conditions
 pub mod CurrentKept
+pub mod EndedKept
 pub mod FirstCore
 mod Flats
 pub mod FlatWords
-mod Gives
+pub mod Gives
 pub mod Keeps
-mod Loads
+pub mod Loads
 pub mod MatchedKept
 pub mod MovingKept
 pub mod MovingSteps
 pub mod NumbersKept
 mod OwnRead
-mod Puts
+pub mod Puts
+pub mod QueuedKept
 mod Rows
-mod Runs
+pub mod Runs
 mod Shown
-mod Stores
-mod Takes
+pub mod Stores
+pub mod Takes

@@ -22,47 +22,59 @@ module _ (shape : Shape) (words : ℕ → ℕ → ℕ) (homes : Homes) (traces :
 
   pub load_cpu_shown : (t : ℕ)
       → core_after shape words homes traces s (LoadedCpu t (words t CPU))
-        ≡ load_cpu (core_of shape words homes traces) s t
+      ≡ load_cpu (core_of shape words homes traces) s t
   load_cpu_shown t =
       shown shape words homes traces s (LoadedCpu t (words t CPU)) (load_cpu now s t) (λ n. refl) mine others
     where
       mine : known shape s (LoadedCpu t (words t CPU) ∷ traces s) ≡ seat_row (load_cpu now s t) s
       mine = rw (eq-eqb s s refl)
+
       others : (j : ℕ) → j ≢ s → known shape j (traces j) ≡ seat_row (load_cpu now s t) j
       others j ne = rw (ne_eqb j s ne)
 
   abbrev load_state_core : (t : ℕ) (mask : Option State) → Table
   load_state_core t mask = logged_by (is_refused (record { 0 = words t STATE }) mask) (passed_by (not (is_match
       (record { 0 = words t STATE }) normal)) (rest_by (not (words t STATE == 0x200)) (matched_by (is_matched
-      (record { 0 = words t STATE }) mask) (seen_by (is_some_of (now.current s) t && is_some (now.queue_out s s)) (record now { reads = put_at now.reads s t (state_read t
-      (record { 0 = words t STATE }) (now.reads s t)) }) s (record { 0 = words t STATE })) s t) s t) s t) s (entry.Refused t (record { 0 = words t STATE }))
+      (record { 0 = words t STATE }) mask) (seen_by (is_some_of (now.current s) t && is_some (now.queue_out s s)) (record now {
+        reads = put_at now.reads s t (state_read t
+            (record { 0 = words t STATE }) (now.reads s t));
+      }) s (record { 0 = words t STATE })) s t) s t) s t) s (entry.Refused t (record { 0 = words t STATE }))
 
   pub load_state_shown : (t : ℕ) (mask : Option State) → is_own_read (core_of shape words homes traces) s t
       ≡ is_some_of ((core_of shape words homes traces).current s) t && is_some ((core_of shape words homes traces).queue_out s s)
       → core_after shape words homes traces s (LoadedState t mask (record { 0 = words t STATE }))
-        ≡ load_state (core_of shape words homes traces) s t mask
+      ≡ load_state (core_of shape words homes traces) s t mask
   load_state_shown t mask own =
       shown shape words homes traces s (LoadedState t mask (record { 0 = words t STATE })) (load_state_core t mask) (λ n. refl) mine others
-          ∙ sym (ap (λ (own : Bool). load_this now s t mask own (now.reads s t) (record { 0 = words t STATE })) own
-          ∙ logged_flat (is_refused (record { 0 = words t STATE }) mask) (noted_if (not (is_match
-          (record { 0 = words t STATE }) normal)) (noted_if (not (words t STATE == 0x200)) (noted_if (is_matched
-          (record { 0 = words t STATE }) mask) (seen_if (is_some_of (now.current s) t && is_some (now.queue_out s s)) (record now { reads = put_at now.reads s t (state_read t
-          (record { 0 = words t STATE }) (now.reads s t)) }) s (record { 0 = words t STATE })) s (Matched t)) s (SawRest t)) s (Passed t)) s (entry.Refused t (record { 0 = words t STATE }))
-          ∙ ap (λ (z : Table). logged_by (is_refused (record { 0 = words t STATE }) mask) z s (entry.Refused t (record { 0 = words t STATE }))) (passed_flat (not (is_match
-          (record { 0 = words t STATE }) normal)) (noted_if (not (words t STATE == 0x200)) (noted_if (is_matched
-          (record { 0 = words t STATE }) mask) (seen_if (is_some_of (now.current s) t && is_some (now.queue_out s s)) (record now { reads = put_at now.reads s t (state_read t
-          (record { 0 = words t STATE }) (now.reads s t)) }) s (record { 0 = words t STATE })) s (Matched t)) s (SawRest t)) s t
-          ∙ ap (λ (z : Table). passed_by (not (is_match (record { 0 = words t STATE }) normal)) z s t) (rest_flat (not (words t STATE == 0x200)) (noted_if (is_matched
-          (record { 0 = words t STATE }) mask) (seen_if (is_some_of (now.current s) t && is_some (now.queue_out s s)) (record now { reads = put_at now.reads s t (state_read t
-          (record { 0 = words t STATE }) (now.reads s t)) }) s (record { 0 = words t STATE })) s (Matched t)) s t
-          ∙ ap (λ (z : Table). rest_by (not (words t STATE == 0x200)) z s t) (matched_flat (is_matched
-          (record { 0 = words t STATE }) mask) (seen_if (is_some_of (now.current s) t && is_some (now.queue_out s s)) (record now { reads = put_at now.reads s t (state_read t
-          (record { 0 = words t STATE }) (now.reads s t)) }) s (record { 0 = words t STATE })) s t
-          ∙ ap (λ (z : Table). matched_by (is_matched (record { 0 = words t STATE }) mask) z s t) (seen_flat (is_some_of (now.current s) t && is_some (now.queue_out s s))
-          (record now { reads = put_at now.reads s t (state_read t (record { 0 = words t STATE }) (now.reads s t)) }) s (record { 0 = words t STATE }))))))
+      ∙ sym (ap (λ (own : Bool). load_this now s t mask own (now.reads s t) (record { 0 = words t STATE })) own
+      ∙ logged_flat (is_refused (record { 0 = words t STATE }) mask) (noted_if (not (is_match
+      (record { 0 = words t STATE }) normal)) (noted_if (not (words t STATE == 0x200)) (noted_if (is_matched
+      (record { 0 = words t STATE }) mask) (seen_if (is_some_of (now.current s) t && is_some (now.queue_out s s)) (record now {
+        reads = put_at now.reads s t (state_read t
+            (record { 0 = words t STATE }) (now.reads s t));
+      }) s (record { 0 = words t STATE })) s (Matched t)) s (SawRest t)) s (Passed t)) s (entry.Refused t (record { 0 = words t STATE }))
+      ∙ ap (λ (z : Table). logged_by (is_refused (record { 0 = words t STATE }) mask) z s (entry.Refused t (record { 0 = words t STATE }))) (passed_flat (not (is_match
+      (record { 0 = words t STATE }) normal)) (noted_if (not (words t STATE == 0x200)) (noted_if (is_matched
+      (record { 0 = words t STATE }) mask) (seen_if (is_some_of (now.current s) t && is_some (now.queue_out s s)) (record now {
+        reads = put_at now.reads s t (state_read t
+            (record { 0 = words t STATE }) (now.reads s t));
+      }) s (record { 0 = words t STATE })) s (Matched t)) s (SawRest t)) s t
+      ∙ ap (λ (z : Table). passed_by (not (is_match (record { 0 = words t STATE }) normal)) z s t) (rest_flat (not (words t STATE == 0x200)) (noted_if (is_matched
+      (record { 0 = words t STATE }) mask) (seen_if (is_some_of (now.current s) t && is_some (now.queue_out s s)) (record now {
+        reads = put_at now.reads s t (state_read t
+            (record { 0 = words t STATE }) (now.reads s t));
+      }) s (record { 0 = words t STATE })) s (Matched t)) s t
+      ∙ ap (λ (z : Table). rest_by (not (words t STATE == 0x200)) z s t) (matched_flat (is_matched
+      (record { 0 = words t STATE }) mask) (seen_if (is_some_of (now.current s) t && is_some (now.queue_out s s)) (record now {
+        reads = put_at now.reads s t (state_read t
+            (record { 0 = words t STATE }) (now.reads s t));
+      }) s (record { 0 = words t STATE })) s t
+      ∙ ap (λ (z : Table). matched_by (is_matched (record { 0 = words t STATE }) mask) z s t) (seen_flat (is_some_of (now.current s) t && is_some (now.queue_out s s))
+      (record now { reads = put_at now.reads s t (state_read t (record { 0 = words t STATE }) (now.reads s t)) }) s (record { 0 = words t STATE }))))))
     where
       mine : known shape s (LoadedState t mask (record { 0 = words t STATE }) ∷ traces s) ≡ seat_row (load_state_core t mask) s
       mine = rw (eq-eqb s s refl)
+
       others : (j : ℕ) → j ≢ s → known shape j (traces j) ≡ seat_row (load_state_core t mask) j
       others j ne = rw (ne_eqb j s ne)
 
@@ -72,16 +84,17 @@ module _ (shape : Shape) (words : ℕ → ℕ → ℕ) (homes : Homes) (traces :
 
   pub load_rq_shown : (t : ℕ)
       → core_after shape words homes traces s (LoadedRq t (words t RQ % 4) (words t RQ / 4))
-        ≡ load_rq (core_of shape words homes traces) s t
+      ≡ load_rq (core_of shape words homes traces) s t
   load_rq_shown t =
       shown shape words homes traces s (LoadedRq t (words t RQ % 4) (words t RQ / 4)) (load_rq_core t) (λ n. refl) mine others
-          ∙ sym (rest_off_flat ((words t RQ % 4 == 0) && now.rest_state s t) (noted_if ((words t RQ % 4 == 0) && now.unstored s t)
-          (record now { reads = put_at now.reads s t (rq_read t (words t RQ % 4) (words t RQ / 4) (now.reads s t)) }) s (SawOff t)) s t
-          ∙ ap (λ (z : Table). rest_off_by ((words t RQ % 4 == 0) && now.rest_state s t) z s t) (off_flat ((words t RQ % 4 == 0) && now.unstored s t)
-          (record now { reads = put_at now.reads s t (rq_read t (words t RQ % 4) (words t RQ / 4) (now.reads s t)) }) s t))
+      ∙ sym (rest_off_flat ((words t RQ % 4 == 0) && now.rest_state s t) (noted_if ((words t RQ % 4 == 0) && now.unstored s t)
+      (record now { reads = put_at now.reads s t (rq_read t (words t RQ % 4) (words t RQ / 4) (now.reads s t)) }) s (SawOff t)) s t
+      ∙ ap (λ (z : Table). rest_off_by ((words t RQ % 4 == 0) && now.rest_state s t) z s t) (off_flat ((words t RQ % 4 == 0) && now.unstored s t)
+      (record now { reads = put_at now.reads s t (rq_read t (words t RQ % 4) (words t RQ / 4) (now.reads s t)) }) s t))
     where
       mine : known shape s (LoadedRq t (words t RQ % 4) (words t RQ / 4) ∷ traces s) ≡ seat_row (load_rq_core t) s
       mine = rw (eq-eqb s s refl)
+
       others : (j : ℕ) → j ≢ s → known shape j (traces j) ≡ seat_row (load_rq_core t) j
       others j ne = rw (ne_eqb j s ne)
 
@@ -91,16 +104,17 @@ module _ (shape : Shape) (words : ℕ → ℕ → ℕ) (homes : Homes) (traces :
 
   pub load_busy_shown : (t : ℕ)
       → core_after shape words homes traces s (LoadedBusy t (is_set (words t BUSY)) (words t BUSY / 2))
-        ≡ load_busy (core_of shape words homes traces) s t
+      ≡ load_busy (core_of shape words homes traces) s t
   load_busy_shown t =
       shown shape words homes traces s (LoadedBusy t (is_set (words t BUSY)) (words t BUSY / 2)) (load_busy_core t) (λ n. refl) mine others
-          ∙ sym (rest_idle_flat (not (is_set (words t BUSY)) && now.rest_off s t) (noted_if (not (is_set (words t BUSY)))
-          (record now { reads = put_at now.reads s t (busy_read t (is_set (words t BUSY)) (now.reads s t)) }) s (SawClear t)) s t
-          ∙ ap (λ (z : Table). rest_idle_by (not (is_set (words t BUSY)) && now.rest_off s t) z s t) (clear_flat (not (is_set (words t BUSY)))
-          (record now { reads = put_at now.reads s t (busy_read t (is_set (words t BUSY)) (now.reads s t)) }) s t))
+      ∙ sym (rest_idle_flat (not (is_set (words t BUSY)) && now.rest_off s t) (noted_if (not (is_set (words t BUSY)))
+      (record now { reads = put_at now.reads s t (busy_read t (is_set (words t BUSY)) (now.reads s t)) }) s (SawClear t)) s t
+      ∙ ap (λ (z : Table). rest_idle_by (not (is_set (words t BUSY)) && now.rest_off s t) z s t) (clear_flat (not (is_set (words t BUSY)))
+      (record now { reads = put_at now.reads s t (busy_read t (is_set (words t BUSY)) (now.reads s t)) }) s t))
     where
       mine : known shape s (LoadedBusy t (is_set (words t BUSY)) (words t BUSY / 2) ∷ traces s) ≡ seat_row (load_busy_core t) s
       mine = rw (eq-eqb s s refl)
+
       others : (j : ℕ) → j ≢ s → known shape j (traces j) ≡ seat_row (load_busy_core t) j
       others j ne = rw (ne_eqb j s ne)
 
@@ -109,11 +123,12 @@ module _ (shape : Shape) (words : ℕ → ℕ → ℕ) (homes : Homes) (traces :
 
   pub load_cond_shown : (k : ℕ)
       → core_after shape words homes traces s (LoadedCond k (words k COND))
-        ≡ load_cond (core_of shape words homes traces) s k
+      ≡ load_cond (core_of shape words homes traces) s k
   load_cond_shown k =
       shown shape words homes traces s (LoadedCond k (words k COND)) (load_cond_core k) (λ n. refl) mine others ∙ sym (test_flat (now.current s) now s k)
     where
       mine : known shape s (LoadedCond k (words k COND) ∷ traces s) ≡ seat_row (load_cond_core k) s
       mine = rw (eq-eqb s s refl)
+
       others : (j : ℕ) → j ≢ s → known shape j (traces j) ≡ seat_row (load_cond_core k) j
       others j ne = rw (ne_eqb j s ne)

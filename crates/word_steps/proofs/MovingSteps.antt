@@ -26,9 +26,9 @@ moving_start shape = record { known = λ s t e. absurd (grind (arith, e)); noted
 
 pub states_start : (shape : Shape) → StatesFit (first_words shape)
 states_start shape t = elim (cases_lt t shape.tasks) [
-      inl h ↦ subst (λ (b : Bool). (if b then 0x800 else 0) < 2 ^ 16) (sym (lt-ltb t shape.tasks h)) (lit< tt)
-    | inr h ↦ subst (λ (b : Bool). (if b then 0x800 else 0) < 2 ^ 16) (sym (le-ltb t shape.tasks h)) (lit< tt)
-    ]
+  | inl h ↦ subst (λ (b : Bool). (if b then 0x800 else 0) < 2 ^ 16) (sym (lt-ltb t shape.tasks h)) (lit< tt)
+  | inr h ↦ subst (λ (b : Bool). (if b then 0x800 else 0) < 2 ^ 16) (sym (le-ltb t shape.tasks h)) (lit< tt)
+]
 
 module _ (shape : Shape) (words : ℕ → ℕ → ℕ) (homes : Homes) (traces : ℕ → List Rec) (s : ℕ) (moving : MovingHolds words traces) where
   -- a step that changes neither a lock of a task nor a queue word
@@ -45,10 +45,10 @@ module _ (shape : Shape) (words : ℕ → ℕ → ℕ) (homes : Homes) (traces :
       → MovingHolds (put_at words t LOCK (suc s)) (put traces s (Took t (val.Task v) ∷ traces s))
   take_task_moves t v holds may =
       moving_change words traces s t (put_at words t LOCK (suc s)) (Took t (val.Task v)) false moving (λ h. refl)
-        (λ u ne. word_apart words t LOCK (suc s) u LOCK ne) (λ u ne. word_apart words t LOCK (suc s) u RQ ne)
-        (λ j ne m. absurd (grind (arith, (moving.known j t m).0, may.free)))
-        (λ e. absurd (grind (arith, e)))
-        (λ j locked moves. absurd (nobody (ap (λ (z : ℕ). z % 4) (sym (word_beside words t LOCK (suc s) t RQ (λ e. omega (arith, e)))) ∙ moves)))
+      (λ u ne. word_apart words t LOCK (suc s) u LOCK ne) (λ u ne. word_apart words t LOCK (suc s) u RQ ne)
+      (λ j ne m. absurd (grind (arith, (moving.known j t m).0, may.free)))
+      (λ e. absurd (grind (arith, e)))
+      (λ j locked moves. absurd (nobody (ap (λ (z : ℕ). z % 4) (sym (word_beside words t LOCK (suc s) t RQ (λ e. omega (arith, e)))) ∙ moves)))
     where
       nobody : words t RQ % 4 ≡ 2 → ⊥
       nobody moves = let o = holds.places.moving.locked t moves in absurd (grind (arith, o.1, may.free))
@@ -57,41 +57,41 @@ module _ (shape : Shape) (words : ℕ → ℕ → ℕ) (homes : Homes) (traces :
       → MovingHolds (put_at words t LOCK 0) (put traces s (Gave t (val.Task taken) (val.Task given) ∷ traces s))
   give_task_moves t taken given stood done may =
       moving_change words traces s t (put_at words t LOCK 0) (Gave t (val.Task taken) (val.Task given)) false moving (λ h. refl)
-        (λ u ne. word_apart words t LOCK 0 u LOCK ne) (λ u ne. word_apart words t LOCK 0 u RQ ne)
-        (λ j ne m. may.settled.0 (moving.known j t m).1)
-        (λ e. absurd (grind (arith, e)))
-        (λ j locked moves. absurd (may.settled.0 (ap (λ (z : ℕ). z % 4) (sym (word_beside words t LOCK 0 t RQ (λ e. omega (arith, e)))) ∙ moves)))
+      (λ u ne. word_apart words t LOCK 0 u LOCK ne) (λ u ne. word_apart words t LOCK 0 u RQ ne)
+      (λ j ne m. may.settled.0 (moving.known j t m).1)
+      (λ e. absurd (grind (arith, e)))
+      (λ j locked moves. absurd (may.settled.0 (ap (λ (z : ℕ). z % 4) (sym (word_beside words t LOCK 0 t RQ (λ e. omega (arith, e)))) ∙ moves)))
 
   pub queue_task_moves : (c t x : ℕ) → x % 4 ≡ 1 → MayQueue (core_of shape words homes traces) s c t
       → MovingHolds (put_at words t RQ x) (put traces s (Queued t c (words t RQ % 4) (words t RQ / 4) ∷ traces s))
   queue_task_moves c t x on_is may =
       moving_change words traces s t (put_at words t RQ x) (Queued t c (words t RQ % 4) (words t RQ / 4)) false moving (λ h. refl)
-        (λ u ne. word_apart words t RQ x u LOCK ne) (λ u ne. word_apart words t RQ x u RQ ne)
-        (λ j ne m. ne (one_seat (holder (words t LOCK)) s j may.task_locked (moving.known j t m).0))
-        (λ e. absurd (grind (arith, e)))
-        (λ j locked moves. absurd (grind (arith, on_is, ap (λ (z : ℕ). z % 4) (sym (word_here words t RQ x)) ∙ moves)))
+      (λ u ne. word_apart words t RQ x u LOCK ne) (λ u ne. word_apart words t RQ x u RQ ne)
+      (λ j ne m. ne (one_seat (holder (words t LOCK)) s j may.task_locked (moving.known j t m).0))
+      (λ e. absurd (grind (arith, e)))
+      (λ j locked moves. absurd (grind (arith, on_is, ap (λ (z : ℕ). z % 4) (sym (word_here words t RQ x)) ∙ moves)))
 
   pub dequeue_task_moves : (c t x : ℕ) → x % 4 ≡ 0 → MayDequeue (core_of shape words homes traces) s c t
       → MovingHolds (put_at words t RQ x) (put traces s (Dequeued t c (words t RQ / 4) ∷ traces s))
   dequeue_task_moves c t x on_is may =
       moving_change words traces s t (put_at words t RQ x) (Dequeued t c (words t RQ / 4)) false moving (λ h. refl)
-        (λ u ne. word_apart words t RQ x u LOCK ne) (λ u ne. word_apart words t RQ x u RQ ne)
-        (λ j ne m. absurd (grind (arith, (moving.known j t m).1, may.queued)))
-        (λ e. absurd (grind (arith, e)))
-        (λ j locked moves. absurd (grind (arith, on_is, ap (λ (z : ℕ). z % 4) (sym (word_here words t RQ x)) ∙ moves)))
+      (λ u ne. word_apart words t RQ x u LOCK ne) (λ u ne. word_apart words t RQ x u RQ ne)
+      (λ j ne m. absurd (grind (arith, (moving.known j t m).1, may.queued)))
+      (λ e. absurd (grind (arith, e)))
+      (λ j locked moves. absurd (grind (arith, on_is, ap (λ (z : ℕ). z % 4) (sym (word_here words t RQ x)) ∙ moves)))
 
   pub move_task_moves : (c t x : ℕ) (queue : Queue) → x % 4 ≡ 2 → MayMove (core_of shape words homes traces) s c t queue
       → MovingHolds (put_at words t RQ x) (put traces s (Moved t c (words t RQ / 4) ∷ traces s))
   move_task_moves c t x queue on_is may =
       moving_change words traces s t (put_at words t RQ x) (Moved t c (words t RQ / 4)) true moving (λ h. refl)
-        (λ u ne. word_apart words t RQ x u LOCK ne) (λ u ne. word_apart words t RQ x u RQ ne)
-        (λ j ne m. absurd (grind (arith, (moving.known j t m).1, may.queued)))
-        (λ e. (ap holder (word_beside words t RQ x t LOCK (λ q. omega (arith, q))) ∙ may.task_locked, ap (λ (z : ℕ). z % 4) (word_here words t RQ x) ∙ on_is))
-        (λ j locked moves. (one_seat (holder (words t LOCK)) s j may.task_locked (ap holder (sym (word_beside words t RQ x t LOCK (λ q. omega (arith, q)))) ∙ locked), refl))
+      (λ u ne. word_apart words t RQ x u LOCK ne) (λ u ne. word_apart words t RQ x u RQ ne)
+      (λ j ne m. absurd (grind (arith, (moving.known j t m).1, may.queued)))
+      (λ e. (ap holder (word_beside words t RQ x t LOCK (λ q. omega (arith, q))) ∙ may.task_locked, ap (λ (z : ℕ). z % 4) (word_here words t RQ x) ∙ on_is))
+      (λ j locked moves. (one_seat (holder (words t LOCK)) s j may.task_locked (ap holder (sym (word_beside words t RQ x t LOCK (λ q. omega (arith, q)))) ∙ locked), refl))
 
   -- a seat may give a task's lock as far as its place goes where it has neither claimed nor moved it without queueing it
   pub settled_given : (t : ℕ) (v : TaskVal) → Holds (core_of shape words homes traces) → s < shape.cpus + shape.agents → task_held (traces s) t ≡ Some v
       → is_claimed (traces s) t ≡ false → is_moving (traces s) t ≡ false → IsSettled (core_of shape words homes traces) t
   settled_given t v holds seat out unclaimed unmoved =
       settled_unclaimed shape words homes traces s holds seat t v out unclaimed
-        (λ moves. absurd (grind (arith, moving.noted s t (task_locked shape words homes traces s holds seat t v out) moves, unmoved)))
+      (λ moves. absurd (grind (arith, moving.noted s t (task_locked shape words homes traces s holds seat t v out) moves, unmoved)))

@@ -23,4 +23,4 @@ by_current (Some u) lock out s t cpus near same = rw (lt-ltb s cpus (near u refl
 pub own_read : (core : Table) (s t : ℕ) → Holds core → is_own_read core s t ≡ (is_some_of (core.current s) t && is_some (core.queue_out s s))
 own_read core s t holds =
     by_current (core.current s) (core.queue_lock s) (is_some (core.queue_out s s)) s t core.cpus (holds.shapes.current_seat s)
-      (named (core.queue_lock s) (core.queue_out s s) s (holds.locks.queues.held_out s s) (holds.locks.queues.out_held s s))
+    (named (core.queue_lock s) (core.queue_out s s) s (holds.locks.queues.held_out s s) (holds.locks.queues.out_held s s))

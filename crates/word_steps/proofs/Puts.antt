@@ -15,9 +15,9 @@ word_apart words n c x m d ne = ap (λ (f : ℕ → ℕ). f d) (put_other words 
 -- of another column
 pub word_beside : (words : ℕ → ℕ → ℕ) (n c x m d : ℕ) → d ≢ c → put_at words n c x m d ≡ words m d
 word_beside words n c x m d ne = elim (cases_eq m n) [
-      inl e ↦ ap (λ (f : ℕ → ℕ). f d) (put_there words n (put (words n) c x) m e) ∙ put_other (words n) c x d ne ∙ ap (λ (k : ℕ). words k d) (sym e)
-    | inr apart ↦ word_apart words n c x m d apart
-    ]
+  | inl e ↦ ap (λ (f : ℕ → ℕ). f d) (put_there words n (put (words n) c x) m e) ∙ put_other (words n) c x d ne ∙ ap (λ (k : ℕ). words k d) (sym e)
+  | inr apart ↦ word_apart words n c x m d apart
+]
 
 -- a word that is put as it is
 pub word_same : (words : ℕ → ℕ → ℕ) (n c : ℕ) → put_at words n c (words n c) ≡ words

@@ -75,8 +75,8 @@ pub shown : (shape : Shape) (words : ℕ → ℕ → ℕ) (homes : Homes) (trace
     → core_after shape words homes traces s r ≡ x
 shown shape words homes traces s r x words_are mine others =
     table_path (core_of shape words homes (put traces s (r ∷ traces s))) x words_are (λ j. elim (cases_eq j s) [
-      inl e ↦ ap (known shape j) (put_there traces s (r ∷ traces s) j e) ∙ subst (λ (i : ℕ). known shape i (r ∷ traces s) ≡ seat_row x i) (sym e) mine
-    | inr ne ↦ ap (known shape j) (put_other traces s (r ∷ traces s) j ne) ∙ others j ne
+      | inl e ↦ ap (known shape j) (put_there traces s (r ∷ traces s) j e) ∙ subst (λ (i : ℕ). known shape i (r ∷ traces s) ≡ seat_row x i) (sym e) mine
+      | inr ne ↦ ap (known shape j) (put_other traces s (r ∷ traces s) j ne) ∙ others j ne
     ])
 
 -- .. where it changes words and homes of number n
@@ -88,13 +88,13 @@ pub shown_at : (shape : Shape) (words : ℕ → ℕ → ℕ) (homes : Homes) (tr
     → core_after shape words homes traces s r ≡ x
 shown_at shape words homes traces s r x n here elsewhere =
     shown shape words homes traces s r x (λ k. elim (cases_eq k n) [
-      inl e ↦ subst (λ (i : ℕ). word_row (core_of shape words homes traces) i ≡ word_row x i) (sym e) here
-    | inr ne ↦ elsewhere k ne
+      | inl e ↦ subst (λ (i : ℕ). word_row (core_of shape words homes traces) i ≡ word_row x i) (sym e) here
+      | inr ne ↦ elsewhere k ne
     ])
 
 -- of two values that are put at one place the last is there
 pub put_twice : {A : Type 0} (f : ℕ → A) (k : ℕ) (v w : A) → put f k w ≡ put (put f k v) k w
 put_twice f k v w = fun_ext (λ j. elim (cases_eq j k) [
-      inl e ↦ put_there f k w j e ∙ sym (put_there (put f k v) k w j e)
-    | inr ne ↦ put_other f k w j ne ∙ sym (put_other (put f k v) k w j ne ∙ put_other f k v j ne)
-    ])
+  | inl e ↦ put_there f k w j e ∙ sym (put_there (put f k v) k w j e)
+  | inr ne ↦ put_other f k w j ne ∙ sym (put_other (put f k v) k w j ne ∙ put_other f k v j ne)
+])

@@ -22,17 +22,22 @@ module _ (shape : Shape) (words : ℕ → ℕ → ℕ) (homes : Homes) (traces :
 
   pub store_cpu_shown : (t : ℕ) (c : ℕ)
       → core_after shape (put_at words t CPU c) homes traces s (StoredCpu t c)
-        ≡ store_cpu (core_of shape words homes traces) s t c
+      ≡ store_cpu (core_of shape words homes traces) s t c
   store_cpu_shown t c =
       shown_at shape (put_at words t CPU c) homes traces s (StoredCpu t c) (store_cpu now s t c) t here elsewhere mine others
     where
       here : word_row (core_of shape (put_at words t CPU c) homes traces) t ≡ word_row (store_cpu now s t c) t
       here = rw (eq-eqb t t refl)
+
       elsewhere : (i : ℕ) → i ≢ t → word_row (core_of shape (put_at words t CPU c) homes traces) i ≡ word_row (store_cpu now s t c) i
       elsewhere i ne = rw (ne_eqb i t ne)
+
       mine : known shape s (StoredCpu t c ∷ traces s) ≡ seat_row (store_cpu now s t c) s
-      mine = (λ i. record (known shape s (StoredCpu t c ∷ traces s)) { reads = put_twice (last_reads (traces s)) t (cpu_read t c (last_reads (traces s) t)) (kept_reads t (cpu_read t c (last_reads
-          (traces s) t))) i }) ∙ rw (eq-eqb s s refl, eq-eqb t t refl)
+      mine = (λ i. record (known shape s (StoredCpu t c ∷ traces s)) {
+        reads = put_twice (last_reads (traces s)) t (cpu_read t c (last_reads (traces s) t)) (kept_reads t (cpu_read t c (last_reads
+            (traces s) t))) i;
+      }) ∙ rw (eq-eqb s s refl, eq-eqb t t refl)
+
       others : (j : ℕ) → j ≢ s → known shape j (traces j) ≡ seat_row (store_cpu now s t c) j
       others j ne = rw (ne_eqb j s ne)
 
@@ -42,63 +47,75 @@ module _ (shape : Shape) (words : ℕ → ℕ → ℕ) (homes : Homes) (traces :
 
   pub own_state_shown : (t : ℕ) (state : State)
       → core_after shape (put_at words t STATE state.0) homes traces s (StoredOwn t state)
-        ≡ own_state (core_of shape words homes traces) s t state
+      ≡ own_state (core_of shape words homes traces) s t state
   own_state_shown t state =
       shown_at shape (put_at words t STATE state.0) homes traces s (StoredOwn t state) (own_state_core t state) t here elsewhere mine others
-          ∙ sym (ran_flat (state.0 == 0) (slept_if (is_sleep state) (noted (stored_word (record now { state = put now.state t state; seen = put now.seen s None }) s t) s (OwnStored t)) s t) s t
-          ∙ ap (λ (z : Table). passed_by (state.0 == 0) z s t) (slept_flat (is_sleep state) (noted (stored_word
-          (record now { state = put now.state t state; seen = put now.seen s None }) s t) s (OwnStored t)) s t))
+      ∙ sym (ran_flat (state.0 == 0) (slept_if (is_sleep state) (noted (stored_word (record now { state = put now.state t state; seen = put now.seen s None }) s t) s (OwnStored t)) s t) s t
+      ∙ ap (λ (z : Table). passed_by (state.0 == 0) z s t) (slept_flat (is_sleep state) (noted (stored_word
+      (record now { state = put now.state t state; seen = put now.seen s None }) s t) s (OwnStored t)) s t))
     where
       here : word_row (core_of shape (put_at words t STATE state.0) homes traces) t ≡ word_row (own_state_core t state) t
       here = rw (eq-eqb t t refl)
+
       elsewhere : (i : ℕ) → i ≢ t → word_row (core_of shape (put_at words t STATE state.0) homes traces) i ≡ word_row (own_state_core t state) i
       elsewhere i ne = rw (ne_eqb i t ne)
+
       mine : known shape s (StoredOwn t state ∷ traces s) ≡ seat_row (own_state_core t state) s
       mine = rw (eq-eqb s s refl)
+
       others : (j : ℕ) → j ≢ s → known shape j (traces j) ≡ seat_row (own_state_core t state) j
       others j ne = rw (ne_eqb j s ne)
 
   pub claim_shown : (t : ℕ)
       → core_after shape (put_at words t STATE 0x200) homes traces s (Claimed t (words t RQ / 4))
-        ≡ claim (core_of shape words homes traces) s t
+      ≡ claim (core_of shape words homes traces) s t
   claim_shown t =
       shown_at shape (put_at words t STATE 0x200) homes traces s (Claimed t (words t RQ / 4)) (claim now s t) t here elsewhere mine others
     where
       here : word_row (core_of shape (put_at words t STATE 0x200) homes traces) t ≡ word_row (claim now s t) t
       here = rw (eq-eqb t t refl)
+
       elsewhere : (i : ℕ) → i ≢ t → word_row (core_of shape (put_at words t STATE 0x200) homes traces) i ≡ word_row (claim now s t) i
       elsewhere i ne = rw (ne_eqb i t ne)
+
       mine : known shape s (Claimed t (words t RQ / 4) ∷ traces s) ≡ seat_row (claim now s t) s
       mine = rw (eq-eqb s s refl)
+
       others : (j : ℕ) → j ≢ s → known shape j (traces j) ≡ seat_row (claim now s t) j
       others j ne = rw (ne_eqb j s ne)
 
   pub release_shown : (t : ℕ)
       → core_after shape (put_at words t STATE 0) homes traces s (Released t)
-        ≡ release (core_of shape words homes traces) s t
+      ≡ release (core_of shape words homes traces) s t
   release_shown t =
       shown_at shape (put_at words t STATE 0) homes traces s (Released t) (release now s t) t here elsewhere mine others
     where
       here : word_row (core_of shape (put_at words t STATE 0) homes traces) t ≡ word_row (release now s t) t
       here = rw (eq-eqb t t refl)
+
       elsewhere : (i : ℕ) → i ≢ t → word_row (core_of shape (put_at words t STATE 0) homes traces) i ≡ word_row (release now s t) i
       elsewhere i ne = rw (ne_eqb i t ne)
+
       mine : known shape s (Released t ∷ traces s) ≡ seat_row (release now s t) s
       mine = rw (eq-eqb s s refl)
+
       others : (j : ℕ) → j ≢ s → known shape j (traces j) ≡ seat_row (release now s t) j
       others j ne = rw (ne_eqb j s ne)
 
   pub bump_shown : (k : ℕ)
       → core_after shape (put_at words k COND ((words k COND + 1) % 2 ^ 64)) homes traces s (Bumped k (words k COND))
-        ≡ bump (core_of shape words homes traces) s k
+      ≡ bump (core_of shape words homes traces) s k
   bump_shown k =
       shown_at shape (put_at words k COND ((words k COND + 1) % 2 ^ 64)) homes traces s (Bumped k (words k COND)) (bump now s k) k here elsewhere mine others
     where
       here : word_row (core_of shape (put_at words k COND ((words k COND + 1) % 2 ^ 64)) homes traces) k ≡ word_row (bump now s k) k
       here = rw (eq-eqb k k refl)
+
       elsewhere : (i : ℕ) → i ≢ k → word_row (core_of shape (put_at words k COND ((words k COND + 1) % 2 ^ 64)) homes traces) i ≡ word_row (bump now s k) i
       elsewhere i ne = rw (ne_eqb i k ne)
+
       mine : known shape s (Bumped k (words k COND) ∷ traces s) ≡ seat_row (bump now s k) s
       mine = rw (eq-eqb s s refl)
+
       others : (j : ℕ) → j ≢ s → known shape j (traces j) ≡ seat_row (bump now s k) j
       others j ne = rw (ne_eqb j s ne)

@@ -1,8 +1,8 @@
 -- What words and traces keep beside the invariant of the core that they show.
-use Rattle.std.specs.Prelude.{◌≡◌, ◌≢◌, ℕ, ◌/◌, ◌%◌, ◌<◌, ◌^◌, true, List, Some}
-use Rattle.word_steps.specs.Folds.{is_moving, current_task, stays_queued, number_read, is_matched_by}
+use Rattle.std.specs.Prelude.{◌≡◌, ◌≢◌, ℕ, ◌/◌, ◌%◌, ◌<◌, ◌^◌, Bool, true, List, Some}
+use Rattle.word_steps.specs.Folds.{is_moving, current_task, stays_queued, number_read, is_matched_by, saw_queued, ended_known}
 use Rattle.word_steps.specs.Records.{Rec}
-use Rattle.word_steps.specs.Words.{LOCK, STATE, RQ, holder}
+use Rattle.word_steps.specs.Words.{LOCK, QUEUE_LOCK, STATE, RQ, CPU, COUNT, holder}
 
 -- a task stands between two queues exactly where the seat that has its lock has taken it off one
 pub record MovingHolds (words : ℕ → ℕ → ℕ) (traces : ℕ → List Rec) : Type 0 where
@@ -20,6 +20,24 @@ NumbersHold words traces = (s t : ℕ) → holder (words t LOCK) ≡ Some s → 
 -- a task that matched since its lock was taken was queued before
 abbrev pub MatchedHolds : (ℕ → ℕ → ℕ) → (ℕ → List Rec) → Type 0
 MatchedHolds words traces = (s t : ℕ) → holder (words t LOCK) ≡ Some s → is_matched_by (traces s) t ≡ true → words t RQ / 4 ≢ 0
+
+-- the seat s has the lock of t and of queue c, on whose processor t is
+pub record IsUnder (words : ℕ → ℕ → ℕ) (s c t : ℕ) : Type 0 where
+  pub task : holder (words t LOCK) ≡ Some s
+  pub queue : holder (words c QUEUE_LOCK) ≡ Some s
+  pub here : words t CPU ≡ c
+
+-- a task that was read as queued under both is queued
+abbrev pub QueuedHolds : (ℕ → ℕ → ℕ) → (ℕ → List Rec) → Type 0
+QueuedHolds words traces = (s c t : ℕ) → IsUnder words s c t → saw_queued (traces s) c t ≡ true → words t RQ % 4 ≡ 1
+
+-- the body of a current task has ended as its seat knows
+abbrev pub EndedHolds : (ℕ → Bool) → (ℕ → List Rec) → Type 0
+EndedHolds ended traces = (s t : ℕ) (b : Bool) → current_task s (traces s) ≡ Some t → ended_known (traces s) t ≡ Some b → ended t ≡ b
+
+-- no migrate-disable level is above 0, while no step stores one
+abbrev pub CountsZero : (ℕ → ℕ → ℕ) → Type 0
+CountsZero words = (t : ℕ) → words t COUNT ≡ 0
 
 -- a state has 16 bits
 abbrev pub StatesFit : (ℕ → ℕ → ℕ) → Type 0

@@ -117,6 +117,17 @@ abbrev pub body_held : List Rec → Option ℕ
 body_held [] = None
 body_held (r ∷ rs) = body_after r (body_held rs)
 
+-- whether the body of its current task has ended, as the seat took it out or put it home since the pick
+abbrev pub ended_after : Rec → (ℕ → Option Bool) → ℕ → Option Bool
+ended_after (OutBody t ended) h = put h t (Some ended)
+ended_after (HomeBody t ended) h = put h t (Some ended)
+ended_after (SetBusy t c n) h = put h t None
+ended_after r h = h
+
+abbrev pub ended_known : List Rec → ℕ → Option Bool
+ended_known [] = λ t. None
+ended_known (r ∷ rs) = ended_after r (ended_known rs)
+
 -- Of the seat s itself
 
 -- the current task
@@ -335,6 +346,20 @@ dropped_after r h = h
 abbrev pub has_dropped : List Rec → ℕ → ℕ → Bool
 has_dropped [] = λ c t. false
 has_dropped (r ∷ rs) = dropped_after r (has_dropped rs)
+
+-- `on_rq` of t was read as 1 since the locks of t and of the queue were taken, and t neither left a queue nor moved since
+abbrev pub queued_after : Rec → (ℕ → ℕ → Bool) → ℕ → ℕ → Bool
+queued_after (Took t (val.Task v)) h = put_column h t false
+queued_after (Took c (val.Queue v)) h = put_row h c false
+queued_after (LoadedRq t on m) h = put_column_if (on == 1) t true h
+queued_after (Dequeued t c m) h = put_column h t false
+queued_after (Moved t c m) h = put_column h t false
+queued_after (StoredCpu t c) h = put_column h t false
+queued_after r h = h
+
+abbrev pub saw_queued : List Rec → ℕ → ℕ → Bool
+saw_queued [] = λ c t. false
+saw_queued (r ∷ rs) = queued_after r (saw_queued rs)
 
 -- Of each condition, and task, since the lock of its wait queue was taken
 
