@@ -165,7 +165,7 @@ pub fn wrong_line(alloc: Global, text: &str) -> Result<Option<usize>, NoMemory> 
         if !play_line(alloc, &mut played, line)? {
             return Ok(Some(lines));
         }
-        lines += 1;
+        lines = lines.saturating_add(1);
     }
     if is_whole(alloc, &played)? {
         return Ok(None);
