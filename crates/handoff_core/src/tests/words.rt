@@ -1,5 +1,5 @@
-//! Steps and entries in words, such as `give_queue 0 cur 0 left - waiting 1`. Where a word isn't one of these, or stands
-//! where it may not, there is none.
+//! Steps and entries in words, such as `give_queue 0 cur 0 left - waiting 1`. Where a word isn't one of these, or
+//! stands where it may not, there is none.
 
 use self::Word::*;
 use crate::{Event, QueueVal, StepKind, TaskVal, WaitEntry, WaitVal, WorkItem, WorksVal};
