@@ -34,11 +34,11 @@ module _ (ended : ℕ → Bool) (traces : ℕ → List Rec) (s : ℕ) (holds : E
   pub ended_step : (r : Rec) → ((j t : ℕ) → current_task j (r ∷ traces s) ≡ Some t → current_task j (traces s) ≡ Some t)
       → ended_known (r ∷ traces s) ≡ ended_known (traces s) → EndedHolds ended (put traces s (r ∷ traces s))
   ended_step r current known j t b is e = elim (cases_eq j s) [
-        inl q ↦ holds j t b
-            (ap (λ (k : ℕ). current_task j (traces k)) q ∙ current j t (sym (fold_here (current_task j) traces s r j q) ∙ is))
-            (ap (λ (f : ℕ → Option Bool). f t) (ap (λ (k : ℕ). ended_known (traces k)) q ∙ sym known ∙ sym (fold_here ended_known traces s r j q)) ∙ e)
-      | inr ne ↦ holds j t b (sym (fold_else (current_task j) traces s r j ne) ∙ is) (ap (λ (f : ℕ → Option Bool). f t) (sym (fold_else ended_known traces s r j ne)) ∙ e)
-      ]
+    | inl q ↦ holds j t b
+        (ap (λ (k : ℕ). current_task j (traces k)) q ∙ current j t (sym (fold_here (current_task j) traces s r j q) ∙ is))
+        (ap (λ (f : ℕ → Option Bool). f t) (ap (λ (k : ℕ). ended_known (traces k)) q ∙ sym known ∙ sym (fold_here ended_known traces s r j q)) ∙ e)
+    | inr ne ↦ holds j t b (sym (fold_else (current_task j) traces s r j ne) ∙ is) (ap (λ (f : ℕ → Option Bool). f t) (sym (fold_else ended_known traces s r j ne)) ∙ e)
+  ]
 
   pub ended_still : (r : Rec) → ((j : ℕ) → current_task j (r ∷ traces s) ≡ current_task j (traces s))
       → ended_known (r ∷ traces s) ≡ ended_known (traces s) → EndedHolds ended (put traces s (r ∷ traces s))
@@ -49,24 +49,28 @@ module _ (ended : ℕ → Bool) (traces : ℕ → List Rec) (s : ℕ) (holds : E
 
   pub set_busy_ended : (t c n : ℕ) → EndedHolds ended (put traces s (SetBusy t c n ∷ traces s))
   set_busy_ended t c n j u b is e = elim (cases_eq j s) [
-        inl q ↦ absurd (grind (arith, sym (put_there (ended_known (traces s)) t None u (sym (same_task t u (sym (fold_here (current_task j) traces s (SetBusy t c n) j q) ∙ is))))
-            ∙ ap (λ (f : ℕ → Option Bool). f u) (sym (fold_here ended_known traces s (SetBusy t c n) j q)) ∙ e))
-      | inr ne ↦ holds j u b (sym (fold_else (current_task j) traces s (SetBusy t c n) j ne) ∙ is)
-            (ap (λ (f : ℕ → Option Bool). f u) (sym (fold_else ended_known traces s (SetBusy t c n) j ne)) ∙ e)
-      ]
+    | inl q ↦ absurd (grind (
+      arith,
+      sym (put_there (ended_known (traces s)) t None u (sym (same_task t u (sym (fold_here (current_task j) traces s (SetBusy t c n) j q) ∙ is))))
+          ∙ ap (λ (f : ℕ → Option Bool). f u) (sym (fold_here ended_known traces s (SetBusy t c n) j q)) ∙ e,
+    ))
+    | inr ne ↦ holds j u b (sym (fold_else (current_task j) traces s (SetBusy t c n) j ne) ∙ is)
+        (ap (λ (f : ℕ → Option Bool). f u) (sym (fold_else ended_known traces s (SetBusy t c n) j ne)) ∙ e)
+  ]
 
   pub body_out_ended : (t : ℕ) (now : Bool) → ended t ≡ now → EndedHolds ended (put traces s (OutBody t now ∷ traces s))
   body_out_ended t now found j u b is e = elim (cases_eq j s) [
-        inl q ↦ elim (cases_eq u t) [
-          inl same ↦ ap ended same ∙ found ∙ same_truth now b (sym (put_there (ended_known (traces s)) t (Some now) u same) ∙ told q)
-        | inr apart ↦ holds j u b (was q) (ap (λ (k : ℕ). ended_known (traces k) u) q ∙ sym (put_other (ended_known (traces s)) t (Some now) u apart) ∙ told q)
-        ]
-      | inr ne ↦ holds j u b (sym (fold_else (current_task j) traces s (OutBody t now) j ne) ∙ is)
-            (ap (λ (f : ℕ → Option Bool). f u) (sym (fold_else ended_known traces s (OutBody t now) j ne)) ∙ e)
-      ]
+    | inl q ↦ elim (cases_eq u t) [
+      | inl same ↦ ap ended same ∙ found ∙ same_truth now b (sym (put_there (ended_known (traces s)) t (Some now) u same) ∙ told q)
+      | inr apart ↦ holds j u b (was q) (ap (λ (k : ℕ). ended_known (traces k) u) q ∙ sym (put_other (ended_known (traces s)) t (Some now) u apart) ∙ told q)
+    ]
+    | inr ne ↦ holds j u b (sym (fold_else (current_task j) traces s (OutBody t now) j ne) ∙ is)
+        (ap (λ (f : ℕ → Option Bool). f u) (sym (fold_else ended_known traces s (OutBody t now) j ne)) ∙ e)
+  ]
     where
       told : j ≡ s → ended_known (OutBody t now ∷ traces s) u ≡ Some b
       told q = ap (λ (f : ℕ → Option Bool). f u) (sym (fold_here ended_known traces s (OutBody t now) j q)) ∙ e
+
       was : j ≡ s → current_task j (traces j) ≡ Some u
       was q = ap (λ (k : ℕ). current_task j (traces k)) q ∙ sym (fold_here (current_task j) traces s (OutBody t now) j q) ∙ is
 
@@ -74,22 +78,24 @@ module _ (shape : Shape) (words : ℕ → ℕ → ℕ) (homes : Homes) (traces :
   pub body_home_ended : (t : ℕ) (now : Bool) → MayBodyHome (core_of shape words homes traces) s t now
       → EndedHolds (put homes.ended t now) (put traces s (HomeBody t now ∷ traces s))
   body_home_ended t now may j u b is e = elim (cases_eq j s) [
-        inl q ↦ elim (cases_eq u t) [
-          inl same ↦ put_there homes.ended t now u same ∙ same_truth now b (sym (put_there (ended_known (traces s)) t (Some now) u same) ∙ told q)
-        | inr apart ↦ put_other homes.ended t now u apart
-              ∙ holds j u b (was q) (ap (λ (k : ℕ). ended_known (traces k) u) q ∙ sym (put_other (ended_known (traces s)) t (Some now) u apart) ∙ told q)
-        ]
-      | inr ne ↦ theirs ne (sym (fold_else (current_task j) traces s (HomeBody t now) j ne) ∙ is)
-      ]
+    | inl q ↦ elim (cases_eq u t) [
+      | inl same ↦ put_there homes.ended t now u same ∙ same_truth now b (sym (put_there (ended_known (traces s)) t (Some now) u same) ∙ told q)
+      | inr apart ↦ put_other homes.ended t now u apart
+          ∙ holds j u b (was q) (ap (λ (k : ℕ). ended_known (traces k) u) q ∙ sym (put_other (ended_known (traces s)) t (Some now) u apart) ∙ told q)
+    ]
+    | inr ne ↦ theirs ne (sym (fold_else (current_task j) traces s (HomeBody t now) j ne) ∙ is)
+  ]
     where
       told : j ≡ s → ended_known (HomeBody t now ∷ traces s) u ≡ Some b
       told q = ap (λ (f : ℕ → Option Bool). f u) (sym (fold_here ended_known traces s (HomeBody t now) j q)) ∙ e
+
       was : j ≡ s → current_task j (traces j) ≡ Some u
       was q = ap (λ (k : ℕ). current_task j (traces k)) q ∙ sym (fold_here (current_task j) traces s (HomeBody t now) j q) ∙ is
+
       theirs : j ≢ s → current_task j (traces j) ≡ Some u → put homes.ended t now u ≡ b
       theirs ne is' =
           put_other homes.ended t now u (λ same. ne (sym (core.busy.runner.current_here j t (subst (λ (k : ℕ). current_task j (traces j) ≡ Some k) same is'))
-              ∙ core.busy.runner.current_here s t may.current))
+          ∙ core.busy.runner.current_here s t may.current))
           ∙ holds j u b is' (ap (λ (f : ℕ → Option Bool). f u) (sym (fold_else ended_known traces s (HomeBody t now) j ne)) ∙ e)
 
   -- a body that the seat has out may go home, but not as one that goes on where it had ended
