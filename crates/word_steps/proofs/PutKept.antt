@@ -1,21 +1,22 @@
 -- A task that a seat has put on a queue under its lock, and not taken off, is queued there: kept by each kind of step.
+use Rattle.word_steps.proofs.Conditions.{queue_locked}
 use Rattle.std.proofs.Common.{◌≡◌, ◌≢◌, ℕ, suc, inl, inr, refl, sym, ap, subst, ◌∙◌, List, [], ◌∷◌, arith}
-use Rattle.std.specs.Prelude.{◌%◌, Bool, true, false, Some}
+use Rattle.std.specs.Prelude.{◌%◌, Bool, true, false, Some, ◌+◌, ◌<◌, ◌⊎◌}
 use Rattle.std.proofs.lemmas.Bool.{cases_eq}
 use Rattle.std.proofs.lemmas.Bool.Decides.{nat_tests}
 use Rattle.core_data.specs.Table.{put, put_at}
 use Rattle.core_data.specs.Queue.{Queue}
 use Rattle.core_invariant.specs.Invariant.{Holds}
 use Rattle.core_kinds.specs.Running.{MayQueue, MayDequeue, MayMove}
-use Rattle.core_kinds.specs.Waking.{MayStoreCpu}
+use Rattle.core_kinds.specs.Waking.{MayStoreCpu, MayRelease}
 use Rattle.handoff_data.specs.declared.shape.Shape.{Shape}
 use Rattle.word_steps.proofs.MovingKept.{one_seat}
 use Rattle.word_steps.proofs.Puts.{word_here, word_apart, word_beside, fold_here, fold_else}
 use Rattle.word_steps.specs.Beside.{PutHolds}
 use Rattle.word_steps.specs.Decode.{Homes, core_of}
-use Rattle.word_steps.specs.Folds.{has_put, put_column, put_row}
+use Rattle.word_steps.specs.Folds.{has_put, put_column, put_row, queue_held, has_added, current_task}
 use Rattle.word_steps.specs.Records.{Rec, Took, Gave, Queued, Dequeued, Moved, StoredCpu}
-use Rattle.word_steps.specs.Words.{QUEUE_LOCK, RQ, CPU, holder}
+use Rattle.word_steps.specs.Words.{QUEUE_LOCK, RQ, CPU, holder, BUSY, is_set}
 use Rattle.word_steps.specs.declared.val.Val.TheVariants as val
 
 pub put_start : (words : ℕ → ℕ → ℕ) → PutHolds words (λ s. [])
@@ -160,3 +161,26 @@ module _ (words : ℕ → ℕ → ℕ) (traces : ℕ → List Rec) (s : ℕ) (ho
               ap (λ (z : ℕ). z % 4) (word_beside words n CPU d t RQ (λ q. omega (arith, q))) ∙ old.0,
               word_apart words n CPU d t CPU (λ q. queued (subst (λ (k : ℕ). words k RQ % 4 ≡ 1) q old.0)) ∙ old.1,
             )
+
+-- TASK_RUNNING of a task that the seat has put on a queue, under the queue's lock, where it isn't its current task
+module _ (shape : Shape) (words : ℕ → ℕ → ℕ) (homes : Homes) (traces : ℕ → List Rec) (s : ℕ) (core : Holds (core_of shape words homes traces)) (holds : PutHolds words traces) where
+  pub release_put_may : (c t : ℕ) (q : Queue) → s < shape.cpus + shape.agents → t < shape.tasks → queue_held (traces s) c ≡ Some q → has_put (traces s) c t ≡ true
+      → has_added (traces s) c t ≡ true → current_task s (traces s) ≢ Some t → MayRelease (core_of shape words homes traces) s t
+  release_put_may c t q seat task queue was added other =
+      let held = queue_locked shape words homes traces s core seat c q queue in
+      let at = holds s c t held was in
+      record {
+        seat = seat;
+        task = task;
+        processor = core.shapes.cpu t task;
+        release = inr (inr (
+          subst (λ (k : ℕ). holder (words k QUEUE_LOCK) ≡ Some s) (sym at.1) held,
+          subst (λ (k : ℕ). has_added (traces s) k t ≡ true) (sym at.1) added,
+          at.0,
+          idle (core.positions.idle.put s c t held added at.0 at.1)
+        ));
+      }
+    where
+      idle : (is_set (words t BUSY) ≡ false) ⊎ (current_task s (traces s) ≡ Some t) → is_set (words t BUSY) ≡ false
+      idle (inl clear) = clear
+      idle (inr mine) = absurd (other mine)
