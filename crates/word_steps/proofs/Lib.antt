@@ -12,6 +12,7 @@ pub mod MovingKept
 pub mod MovingSteps
 pub mod NumbersKept
 mod OwnRead
+pub mod PutKept
 pub mod Puts
 pub mod QueuedKept
 mod Rows

@@ -1,6 +1,6 @@
 -- What words and traces keep beside the invariant of the core that they show.
 use Rattle.std.specs.Prelude.{◌≡◌, ◌≢◌, ℕ, ◌/◌, ◌%◌, ◌<◌, ◌^◌, Bool, true, List, Some}
-use Rattle.word_steps.specs.Folds.{is_moving, current_task, stays_queued, number_read, is_matched_by, saw_queued, ended_known}
+use Rattle.word_steps.specs.Folds.{is_moving, current_task, stays_queued, number_read, is_matched_by, saw_queued, has_put, ended_known}
 use Rattle.word_steps.specs.Records.{Rec}
 use Rattle.word_steps.specs.Words.{LOCK, QUEUE_LOCK, STATE, RQ, CPU, COUNT, holder}
 
@@ -30,6 +30,11 @@ pub record IsUnder (words : ℕ → ℕ → ℕ) (s c t : ℕ) : Type 0 where
 -- a task that was read as queued under both is queued
 abbrev pub QueuedHolds : (ℕ → ℕ → ℕ) → (ℕ → List Rec) → Type 0
 QueuedHolds words traces = (s c t : ℕ) → IsUnder words s c t → saw_queued (traces s) c t ≡ true → words t RQ % 4 ≡ 1
+
+-- a task that a seat has put on a queue under its lock, and not taken off, is queued there
+abbrev pub PutHolds : (ℕ → ℕ → ℕ) → (ℕ → List Rec) → Type 0
+PutHolds words traces =
+    (s c t : ℕ) → holder (words c QUEUE_LOCK) ≡ Some s → has_put (traces s) c t ≡ true → (words t RQ % 4 ≡ 1) × (words t CPU ≡ c)
 
 -- the body of a current task has ended as its seat knows
 abbrev pub EndedHolds : (ℕ → Bool) → (ℕ → List Rec) → Type 0

@@ -361,6 +361,22 @@ abbrev pub saw_queued : List Rec → ℕ → ℕ → Bool
 saw_queued [] = λ c t. false
 saw_queued (r ∷ rs) = queued_after r (saw_queued rs)
 
+-- f with v at t for n
+abbrev pub put_both : {A : Type 0} → (ℕ → ℕ → A) → ℕ → ℕ → A → ℕ → ℕ → A
+put_both f n t v k u = if (k == n) && (u == t) then v else f k u
+
+-- the seat put t on this queue since it took the queue's lock, and didn't take it off since
+abbrev pub put_after : Rec → (ℕ → ℕ → Bool) → ℕ → ℕ → Bool
+put_after (Took c (val.Queue v)) h = put_row h c false
+put_after (Queued t c on m) h = put_both h c t true
+put_after (Dequeued t c m) h = put_column h t false
+put_after (Moved t c m) h = put_column h t false
+put_after r h = h
+
+abbrev pub has_put : List Rec → ℕ → ℕ → Bool
+has_put [] = λ c t. false
+has_put (r ∷ rs) = put_after r (has_put rs)
+
 -- Of each condition, and task, since the lock of its wait queue was taken
 
 abbrev pub passed_after : Rec → (ℕ → ℕ → Bool) → ℕ → ℕ → Bool
