@@ -177,7 +177,7 @@ module _ (shape : Shape) (words : ℕ → ℕ → ℕ) (homes : Homes) (traces :
           subst (λ (k : ℕ). holder (words k QUEUE_LOCK) ≡ Some s) (sym at.1) held,
           subst (λ (k : ℕ). has_added (traces s) k t ≡ true) (sym at.1) added,
           at.0,
-          idle (core.positions.idle.put s c t held added at.0 at.1)
+          idle (core.positions.idle.put s c t held added at.0 at.1),
         ));
       }
     where
