@@ -5,7 +5,7 @@ use Rattle.std.specs.Prelude.{None, slice_index_or}
 use Rattle.task_script.specs.Plan.{sides}
 use Rattle.pipe_bodies.specs.Courses.{plan_in}
 use Rattle.pipe_bodies.specs.Bodies.{BodyView}
-use Rattle.pipe_bodies.specs.Nets.{IsNet, lasting_of, output_of, part_of, seen_of, IsReading, reads_on, CanBeJoinedAfter, CanBeJoined, NotIn, reads_after, plan_for, Built}
+use Rattle.pipe_bodies.specs.Nets.{IsNet, lasting_of, output_of, part_of, IsReading, reads_on, CanBeJoinedAfter, CanBeJoined, NotIn, reads_after, plan_for, Built}
 use Rattle.pipe_bodies.specs.declared.parts.Course.{Course}
 use Rattle.task_script.specs.declared.script.TaskDef.{TaskDef}
 use Rattle.pipe_bodies.proofs.BuildLaws.{Built-none, net-built, outputs_in}
@@ -17,7 +17,7 @@ module _ {W : Type 0} where
     pub reads : List ℕ
     pub all : before ++ ds ≡ tasks
     pub script : CanBeJoinedAfter (length before) reads ds
-    pub built : Built before reads (map part_of bodies) (map output_of bodies) (map seen_of bodies)
+    pub built : Built before reads (map part_of bodies) (map output_of bodies)
     pub courses : map plan_in rest ≡ map plan_for ds
     pub count : length bodies ≡ length before
     pub place : length before ≡ i
@@ -44,7 +44,7 @@ module _ {W : Type 0} where
       pub building-sides : length d.from ≡ sides d.plan
       building-sides = at_task.script.0
 
-      pub building-reads : (ds : List TaskDef) × (reads : List ℕ) × IsReading (length ds) reads d.from × Built ds reads (map part_of bodies) (map output_of bodies) (map seen_of bodies)
+      pub building-reads : (ds : List TaskDef) × (reads : List ℕ) × IsReading (length ds) reads d.from × Built ds reads (map part_of bodies) (map output_of bodies)
       building-reads = (at_task.before, at_task.reads, at_task.script.1, at_task.built)
 
       module _ (c : Course W) (more : List (Course W)) (f : rest ≡ c ∷ more) where
@@ -55,8 +55,8 @@ module _ {W : Type 0} where
         building-plan = cc same-plans
 
         pub building-step : (bodies' : List BodyView) → length bodies' ≡ length bodies + 1
-            → ((ds : List TaskDef) (reads : List ℕ) → IsReading (length ds) reads d.from → Built ds reads (map part_of bodies) (map output_of bodies) (map seen_of bodies) → Built (ds ++ d ∷ []) (reads_on d.from reads)
-            (map part_of bodies') (map output_of bodies') (map seen_of bodies'))
+            → ((ds : List TaskDef) (reads : List ℕ) → IsReading (length ds) reads d.from → Built ds reads (map part_of bodies) (map output_of bodies) → Built (ds ++ d ∷ []) (reads_on d.from reads)
+            (map part_of bodies') (map output_of bodies'))
             → Building tasks (drop (i + 1) tasks) more bodies' (i + 1)
         building-step bodies' n b =
             let long : length (at_task.before ++ d ∷ []) ≡ length at_task.before + 1 = length-append at_task.before (d ∷ []) in
@@ -77,6 +77,6 @@ module _ {W : Type 0} where
         let done : Building tasks [] rest bodies i = subst (λ z. Building tasks z rest bodies i) (drop_all i tasks l) s in
         let whole : done.before ≡ tasks = sym (append-nil done.before) ∙ done.all in
         record {
-          joined = net-built tasks bodies done.reads (map seen_of bodies) (done.count ∙ ap length whole) (subst (λ z. Built z done.reads (map part_of bodies) (map output_of bodies) (map seen_of bodies)) whole done.built);
+          joined = net-built tasks bodies done.reads (done.count ∙ ap length whole) (subst (λ z. Built z done.reads (map part_of bodies) (map output_of bodies)) whole done.built);
           unread = λ t e. ap (λ z. slice_index_or z t None) (outputs_in bodies) ∙ done.built.unread t (subst (λ z. NotIn z t) (sym done.read) (not_read tasks [] t e tt));
         }

@@ -9,9 +9,8 @@ use Rattle.pipe_tasks.specs.Words.{Line}
 use Rattle.pipe_bodies.specs.Items.{items}
 use Rattle.task_script.specs.declared.plan.Plan.{Plan}
 use Rattle.pipe_bodies.specs.Rings.{Ring}
-use Rattle.pipe_bodies.specs.Turns.{Seen}
 use Rattle.pipe_bodies.specs.Parts.{KeepsNone}
-use Rattle.pipe_bodies.specs.Bodies.{Lasting, BodyView}
+use Rattle.pipe_bodies.specs.Bodies.{Lasting, BodyView, IsFresh, HasRoom}
 use Rattle.pipe_bodies.specs.declared.item.Item.{Item}
 use Rattle.task_script.specs.declared.script.TaskDef.{TaskDef}
 
@@ -122,8 +121,10 @@ plan_for d = d.plan
 
 -- ---- bodies that are being joined
 
-abbrev pub seen_of : BodyView → Seen
-seen_of b = b.seen
+-- a body that has done nothing, all of whose rings have this room
+pub record IsBegun (room : ℕ) (b : BodyView) : Type 0 where
+  pub fresh : IsFresh b
+  pub rooms : HasRoom room b.lasting
 
 -- what does not change when a reader comes
 pub record Part : Type 0 where
@@ -134,9 +135,6 @@ pub record Part : Type 0 where
 
 abbrev pub part_of : BodyView → Part
 part_of b = record { task = b.lasting.task; begun = b.lasting.begun; left = b.lasting.rings.left; right = b.lasting.rings.right }
-
-abbrev pub IsUnused : Seen → Type 0
-IsUnused a = (a.out ≡ []) × (a.ended ≡ false)
 
 -- nobody reads the first task of a list yet
 abbrev pub IsFree : List ℕ → List (Option Ring) → Type 0
@@ -159,9 +157,8 @@ pub record JointIn (d : TaskDef) (p : Part) (n : ℕ) (outputs : List (Option Ri
   pub left : SideIn d.from p.left n outputs
   pub right : SideIn (others d.from) p.right n outputs
 
-pub record Built (ds : List TaskDef) (reads : List ℕ) (parts : List Part) (outputs : List (Option Ring)) (seens : List Seen) : Type 0 where
+pub record Built (ds : List TaskDef) (reads : List ℕ) (parts : List Part) (outputs : List (Option Ring)) : Type 0 where
   pub parts_length : length parts ≡ length ds
   pub outputs_length : length outputs ≡ length ds
-  pub unused : (k : ℕ) (a : Seen) → k < length seens → IsUnused (slice_index_or seens k a)
   pub joints : (k : ℕ) (d : TaskDef) (p : Part) → k < length ds → JointIn (slice_index_or ds k d) (slice_index_or parts k p) k outputs
   pub unread : (x : ℕ) → NotIn reads x → slice_index_or outputs x None ≡ None

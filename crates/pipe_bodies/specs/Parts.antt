@@ -22,6 +22,13 @@ rings a = record { left = in_ring a.left; right = in_ring a.right; output = out_
 abbrev pub knows : {W : Type 0} → Parts W → Known
 knows a = record { left = known a.left; right = known a.right; free = free_slots a.output }
 
+-- what was put out stays, and so does what is known of the room for more
+pub record StaysOut {W : Type 0} (a b : Parts W) : Type 0 where
+  pub out : (seen b).out ≡ (seen a).out
+  pub kept : b.kept ≡ a.kept
+  pub ended : b.ended ≡ a.ended
+  pub free : (knows b).free ≡ (knows a).free
+
 -- nothing is kept where another task reads
 abbrev pub KeepsNone : Option Ring → List Line → Type 0
 KeepsNone None kept = Unit {0}

@@ -1,7 +1,7 @@
 -- The ring that an end belongs to, as a plain value, and what went through an end that may be absent.
 use Rattle.std.specs.Prelude.{ℕ, List, [], ◌∷◌, ◌++◌, Bool, true, false, Option, Some, None}
 use denote.RawPtr.{Ptr}
-use Rattle.rtrb.specs.Ring.{sent, received, known_items, known_free}
+use Rattle.rtrb.specs.Ring.{sent, received, known_items, known_free, producer_capacity, consumer_capacity}
 use Rattle.rtrb.specs.Shared.{Names}
 use Rattle.rtrb.specs.declared.producer.Producer.{Producer}
 use Rattle.rtrb.specs.declared.consumer.Consumer.{Consumer}
@@ -10,18 +10,19 @@ use Rattle.pipe_bodies.specs.Items.{as_texts}
 use Rattle.pipe_bodies.specs.declared.item.Item.{Item}
 use Rattle.pipe_bodies.specs.declared.item.Item.TheVariants.{End}
 
--- which ring
+-- which ring, and how many items it has room for
 pub record Ring : Type 0 where
   pub words : Ptr
   pub slots : Ptr
   pub names : Names
+  pub room : ℕ
 
 module _ {T A P : Type 0} where
   abbrev pub ring_in : Consumer T A P → Ring
-  ring_in c = record { words = c.end.words; slots = c.end.slots; names = c.end.names }
+  ring_in c = record { words = c.end.words; slots = c.end.slots; names = c.end.names; room = consumer_capacity c }
 
   abbrev pub ring_out : Producer T A P → Ring
-  ring_out p = record { words = p.end.words; slots = p.end.slots; names = p.end.names }
+  ring_out p = record { words = p.end.words; slots = p.end.slots; names = p.end.names; room = producer_capacity p }
 
   abbrev pub in_ring : Option (Consumer T A P) → Option Ring
   in_ring None = None

@@ -45,11 +45,11 @@ impl<W: Work> Names<Course<W>> for PlanNumbers {
 }
 
 impl<W: Work> Body<W> {
-    ghost use Rattle.std.specs.Prelude.{◌≡◌, [], IfOk, OnErr, IsErr, Some, true, false};
-    ghost use Rattle.rtrb.specs.Ring.{sent};
+    ghost use Rattle.std.specs.Prelude.{◌≡◌, ◌<◌, [], length, IfOk, IsOk, OnErr, IsErr, IsSome, Some, true, false};
+    ghost use Rattle.rtrb.specs.Ring.{sent, known_free, producer_capacity};
     ghost use Rattle.pipe_bodies.specs.Courses.{plan_in};
-    ghost use Rattle.pipe_bodies.specs.Rings.{in_ring, ring_out, got};
-    ghost use Rattle.pipe_bodies.specs.Bodies.{lasting_by, joined_by, fresh_seen};
+    ghost use Rattle.pipe_bodies.specs.Rings.{in_ring, ring_out, got, known};
+    ghost use Rattle.pipe_bodies.specs.Bodies.{lasting_by, joined_by, IsFresh};
     ghost use Rattle.pipe_bodies.specs.Turns.{Turns, Sound, WaitsFor};
     ghost use Rattle.pipe_bodies.specs.declared.verdict.Then.TheVariants.{Exit};
     ghost use Rattle.pipe_bodies.specs.Parts.{seen, rings, IsJoined, KeepsNone};
@@ -63,10 +63,9 @@ impl<W: Work> Body<W> {
         right: Option<Consumer<Item>>,
     ) -> Body<W>
         requires joined { IsJoined (Some (plan_in course)) (in_ring left) (in_ring right) }
-        requires fresh { (got left ≡ []) × (got right ≡ []) }
+        requires empty { (got left ≡ []) × (got right ≡ []) × (known left ≡ []) × (known right ≡ []) }
         ensures lasting { result.lasting ≡ lasting_by task (plan_in course) (in_ring left) (in_ring right) }
-        ensures seen { result.seen ≡ fresh_seen (plan_in course) }
-        ensures kept { (result.kept ≡ []) × (result.broken ≡ false) }
+        ensures fresh { IsFresh result }
     {
         let origin = Tag::of::<Course<W>, PlanNumbers>(&course);
         let parts = Parts {
@@ -90,27 +89,31 @@ impl<W: Work> Body<W> {
 
     // The ring that another task reads from now on.
     pub(crate) fn join(&mut self, producer: Producer<Item>)
-        requires out { (self.old.seen.out ≡ []) × (self.old.seen.ended ≡ false) }
-        requires sent { sent producer ≡ [] }
+        requires fresh { IsFresh self.old }
+        requires empty { (sent producer ≡ []) × (known_free producer ≡ producer_capacity producer) }
         ensures lasting { self.new.lasting ≡ joined_by self.old.lasting (ring_out producer) }
-        ensures seen { self.new.seen ≡ self.old.seen }
+        ensures fresh { IsFresh self.new }
     {
         self.parts.output = Some(producer);
     }
 
     /// One turn, which does the first of these that applies: the oldest held item is put out; the task is done where
     /// its end was put out; a source makes its next item; an item is taken from the side that the plan wants. What the
-    /// plan says for it is held. After a refusal every turn is one.
+    /// plan says for it is held. A refusal leaves what was put out, and so does every turn after it, which is refused too.
     #[tactic(auto, using(crate::proofs::BodyLaws::body_laws))]
     pub fn turn(&mut self) -> Result<Verdict, NoMemory>
         ensures turns { IfOk result (λ v. Turns self.old.seen self.new.seen v) }
         ensures waits { IfOk result (λ v. WaitsFor v.then self.new.known) }
         ensures exit { IfOk result (λ v. v.then ≡ Exit → self.new.seen.ended ≡ true) }
-        ensures over { self.old.seen.ended ≡ true → IfOk result (λ v. v.then ≡ Exit) }
+        ensures over { self.old.seen.ended ≡ true → IsOk result × IfOk result (λ v. v.then ≡ Exit) }
         ensures lasting { self.new.lasting ≡ self.old.lasting }
         ensures ended { self.old.seen.ended ≡ true → self.new.seen.ended ≡ true }
-        ensures broken { self.old.broken ≡ true → IsErr result }
+        ensures broken { self.old.broken ≡ true → IsErr result × (self.new ≡ self.old) }
         ensures err { OnErr result (self.new.broken ≡ true) }
+        ensures out { OnErr result ((self.new.seen.out ≡ self.old.seen.out) × (self.new.kept ≡ self.old.kept)
+            × (self.new.seen.ended ≡ self.old.seen.ended) × (self.new.known.free ≡ self.old.known.free)) }
+        ensures written { (self.old.broken ≡ false) × (0 < length self.old.seen.held)
+            × IsSome self.old.lasting.rings.output → IsOk result }
     {
         if self.broken {
             return Err(NoMemory);

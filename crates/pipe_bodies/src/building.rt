@@ -3,9 +3,10 @@ ghost use Rattle.std.specs.Prelude.{◌≡◌, ◌<◌, ◌^◌, ℕ, List, [], 
 ghost use Rattle.task_script.specs.Plan.{sides};
 ghost use Rattle.task_script.specs.Forest.{IsForest};
 ghost use Rattle.pipe_bodies.specs.Courses.{plan_in};
-ghost use Rattle.pipe_bodies.specs.Rings.{in_ring, got};
-ghost use Rattle.pipe_bodies.specs.Nets.{IsNet, IsReading, IsFree, IsUnused, Links, Built, reads_on};
-ghost use Rattle.pipe_bodies.specs.Nets.{plan_for, part_of, output_of, seen_of, lasting_of};
+ghost use Rattle.pipe_bodies.specs.Rings.{in_ring, got, known};
+ghost use Rattle.pipe_bodies.specs.Bodies.{IsFresh, IsOfRoom, HasRoom};
+ghost use Rattle.pipe_bodies.specs.Nets.{IsNet, IsReading, IsFree, IsBegun, Links, Built, reads_on};
+ghost use Rattle.pipe_bodies.specs.Nets.{plan_for, part_of, output_of, lasting_of};
 
 use crate::body::Body;
 use crate::copies::copy_plan;
@@ -26,13 +27,13 @@ fn link<W: Work>(
     bodies: &mut Vec<Body<W>>,
 ) -> Result<Option<Consumer<Item>>, NoMemory>
     requires free { IsFree from.now (map output_of bodies.old.items) }
-    requires unused { (k : ℕ) (a : _) → k < length bodies.old.items → IsUnused (slice_index_or
-        (map seen_of bodies.old.items) k a) }
+    requires begun { All (IsBegun room) bodies.old.items }
     ensures links { IfOk result (λ c. Links from.now (map output_of bodies.old.items)
         (map output_of bodies.new.items) (in_ring c)) }
-    ensures got { IfOk result (λ c. got c ≡ []) }
+    ensures empty { IfOk result (λ c. (got c ≡ []) × (known c ≡ [])) }
+    ensures rooms { IfOk result (λ c. IsOfRoom room (in_ring c)) }
     ensures parts { OnOk result (map part_of bodies.new.items ≡ map part_of bodies.old.items) }
-    ensures seens { OnOk result (map seen_of bodies.new.items ≡ map seen_of bodies.old.items) }
+    ensures begun { OnOk result (All (IsBegun room) bodies.new.items) }
 {
     match from {
         [x, ..] => {
@@ -43,8 +44,6 @@ fn link<W: Work>(
         [] => Ok(None),
     }
 }
-
-ghost use Rattle.std.specs.Prelude.{slice_index_or};
 
 // One more body, joined to those of earlier tasks.
 fn build_one<W: Work>(
@@ -58,12 +57,13 @@ fn build_one<W: Work>(
     requires plan { (plan_in course ≡ task.now.plan) × (length task.now.from ≡ sides task.now.plan) }
     requires number { number ≡ length bodies.old.items }
     requires built { (ds : List TaskDef) × (reads : List ℕ) × IsReading (length ds) reads task.now.from
-        × Built ds reads (map part_of bodies.old.items) (map output_of bodies.old.items)
-        (map seen_of bodies.old.items) }
+        × Built ds reads (map part_of bodies.old.items) (map output_of bodies.old.items) }
+    requires begun { All (IsBegun room) bodies.old.items }
     ensures built { (ds : List TaskDef) (reads : List ℕ) → IsReading (length ds) reads task.now.from
         → Built ds reads (map part_of bodies.old.items) (map output_of bodies.old.items)
-        (map seen_of bodies.old.items) → OnOk result (Built (ds ++ task.now ∷ []) (reads_on task.now.from reads)
-        (map part_of bodies.new.items) (map output_of bodies.new.items) (map seen_of bodies.new.items)) }
+        → OnOk result (Built (ds ++ task.now ∷ []) (reads_on task.now.from reads)
+        (map part_of bodies.new.items) (map output_of bodies.new.items)) }
+    ensures begun { OnOk result (All (IsBegun room) bodies.new.items) }
     ensures count { OnOk result (length bodies.new.items ≡ length bodies.old.items + 1) }
 {
     let from = task.from.as_slice();
@@ -73,13 +73,13 @@ fn build_one<W: Work>(
     Ok(())
 }
 
-ghost use Rattle.std.specs.Prelude.{◌+◌};
+ghost use Rattle.std.specs.Prelude.{◌+◌, All};
 
 /// The rings of tasks, and a body for each, which begins with its course.
 ///
 /// The tasks are a forest, and each course has the plan of its task. The bodies are joined as the tasks say (`IsNet`):
 /// each has the number of its task, its plan, and an end of the ring to each task that it reads and from the one that
-/// reads it.
+/// reads it. Each ring has room for `room` items (`HasRoom`), and no body has had a turn (`IsFresh`).
 pub fn build_courses<W: Work>(
     alloc: Global,
     room: u32,
@@ -90,6 +90,8 @@ pub fn build_courses<W: Work>(
     requires count { length tasks.now < 2 ^ 32 }
     requires courses { map plan_in courses.items ≡ map plan_for tasks.now }
     ensures net { IfOk result (λ r. IsNet tasks.now (map lasting_of r.items)) }
+    ensures rooms { IfOk result (λ r. All (HasRoom room) (map lasting_of r.items)) }
+    ensures fresh { IfOk result (λ r. All IsFresh r.items) }
 {
     let mut bodies = Vec::new(alloc);
     let mut courses = courses.into_iter();
@@ -121,11 +123,13 @@ ghost use Rattle.task_script.specs.Script.{IsScript};
 pub struct Net;
 
 impl Net {
-    /// The rings of a script, which have its room, and a body for each of its tasks. The script stays: each body has a
-    /// copy of its plan.
+    /// The rings of a script, which have its room, and a body for each of its tasks, which has had no turn. The script
+    /// stays: each body has a copy of its plan.
     pub fn build<W: Work>(alloc: Global, script: &Script) -> Result<Vec<Body<W>>, NoMemory>
         requires script { (bytes : List ℕ) × IsScript bytes script.now }
         ensures net { IfOk result (λ r. IsNet script.now.tasks (map lasting_of r.items)) }
+        ensures rooms { IfOk result (λ r. All (HasRoom script.now.room) (map lasting_of r.items)) }
+        ensures fresh { IfOk result (λ r. All IsFresh r.items) }
     {
         law_script();
         let _range = script.shape.tasks;

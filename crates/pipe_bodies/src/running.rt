@@ -1,5 +1,5 @@
 // A whole run on one thread.
-ghost use Rattle.std.specs.Prelude.{◌≡◌, map, All, IsTrue, IfOk, IfSome};
+ghost use Rattle.std.specs.Prelude.{◌≡◌, ◌↔◌, map, All, IsTrue, IfOk, IfSome};
 ghost use Rattle.pipe_tasks.specs.Tasks.{forest_lines};
 ghost use Rattle.pipe_bodies.specs.Nets.{IsNet, HasEnded, lasting_of};
 
@@ -12,7 +12,7 @@ use task_script::TaskDef;
 
 /// Whether each body has put its end out.
 pub fn have_ended<W: Work>(bodies: &[Body<W>]) -> bool
-    ensures { IsTrue result → All HasEnded bodies.now }
+    ensures { IsTrue result ↔ All HasEnded bodies.now }
 {
     bodies.iter().all(|body| body.has_ended())
 }

@@ -50,16 +50,24 @@ impl Work for Box<dyn Work + Send + Drop> {
 pub struct NoWork;
 
 impl Work for NoWork {
-    ghost use Rattle.std.specs.Prelude.{[]};
+    ghost use Rattle.std.specs.Prelude.{◌≡◌, [], IsOk};
     ghost use Rattle.task_script.specs.declared.plan.Plan.TheVariants as plan;
 
     ghost meaning = { λ _. plan.Drop [] };
 
-    fn eat(&mut self, _line: &Line, _out: &mut Lines) -> Result<(), NoMemory> {
+    /// Puts out nothing, and takes no memory.
+    fn eat(&mut self, _line: &Line, out: &mut Lines) -> Result<(), NoMemory>
+        ensures ok { IsOk result × (out.new ≡ out.old) }
+    {
+        let _ = &out;
         Ok(())
     }
 
-    fn end(&mut self, _out: &mut Lines) -> Result<(), NoMemory> {
+    /// Puts out nothing, and takes no memory.
+    fn end(&mut self, out: &mut Lines) -> Result<(), NoMemory>
+        ensures ok { IsOk result × (out.new ≡ out.old) }
+    {
+        let _ = &out;
         Ok(())
     }
 
