@@ -1,5 +1,5 @@
 -- What is seen of the parts of a body.
-use Rattle.std.specs.Prelude.{◌≡◌, ◌≤◌, List, [], Bool, true, false, Option, Some, None, IsSome}
+use Rattle.std.specs.Prelude.{◌≡◌, ◌≤◌, List, [], ◌∷◌, Bool, true, false, Option, Some, None, IsSome}
 use Rattle.task_script.specs.Plan.{sides}
 use Rattle.pipe_bodies.specs.Courses.{plan_on}
 use Rattle.pipe_tasks.specs.Words.{Line}
@@ -7,6 +7,8 @@ use Rattle.pipe_bodies.specs.Rings.{Ring, in_ring, out_ring, got, out_of, known,
 use Rattle.pipe_bodies.specs.Turns.{Seen, Known, Sound}
 use Rattle.task_script.specs.declared.plan.Plan.{Plan}
 use Rattle.pipe_bodies.specs.declared.parts.Parts.{Parts}
+use Rattle.pipe_bodies.specs.declared.item.Item.{Item}
+use Rattle.pipe_bodies.specs.declared.item.Item.TheVariants.{Text, End}
 
 abbrev pub seen : {W : Type 0} → Parts W → Seen
 seen a = record { got_left = got a.left; got_right = got a.right; out = out_of a.output a.kept a.ended; held = a.held; plan = plan_on a.plan; ended = a.ended }
@@ -28,6 +30,17 @@ pub record StaysOut {W : Type 0} (a b : Parts W) : Type 0 where
   pub kept : b.kept ≡ a.kept
   pub ended : b.ended ≡ a.ended
   pub free : (knows b).free ≡ (knows a).free
+
+-- an item is kept where nobody reads; the end takes no place there
+abbrev pub KeepsLine : Item → Option Ring → Type 0
+KeepsLine (Text a) None = Unit {0}
+KeepsLine (Text a) (Some ring) = ⊥
+KeepsLine End ring = ⊥
+
+-- only these turns may take memory: a line is kept, or an item is made or taken
+abbrev pub MayTakeMemory : List Item → Option Plan → Option Ring → Type 0
+MayTakeMemory (i ∷ h) p ring = KeepsLine i ring
+MayTakeMemory [] p ring = IsSome p
 
 -- nothing is kept where another task reads
 abbrev pub KeepsNone : Option Ring → List Line → Type 0

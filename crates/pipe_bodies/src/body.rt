@@ -45,14 +45,14 @@ impl<W: Work> Names<Course<W>> for PlanNumbers {
 }
 
 impl<W: Work> Body<W> {
-    ghost use Rattle.std.specs.Prelude.{◌≡◌, ◌<◌, [], length, IfOk, IsOk, OnErr, IsErr, IsSome, Some, true, false};
+    ghost use Rattle.std.specs.Prelude.{◌≡◌, [], IfOk, IsOk, OnErr, IsErr, Some, true, false};
     ghost use Rattle.rtrb.specs.Ring.{sent, known_free, producer_capacity};
     ghost use Rattle.pipe_bodies.specs.Courses.{plan_in};
     ghost use Rattle.pipe_bodies.specs.Rings.{in_ring, ring_out, got, known};
     ghost use Rattle.pipe_bodies.specs.Bodies.{lasting_by, joined_by, IsFresh};
     ghost use Rattle.pipe_bodies.specs.Turns.{Turns, Sound, WaitsFor};
     ghost use Rattle.pipe_bodies.specs.declared.verdict.Then.TheVariants.{Exit};
-    ghost use Rattle.pipe_bodies.specs.Parts.{seen, rings, IsJoined, KeepsNone};
+    ghost use Rattle.pipe_bodies.specs.Parts.{seen, rings, IsJoined, KeepsNone, MayTakeMemory};
 
     // A body that has done nothing, and that nobody reads yet.
     pub(crate) fn new(
@@ -112,8 +112,8 @@ impl<W: Work> Body<W> {
         ensures err { OnErr result (self.new.broken ≡ true) }
         ensures out { OnErr result ((self.new.seen.out ≡ self.old.seen.out) × (self.new.kept ≡ self.old.kept)
             × (self.new.seen.ended ≡ self.old.seen.ended) × (self.new.known.free ≡ self.old.known.free)) }
-        ensures written { (self.old.broken ≡ false) × (0 < length self.old.seen.held)
-            × IsSome self.old.lasting.rings.output → IsOk result }
+        ensures cause { OnErr result (self.old.broken ≡ false
+            → MayTakeMemory self.old.seen.held self.old.seen.plan self.old.lasting.rings.output) }
     {
         if self.broken {
             return Err(NoMemory);

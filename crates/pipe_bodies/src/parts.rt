@@ -1,10 +1,10 @@
 // A body's plan, its ends of rings and what it holds.
 ghost use Rattle.std.specs.Prelude.{◌≡◌, ◌<◌, ◌↔◌, [], ◌∷◌, ◌++◌, if◌then◌else◌};
-ghost use Rattle.std.specs.Prelude.{IfOk, IsOk, IsTrue, MatchOption, IsSome, OnOk, OnErr, false};
+ghost use Rattle.std.specs.Prelude.{IfOk, IsTrue, MatchOption, IsSome, OnOk, OnErr, false};
 ghost use Rattle.pipe_tasks.specs.Plans.{wants};
 ghost use Rattle.pipe_bodies.specs.Items.{heard, after, makes, more, as_texts, pinned};
 ghost use Rattle.pipe_bodies.specs.Rings.{in_ring, out_ring, got, out_of, known, free_slots};
-ghost use Rattle.pipe_bodies.specs.Parts.{KeepsNone};
+ghost use Rattle.pipe_bodies.specs.Parts.{KeepsNone, KeepsLine};
 ghost use Rattle.pipe_bodies.specs.Turns.{is_end};
 
 use crate::held::Held;
@@ -210,7 +210,7 @@ fn put(output: &mut Option<Producer<Item>>, kept: &mut Lines, item: Item) -> Res
     ensures bare { KeepsNone (out_ring output.old) kept.old → KeepsNone (out_ring output.new) kept.new }
     ensures err { OnErr result ((out_of output.new kept.new false ≡ out_of output.old kept.old false)
         × (kept.new ≡ kept.old) × (free_slots output.new ≡ free_slots output.old)) }
-    ensures written { IsSome (out_ring output.old) → IsOk result }
+    ensures cause { OnErr result (KeepsLine item (out_ring output.old)) }
 {
     match output {
         None => match item {
@@ -225,10 +225,10 @@ fn put(output: &mut Option<Producer<Item>>, kept: &mut Lines, item: Item) -> Res
 }
 
 impl<W: Work> Parts<W> {
-    ghost use Rattle.std.specs.Prelude.{◌≡◌, ◌<◌, [], length, IfOk, IsOk, OnOk, OnErr, IsSome, false};
+    ghost use Rattle.std.specs.Prelude.{◌≡◌, ◌<◌, [], length, IfOk, OnOk, OnErr, IsSome, false};
     ghost use Rattle.pipe_bodies.specs.Turns.{Turns, Ordered, WaitsFor};
     ghost use Rattle.pipe_bodies.specs.Courses.{plan_on};
-    ghost use Rattle.pipe_bodies.specs.Parts.{seen, rings, knows, IsJoined, KeepsNone, StaysOut};
+    ghost use Rattle.pipe_bodies.specs.Parts.{seen, rings, knows, IsJoined, KeepsNone, StaysOut, MayTakeMemory};
 
     // Puts the oldest held item out, or holds it on where the ring has no room.
     fn put_oldest(&mut self) -> Result<Verdict, NoMemory>
@@ -240,7 +240,7 @@ impl<W: Work> Parts<W> {
             → KeepsNone (rings self.new).output self.new.kept }
         ensures said { self.new.said ≡ self.old.said }
         ensures err { OnErr result (StaysOut self.old self.new) }
-        ensures written { IsSome (rings self.old).output → IsOk result }
+        ensures cause { OnErr result (MayTakeMemory self.old.held (plan_on self.old.plan) (rings self.old).output) }
     {
         if is_full(&mut self.output) {
             return Ok(quiet(is_pinned(&self.plan), Then::WaitOut));
@@ -272,6 +272,7 @@ impl<W: Work> Parts<W> {
         ensures said { OnOk result (self.new.said ≡ []) }
         ensures out { (self.new.output ≡ self.old.output) × (self.new.kept ≡ self.old.kept)
             × (self.new.ended ≡ self.old.ended) }
+        ensures cause { OnErr result (IsSome (plan_on self.old.plan)) }
     {
         let Some(course) = &mut self.plan else {
             return Ok(quiet(false, Then::Exit));
@@ -312,7 +313,7 @@ impl<W: Work> Parts<W> {
             → KeepsNone (rings self.new).output self.new.kept }
         ensures said { OnOk result (self.new.said ≡ []) }
         ensures err { OnErr result ((self.old.ended ≡ false) × StaysOut self.old self.new) }
-        ensures written { (0 < length self.old.held) × IsSome (rings self.old).output → IsOk result }
+        ensures cause { OnErr result (MayTakeMemory self.old.held (plan_on self.old.plan) (rings self.old).output) }
     {
         if !self.held.is_empty() {
             return self.put_oldest();
