@@ -54,6 +54,26 @@ TurnsBy [] a b v = GoesOn a.plan a b v
 abbrev pub Turns : Seen → Seen → Verdict → Type 0
 Turns a b v = TurnsBy a.held a b v
 
+-- ---- a turn that is refused memory
+
+abbrev pub TakesNothing : Seen → Seen → Type 0
+TakesNothing a b = (b.got_left ≡ a.got_left) × (b.got_right ≡ a.got_right)
+
+-- one item is taken from the side that is wanted, and none from the other
+abbrev pub TakesOne : Option ℕ → Seen → Seen → Type 0
+TakesOne None a b = TakesNothing a b
+TakesOne (Some zero) a b = ((i : Item) × (b.got_left ≡ a.got_left ++ i ∷ [])) × (b.got_right ≡ a.got_right)
+TakesOne (Some (suc k)) a b = ((i : Item) × (b.got_right ≡ a.got_right ++ i ∷ [])) × (b.got_left ≡ a.got_left)
+
+abbrev pub TakesBy : List Item → Option Plan → Seen → Seen → Type 0
+TakesBy (i ∷ h) p a b = TakesNothing a b
+TakesBy [] None a b = TakesNothing a b
+TakesBy [] (Some p) a b = TakesOne (wants p) a b
+
+-- what a refused turn has taken, which is what an answered one takes
+abbrev pub RefusedTakes : Seen → Seen → Type 0
+RefusedTakes a b = TakesBy a.held a.plan a b
+
 -- ---- why a task waits
 
 -- what the ends of a body's rings know

@@ -50,7 +50,7 @@ impl<W: Work> Body<W> {
     ghost use Rattle.pipe_bodies.specs.Courses.{plan_in};
     ghost use Rattle.pipe_bodies.specs.Rings.{in_ring, ring_out, got, known};
     ghost use Rattle.pipe_bodies.specs.Bodies.{lasting_by, joined_by, IsFresh};
-    ghost use Rattle.pipe_bodies.specs.Turns.{Turns, Sound, WaitsFor};
+    ghost use Rattle.pipe_bodies.specs.Turns.{Turns, Sound, WaitsFor, RefusedTakes};
     ghost use Rattle.pipe_bodies.specs.declared.verdict.Then.TheVariants.{Exit};
     ghost use Rattle.pipe_bodies.specs.Parts.{seen, rings, IsJoined, KeepsNone, MayTakeMemory};
 
@@ -112,6 +112,7 @@ impl<W: Work> Body<W> {
         ensures err { OnErr result (self.new.broken ≡ true) }
         ensures out { OnErr result ((self.new.seen.out ≡ self.old.seen.out) × (self.new.kept ≡ self.old.kept)
             × (self.new.seen.ended ≡ self.old.seen.ended) × (self.new.known.free ≡ self.old.known.free)) }
+        ensures taken { OnErr result (self.old.broken ≡ false → RefusedTakes self.old.seen self.new.seen) }
         ensures cause { OnErr result (self.old.broken ≡ false
             → MayTakeMemory self.old.seen.held self.old.seen.plan self.old.lasting.rings.output) }
     {

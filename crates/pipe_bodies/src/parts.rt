@@ -226,7 +226,7 @@ fn put(output: &mut Option<Producer<Item>>, kept: &mut Lines, item: Item) -> Res
 
 impl<W: Work> Parts<W> {
     ghost use Rattle.std.specs.Prelude.{◌≡◌, ◌<◌, [], length, IfOk, OnOk, OnErr, IsSome, false};
-    ghost use Rattle.pipe_bodies.specs.Turns.{Turns, Ordered, WaitsFor};
+    ghost use Rattle.pipe_bodies.specs.Turns.{Turns, Ordered, WaitsFor, RefusedTakes};
     ghost use Rattle.pipe_bodies.specs.Courses.{plan_on};
     ghost use Rattle.pipe_bodies.specs.Parts.{seen, rings, knows, IsJoined, KeepsNone, StaysOut, MayTakeMemory};
 
@@ -240,6 +240,7 @@ impl<W: Work> Parts<W> {
             → KeepsNone (rings self.new).output self.new.kept }
         ensures said { self.new.said ≡ self.old.said }
         ensures err { OnErr result (StaysOut self.old self.new) }
+        ensures taken { OnErr result (RefusedTakes (seen self.old) (seen self.new)) }
         ensures cause { OnErr result (MayTakeMemory self.old.held (plan_on self.old.plan) (rings self.old).output) }
     {
         if is_full(&mut self.output) {
@@ -272,6 +273,7 @@ impl<W: Work> Parts<W> {
         ensures said { OnOk result (self.new.said ≡ []) }
         ensures out { (self.new.output ≡ self.old.output) × (self.new.kept ≡ self.old.kept)
             × (self.new.ended ≡ self.old.ended) }
+        ensures taken { OnErr result (RefusedTakes (seen self.old) (seen self.new)) }
         ensures cause { OnErr result (IsSome (plan_on self.old.plan)) }
     {
         let Some(course) = &mut self.plan else {
@@ -313,6 +315,7 @@ impl<W: Work> Parts<W> {
             → KeepsNone (rings self.new).output self.new.kept }
         ensures said { OnOk result (self.new.said ≡ []) }
         ensures err { OnErr result ((self.old.ended ≡ false) × StaysOut self.old self.new) }
+        ensures taken { OnErr result (RefusedTakes (seen self.old) (seen self.new)) }
         ensures cause { OnErr result (MayTakeMemory self.old.held (plan_on self.old.plan) (rings self.old).output) }
     {
         if !self.held.is_empty() {

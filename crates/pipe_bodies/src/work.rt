@@ -59,7 +59,6 @@ impl Work for NoWork {
     fn eat(&mut self, _line: &Line, out: &mut Lines) -> Result<(), NoMemory>
         ensures ok { IsOk result × (out.new ≡ out.old) }
     {
-        let _ = &out;
         Ok(())
     }
 
@@ -67,7 +66,6 @@ impl Work for NoWork {
     fn end(&mut self, out: &mut Lines) -> Result<(), NoMemory>
         ensures ok { IsOk result × (out.new ≡ out.old) }
     {
-        let _ = &out;
         Ok(())
     }
 
