@@ -99,7 +99,10 @@ impl<W: Work> Body<W> {
 
     /// One turn, which does the first of these that applies: the oldest held item is put out; the task is done where
     /// its end was put out; a source makes its next item; an item is taken from the side that the plan wants. What the
-    /// plan says for it is held. A refusal leaves what was put out, and so does every turn after it, which is refused too.
+    /// plan says for it is held.
+    ///
+    /// A turn may be refused memory only where it keeps a line, or makes or takes an item. What was put out then stays
+    /// as it was, and so does the whole body from then on: every later turn is refused.
     #[tactic(auto, using(crate::proofs::BodyLaws::body_laws))]
     pub fn turn(&mut self) -> Result<Verdict, NoMemory>
         ensures turns { IfOk result (λ v. Turns self.old.seen self.new.seen v) }

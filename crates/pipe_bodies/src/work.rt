@@ -93,7 +93,7 @@ impl<W: Work> Model for Custom<W> {
 }
 
 impl<W: Work> Custom<W> {
-    ghost use Rattle.std.specs.Prelude.{◌≡◌, ◌++◌, OnOk, Some, None, false};
+    ghost use Rattle.std.specs.Prelude.{◌≡◌, ◌++◌, OnOk, OnErr, Some, None, false};
     ghost use Rattle.pipe_tasks.specs.Plans.{says, next, last, wants, closed};
     ghost use Rattle.pipe_bodies.specs.Items.{pinned};
 
@@ -115,14 +115,16 @@ impl<W: Work> Custom<W> {
     }
 
     pub fn eat(&mut self, line: &Line, out: &mut Lines) -> Result<(), NoMemory>
-        ensures { OnOk result ((out.new ≡ out.old ++ says self.old 0 line.now)
+        ensures ok { OnOk result ((out.new ≡ out.old ++ says self.old 0 line.now)
             × (self.new ≡ next self.old 0 line.now)) }
+        ensures err { OnErr result ((out.new ≡ out.old) × (self.new ≡ self.old)) }
     {
         self.work.eat(line, out)
     }
 
     pub fn end(&mut self, out: &mut Lines) -> Result<(), NoMemory>
-        ensures { OnOk result (out.new ≡ out.old ++ last self.old 0) }
+        ensures ok { OnOk result (out.new ≡ out.old ++ last self.old 0) }
+        ensures err { OnErr result ((out.new ≡ out.old) × (self.new ≡ self.old)) }
     {
         let ended = self.work.end(out);
         self.work.has_one_side();
