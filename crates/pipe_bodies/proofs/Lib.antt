@@ -10,3 +10,4 @@ pub mod BuildLoop
 pub mod ForestScripts
 pub mod CopyLaws
 pub mod TestScripts
+pub mod RunLaws

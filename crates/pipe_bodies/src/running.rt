@@ -1,5 +1,5 @@
 // A whole run on one thread.
-ghost use Rattle.std.specs.Prelude.{◌≡◌, ◌↔◌, map, All, IsTrue, IfOk, IfSome};
+ghost use Rattle.std.specs.Prelude.{◌≡◌, ◌<◌, ◌↔◌, map, All, IsTrue, IsOk, IfOk, IfSome, IsSome};
 ghost use Rattle.pipe_tasks.specs.Tasks.{forest_lines};
 ghost use Rattle.pipe_bodies.specs.Nets.{IsNet, HasEnded, lasting_of};
 
@@ -19,7 +19,8 @@ pub fn have_ended<W: Work>(bodies: &[Body<W>]) -> bool
 
 // One turn of each body.
 fn round<W: Work>(bodies: &mut Vec<Body<W>>) -> Result<(), NoMemory>
-    ensures { map lasting_of bodies.new.items ≡ map lasting_of bodies.old.items }
+    ensures lasting { map lasting_of bodies.new.items ≡ map lasting_of bodies.old.items }
+    ensures ended { All HasEnded bodies.old.items → IsOk result × All HasEnded bodies.new.items }
 {
     for i in 0..bodies.len() {
         let _verdict = bodies[i].turn()?;
@@ -29,7 +30,8 @@ fn round<W: Work>(bodies: &mut Vec<Body<W>>) -> Result<(), NoMemory>
 
 // One turn of the body at a place, counted round.
 fn turn_one<W: Work>(bodies: &mut Vec<Body<W>>, place: usize) -> Result<(), NoMemory>
-    ensures { map lasting_of bodies.new.items ≡ map lasting_of bodies.old.items }
+    ensures lasting { map lasting_of bodies.new.items ≡ map lasting_of bodies.old.items }
+    ensures ended { All HasEnded bodies.old.items → IsOk result × All HasEnded bodies.new.items }
 {
     let count = bodies.len();
     if count > 0 {
@@ -48,7 +50,8 @@ pub fn run_bodies<W: Work>(
     rounds: u64,
 ) -> Result<Option<Vec<Lines>>, NoMemory>
     requires { IsNet tasks.now (map lasting_of bodies.items) }
-    ensures { IfOk result (λ o. IfSome o (λ r. r.items ≡ forest_lines tasks.now)) }
+    ensures lines { IfOk result (λ o. IfSome o (λ r. r.items ≡ forest_lines tasks.now)) }
+    ensures ended { 0 < rounds → All HasEnded bodies.items → IfOk result (λ o. IsSome o) }
 {
     let mut bodies = bodies;
     for _ in 0..rounds {
@@ -73,7 +76,8 @@ pub fn run_shuffled<W: Work>(
     turns: u64,
 ) -> Result<Option<Vec<Lines>>, NoMemory>
     requires { IsNet tasks.now (map lasting_of bodies.items) }
-    ensures { IfOk result (λ o. IfSome o (λ r. r.items ≡ forest_lines tasks.now)) }
+    ensures lines { IfOk result (λ o. IfSome o (λ r. r.items ≡ forest_lines tasks.now)) }
+    ensures ended { 0 < turns → All HasEnded bodies.items → IfOk result (λ o. IsSome o) }
 {
     let mut bodies = bodies;
     let mut state = seed;
