@@ -1,0 +1,4 @@
+pub mod Kept
+pub mod May
+pub mod Sorts
+pub mod Standing
