@@ -1,1 +1,2 @@
+pub mod RunsKept
 pub mod StandingKept
