@@ -12,7 +12,7 @@ use Rattle.word_rule.specs.May.{MayGiveQueueVal}
 use Rattle.word_steps.proofs.Conditions.{queue_locked, body_out_may}
 use Rattle.word_steps.proofs.MovingKept.{one_seat}
 use Rattle.word_steps.specs.Decode.{Homes, core_of}
-use Rattle.word_steps.specs.Folds.{queue_held, has_added, current_task, body_held}
+use Rattle.word_steps.specs.Folds.{queue_held, has_added, current_task}
 use Rattle.word_steps.specs.Records.{Rec}
 use Rattle.word_steps.specs.Words.{QUEUE_LOCK, RQ, CPU, STATE, holder}
 

@@ -6,7 +6,7 @@ use Rattle.std.proofs.lemmas.Bool.Decides.{nat_tests}
 use mathlib.Core.Bool.{not}
 use Rattle.core_data.specs.Table.{put, put_at}
 use Rattle.core_data.specs.Queue.{Queue, times_in}
-use Rattle.core_gives.specs.Queues.{times, is_some_of, gives_up}
+use Rattle.core_gives.specs.Queues.{is_some_of, gives_up}
 use Rattle.core_invariant.specs.Invariant.{Holds}
 use Rattle.core_kinds.specs.Locks.{MayTakeQueue}
 use Rattle.core_kinds.specs.Running.{MayQueue, MayDequeue, MayMove, MaySetBusy}
@@ -21,7 +21,7 @@ use Rattle.word_steps.proofs.MovingKept.{one_seat}
 use Rattle.word_steps.proofs.Puts.{word_here, word_apart, word_beside, fold_here, fold_else}
 use Rattle.word_steps.specs.Beside.{CurrentHolds, PutHolds}
 use Rattle.word_steps.specs.Decode.{Homes, core_of}
-use Rattle.word_steps.specs.Folds.{current_task, stays_queued, queue_held, has_put, has_added, put_after, added_after, put_row, put_column, put_column_if, put_both}
+use Rattle.word_steps.specs.Folds.{current_task, stays_queued, queue_held, has_put, has_added, put_after, added_after, put_column, put_column_if, put_both}
 use Rattle.word_steps.specs.Records.{Rec, Took, Gave, Queued, Dequeued, Moved, SetBusy, StoredOwn, Claimed, Released, LoadedState, StoredCpu}
 use Rattle.word_steps.specs.Words.{STATE, BUSY, QUEUE_LOCK, RQ, CPU, holder, is_set}
 use Rattle.word_steps.specs.declared.val.Val.TheVariants as val
