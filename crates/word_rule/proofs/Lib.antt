@@ -1,0 +1,3 @@
+pub mod GiveQueue
+pub mod RunsKept
+pub mod StandingKept
