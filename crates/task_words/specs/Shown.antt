@@ -1,6 +1,5 @@
 -- How a pass is seen.
-use Rattle.std.specs.Prelude.{◌≡◌, ◌+◌, ◌*◌, ◌-◌}
-use Rattle.std.specs.Vec.{vec_capacity, vec_len}
+use Rattle.std.specs.Prelude.{◌≡◌, ◌+◌, ◌*◌, length}
 use Rattle.task_words.specs.Views.{PassView}
 use Rattle.task_words.specs.declared.pass.Pass.TheInside.{Inside}
 use Rattle.word_steps.specs.Folds.{current_task}
@@ -12,11 +11,10 @@ pass_view p = record {
   lasting = p.token.lasting;
   seat = p.token.seat;
   trace = p.token.trace;
-  turn = p.turn.items;
-  spare = vec_capacity p.turn - vec_len p.turn;
+  turn = p.turn;
 }
 
 -- it knows its current task, and has room for four entries a task and sixteen
 pub record IsPass (p : Inside) : Type 0 where
   pub current : p.current ≡ current_task p.token.seat p.token.trace
-  pub room : vec_capacity p.turn ≡ 4 * p.token.shape.tasks + 16
+  pub room : length p.turn.entries + p.turn.spare ≡ 4 * p.token.shape.tasks + 16

@@ -1,7 +1,7 @@
 //! The token of a seat, with the entries of its turn.
 ghost use Rattle.std.specs.Prelude.{◌≡◌, ◌+◌, ◌*◌, ◌++◌, ◌∷◌, ◌<◌, [], length, slice_get};
 ghost use Rattle.handoff_data.specs.declared.entry.Entry.{Entry};
-ghost use Rattle.task_words.specs.Views.{IsSameSeat};
+ghost use Rattle.task_words.specs.Views.{logged};
 ghost use Rattle.word_steps.specs.Folds.{current_task};
 
 use handoff_data::{Entry, SeatNo, TaskNo};
@@ -15,18 +15,20 @@ pub struct Turn {
 }
 
 impl Model for Turn {
-    ghost use Rattle.std.specs.Prelude.{List};
-    ghost use Rattle.handoff_data.specs.declared.entry.Entry.{Entry};
+    ghost use Rattle.task_words.specs.Views.{TurnView};
 
-    ghost Value = { List Entry };
+    ghost Value = { TurnView };
 
-    ghost view = { λ t. t.entries.items };
+    ghost use Rattle.std.specs.Prelude.{◌-◌};
+    ghost use Rattle.std.specs.Vec.{vec_capacity, vec_len};
+
+    ghost view = { λ t. record { entries = t.entries.items; spare = vec_capacity t.entries - vec_len t.entries } };
 }
 
 impl Turn {
     /// Entry `i` of the turn; none where there are not so many.
     pub fn get(&self, i: usize) -> Option<Entry>
-        ensures { result ≡ slice_get self.now i }
+        ensures { result ≡ slice_get self.now.entries i }
     {
         self.entries.get(i).copied()
     }
@@ -40,4 +42,62 @@ pub struct Pass {
     // Its current task, as its trace has it.
     pub(crate) current: Option<TaskNo>,
     pub(crate) turn: Turn,
+}
+
+impl Model for Pass {
+    ghost use Rattle.task_words.specs.Views.{PassView};
+
+    ghost Value = { PassView };
+
+    ghost use Rattle.task_words.specs.Shown.{pass_view, IsPass};
+
+    ghost view = { pass_view };
+
+    ghost invariant = { IsPass };
+}
+
+impl Pass {
+    /// The seat's number.
+    pub fn seat(&self) -> SeatNo
+        ensures { result ≡ self.now.seat }
+    {
+        self.token.seat()
+    }
+
+    /// The task that the seat runs, if it runs one.
+    pub fn current(&self) -> Option<TaskNo>
+        ensures { result ≡ current_task self.now.seat self.now.trace }
+    {
+        self.current
+    }
+
+    /// How many more entries the turn has room for.
+    pub fn spare(&self) -> usize
+        ensures { result ≡ self.now.turn.spare }
+    {
+        self.turn.entries.capacity() - self.turn.entries.len()
+    }
+
+    /// The entries of the turn.
+    pub fn turn(&self) -> &Turn
+        ensures { result.now ≡ self.now.turn }
+    {
+        &self.turn
+    }
+
+    /// Forgets the entries of the turn, whose room is then free: for four entries a task and sixteen. What the seat did
+    /// stays.
+    pub fn clear_turn(&mut self)
+        ensures { self.new ≡ record self.old { turn = record { entries = []; spare = 4 * self.old.shape.tasks + 16 } } }
+    {
+        self.turn.entries.clear();
+    }
+
+    // One entry more.
+    pub(crate) fn log(&mut self, entry: Entry)
+        requires spare { 0 < self.old.turn.spare }
+        ensures { self.new ≡ record self.old { turn = logged entry self.old.turn } }
+    {
+        self.turn.entries.push_reserved(entry);
+    }
 }
