@@ -1,0 +1,6 @@
+pub mod Slotted
+pub mod Decoded
+pub mod Acts
+pub mod Laws
+pub mod Rows
+pub mod Moves
