@@ -1,5 +1,5 @@
 -- What the slots show at home, after one of them was changed.
-use Rattle.std.proofs.Common.{◌≡◌, ◌≢◌, ℕ, ◌+◌, ◌*◌, ◌<◌, inl, inr, Bool, true, false, set, length, refl, sym, ap, ◌∙◌, List, arith}
+use Rattle.std.proofs.Common.{◌≡◌, ◌≢◌, ℕ, ◌<◌, inl, inr, Bool, true, false, set, length, refl, sym, ap, ◌∙◌, List, arith}
 use Rattle.std.proofs.lemmas.Bool.{cases_eq}
 use Rattle.std.specs.Prelude.{Option, Some, None, is_some}
 use mathlib.Core.Option.{none, some}
@@ -14,7 +14,6 @@ use Rattle.core_data.specs.declared.values.WaitEntry.{WaitEntry}
 use Rattle.core_data.specs.declared.values.WorkItem.{WorkItem}
 use Rattle.core_stores.proofs.Columns.{put_there, put_other}
 use Rattle.word_rule.specs.Sorts.{Sort, OfTask, OfQueue, OfWorks, OfWait, home_of, without, with_home, some_of}
-use Rattle.word_steps.specs.Decode.{Homes}
 use Rattle.word_steps.specs.declared.val.Val.{Val}
 use Rattle.word_steps.specs.declared.val.Val.TheVariants as val
 use Rattle.word_table.specs.Layout.{SLOTS, BODY_SLOT, slot_of, slot_at}

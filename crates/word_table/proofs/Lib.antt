@@ -4,3 +4,5 @@ pub mod Acts
 pub mod Laws
 pub mod Rows
 pub mod Moves
+pub mod Opened
+pub mod Ways

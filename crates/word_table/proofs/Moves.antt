@@ -1,19 +1,19 @@
 -- Each kind of step keeps the rule, and tells its seat what it did.
-use Rattle.std.proofs.Common.{◌≡◌, ◌≢◌, ℕ, suc, ◌+◌, ◌*◌, ◌%◌, ◌^◌, ◌<◌, ◌≤◌, Bool, true, false, eqb, set, get_or, length, lt-ltb, refl, sym, ap, ◌∙◌, subst, List, [], ◌∷◌, ⊎_elim, arith}
+use Rattle.std.proofs.Common.{◌≡◌, ◌≢◌, ℕ, suc, ◌+◌, ◌*◌, ◌<◌, ◌≤◌, Bool, true, false, eqb, set, get_or, length, lt-ltb, refl, sym, ap, ◌∙◌, subst, List, [], ◌∷◌, ⊎_elim, arith}
 use Rattle.std.specs.Prelude.{Some, slice_index_or}
 use mathlib.Core.Option.{none, some, some-injective}
 use mathlib.Core.Option as maybe
 use lib.ListN.{get_elem?}
 use lib.Seq.{set-get_or}
 use prog.Atomic.{either}
-use Rattle.atomic_table.specs.Table.{State, step, Act, keeps, takes, gives, Valid, carried_after, stepped, Allows}
+use Rattle.atomic_table.specs.Table.{step, Act, keeps, takes, gives, Valid, carried_after, stepped, Allows}
 use Rattle.atomic_table.proofs.Lists.{set_again, exchanged}
 use Rattle.core_data.specs.Table.{put, put_at}
 use Rattle.core_stores.proofs.Columns.{put_there, put_other, put_id}
 use Rattle.handoff_data.specs.declared.shape.Shape.{Shape}
 use Rattle.word_rule.specs.Kept.{Kept}
 use Rattle.word_rule.specs.May.{MayGive, MayTakeBody, MayReturnBody}
-use Rattle.word_rule.specs.Sorts.{Sort, OfTask, OfQueue, OfWorks, OfWait, lock_of, count_of, held_of, IsOf, without, with_home}
+use Rattle.word_rule.specs.Sorts.{Sort, OfTask, OfQueue, OfWorks, OfWait, lock_of, count_of, held_of, IsOf, with_home}
 use Rattle.word_steps.specs.Decode.{Homes}
 use Rattle.word_steps.specs.Records.{Rec, Took, Gave, OutBody, HomeBody}
 use Rattle.word_steps.specs.Words.{STRIDE, BODY, words_of}
@@ -24,7 +24,7 @@ use Rattle.word_table.specs.Layout.{SLOTS, BODY_SLOT, rows_of, slot_of, word_at,
 use Rattle.word_table.specs.Outs.{IsQuiet, has_out}
 use Rattle.word_table.specs.Parts.{Known}
 use Rattle.word_table.specs.Plays.{one, part, sat, holding, push, lift, lay, Sat, became, stored, tried, took, lain, lifted, gave, left, came}
-use Rattle.word_table.specs.Ruled.{IsBody, val_in, has_body, homes_of, known_of, lastings, Ruled}
+use Rattle.word_table.specs.Ruled.{IsBody, val_in, has_body, homes_of, lastings}
 use Rattle.word_table.specs.declared.slot.Key.{Key}
 use Rattle.word_table.specs.declared.slot.Slot.{Slot}
 use Rattle.word_table.specs.declared.slot.Slot.TheVariants.{Empty, Held, Body}
@@ -95,7 +95,7 @@ module _ {B : Type 0} (lasting : B → List ℕ) (ended_of : B → Bool) (key : 
   module _ (col : ℕ) (bound : Shape → ℕ) (note : ℕ → List Rec → ℕ → ℕ → ℕ → Rec) (may : Shape → ℕ → List Rec → ℕ → ℕ → ℕ → Type 0) (told : Shape → ℕ → Type 0) (low : col < STRIDE) (rows : (shape : Shape) → bound shape ≤ rows_of shape)
       (quiet : (s : ℕ) (trace : List Rec) (n y x : ℕ) → IsQuiet (note s trace n y x) trace)
       (keep : (shape : Shape) (words : ℕ → ℕ → ℕ) (homes : Homes) (traces : ℕ → List Rec) (s n y : ℕ) → Kept shape words homes traces → s < shape.cpus + shape.agents → n < bound shape → may shape s (traces s) n (words n col) y
-          → Kept shape (put_at words n col y) homes (put traces s (note s (traces s) n y (words n col) ∷ traces s)) × told shape (words n col)) where
+      → Kept shape (put_at words n col y) homes (put traces s (note s (traces s) n y (words n col) ∷ traces s)) × told shape (words n col)) where
     pub by_kind : (s : St lasting ended_of key) (r : R lasting ended_of key s) (id k n y : ℕ) (known : Known) (tr : List Rec) → n < bound key.shape → get_elem? s.views id ≡ some (one known (part k tr 0))
         → may key.shape k tr n (get_or s.words (word_at n col) 0) y
         → R lasting ended_of key record {
