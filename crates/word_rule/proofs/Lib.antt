@@ -1,0 +1,2 @@
+pub mod GrownKept
+pub mod OffKept
