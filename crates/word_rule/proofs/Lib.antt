@@ -1,2 +1,4 @@
+pub mod BodiesKept
 pub mod GrownKept
 pub mod OffKept
+pub mod Possible
