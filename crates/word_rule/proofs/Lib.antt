@@ -2,3 +2,4 @@ pub mod BodiesKept
 pub mod GrownKept
 pub mod OffKept
 pub mod Possible
+pub mod PossibleGives
