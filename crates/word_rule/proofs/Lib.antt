@@ -3,3 +3,4 @@ pub mod GrownKept
 pub mod OffKept
 pub mod Possible
 pub mod PossibleGives
+pub mod Quiet
