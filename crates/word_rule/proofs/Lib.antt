@@ -4,3 +4,4 @@ pub mod OffKept
 pub mod Possible
 pub mod PossibleGives
 pub mod Quiet
+pub mod StandingKept
