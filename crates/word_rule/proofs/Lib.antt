@@ -1,7 +1,11 @@
 pub mod BodiesKept
 pub mod GrownKept
+pub mod LoadLaws
 pub mod OffKept
 pub mod Possible
 pub mod PossibleGives
+pub mod QueueLaws
 pub mod Quiet
+pub mod RunsKept
 pub mod StandingKept
+pub mod StoreLaws

@@ -40,6 +40,10 @@ waits_once w n on cpu c once more counts = grind (arith, nat_tests, once, more, 
 stands_here : (n on cpu c : ℕ) → n ≡ 1 → n ≡ (if (on == 1) && (cpu == c) then 1 else 0) → cpu ≡ c
 stands_here n on cpu c once counts = grind (arith, nat_tests, once, counts)
 
+-- a queue whose next is the task
+abbrev pub next_queue : Queue → ℕ → Queue
+next_queue taken t = record { waiting = taken.waiting; cur = Some t; left = taken.left }
+
 -- an odd number up to an even one is below it
 below_even : (n : ℕ) → n % 2 ≡ 1 → n ≤ 2 ^ 60 → n < 2 ^ 60
 below_even n odd most = omega (arith, odd, most)
@@ -107,10 +111,6 @@ module _ (shape : Shape) (words : ℕ → ℕ → ℕ) (homes : Homes) (traces :
       queued : words t RQ % 4 ≡ 1
       queued = waits_once (times_in may.taken.waiting t) (times may.taken t) (words t RQ % 4) (words t CPU) may.cpu may.waiting (omega arith)
           (kept.holds.queues.left s may.cpu may.taken t may.queue may.unadded may.undropped)
-
-  -- a queue whose next is the task
-  abbrev pub next_queue : Queue → ℕ → Queue
-  next_queue taken t = record { waiting = taken.waiting; cur = Some t; left = taken.left }
 
   pub set_busy_possible : (t y : ℕ) → t < shape.tasks → (may : MaySetBusyWord s (traces s) t (words t BUSY) y)
       → MaySetBusy (core_of shape words homes traces) s s t (next_queue may.taken t)
