@@ -1,4 +1,5 @@
 pub mod BodiesKept
+pub mod GiveQueue
 pub mod GrownKept
 pub mod LoadLaws
 pub mod OffKept
