@@ -1,7 +1,9 @@
 pub mod BodiesKept
+pub mod BodyLaws
 pub mod GiveQueue
 pub mod GrownKept
 pub mod LoadLaws
+pub mod LockLaws
 pub mod OffKept
 pub mod Possible
 pub mod PossibleGives

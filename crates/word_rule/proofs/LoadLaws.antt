@@ -56,10 +56,6 @@ module _ (shape : Shape) (words : ℕ → ℕ → ℕ) (homes : Homes) (traces :
       → Kept shape (put_at words n STATE y) homes (put traces s (LoadedState n None (record { 0 = words n STATE }) ∷ traces s)) × (words n STATE < 2 ^ 16)
   load_state_law task same = (as_found shape words homes _ n STATE y same (state_kept None task tt), kept.states n)
 
-  pub load_masked_law : (mask : State) → n < shape.tasks → IsMask (Some mask) → y ≡ words n STATE
-      → Kept shape (put_at words n STATE y) homes (put traces s (LoadedState n (Some mask) (record { 0 = words n STATE }) ∷ traces s)) × (words n STATE < 2 ^ 16)
-  load_masked_law mask task allowed same = (as_found shape words homes _ n STATE y same (state_kept (Some mask) task allowed), kept.states n)
-
   rq_kept : n < shape.tasks → Kept shape words homes (put traces s (LoadedRq n (words n RQ % 4) (words n RQ / 4) ∷ traces s))
   rq_kept task =
       record {
@@ -81,16 +77,16 @@ module _ (shape : Shape) (words : ℕ → ℕ → ℕ) (homes : Homes) (traces :
       }
 
   pub load_rq_law : n < shape.tasks → y ≡ words n RQ
-      → Kept shape (put_at words n RQ y) homes (put traces s (LoadedRq n (words n RQ % 4) (words n RQ / 4) ∷ traces s))
-  load_rq_law task same = as_found shape words homes _ n RQ y same (rq_kept task)
+      → Kept shape (put_at words n RQ y) homes (put traces s (LoadedRq n (words n RQ % 4) (words n RQ / 4) ∷ traces s)) × Unit {0}
+  load_rq_law task same = (as_found shape words homes _ n RQ y same (rq_kept task), tt)
 
   pub load_busy_law : n < shape.tasks → y ≡ words n BUSY
-      → Kept shape (put_at words n BUSY y) homes (put traces s (LoadedBusy n (is_set (words n BUSY)) (words n BUSY / 2) ∷ traces s))
-  load_busy_law task same = as_found shape words homes _ n BUSY y same (quiet_still shape words homes homes traces s kept refl (LoadedBusy n (is_set (words n BUSY)) (words n BUSY / 2))
+      → Kept shape (put_at words n BUSY y) homes (put traces s (LoadedBusy n (is_set (words n BUSY)) (words n BUSY / 2) ∷ traces s)) × Unit {0}
+  load_busy_law task same = (as_found shape words homes _ n BUSY y same (quiet_still shape words homes homes traces s kept refl (LoadedBusy n (is_set (words n BUSY)) (words n BUSY / 2))
       (record { moving = λ h. refl; current = λ j. refl; stays = refl; numbers = λ h. refl; matched = refl; queued = λ c t e. e; put_there = refl; ended = refl; body = refl; off = λ t e. e })
       (load_busy_keeps shape words homes traces s n kept.holds (record { seat = seat; task = task }))
       (standing_still words traces s kept.standing (LoadedBusy n (is_set (words n BUSY)) (words n BUSY / 2)) refl)
-      (runs_still words traces s kept.runs (LoadedBusy n (is_set (words n BUSY)) (words n BUSY / 2)) refl refl))
+      (runs_still words traces s kept.runs (LoadedBusy n (is_set (words n BUSY)) (words n BUSY / 2)) refl refl)), tt)
 
   pub load_cpu_law : n < shape.tasks → y ≡ words n CPU
       → Kept shape (put_at words n CPU y) homes (put traces s (LoadedCpu n (words n CPU) ∷ traces s)) × (words n CPU < shape.cpus)
@@ -104,9 +100,18 @@ module _ (shape : Shape) (words : ℕ → ℕ → ℕ) (homes : Homes) (traces :
   )
 
   pub load_cond_law : n < shape.conds → y ≡ words n COND
-      → Kept shape (put_at words n COND y) homes (put traces s (LoadedCond n (words n COND) ∷ traces s))
-  load_cond_law condition same = as_found shape words homes _ n COND y same (quiet_still shape words homes homes traces s kept refl (LoadedCond n (words n COND))
+      → Kept shape (put_at words n COND y) homes (put traces s (LoadedCond n (words n COND) ∷ traces s)) × Unit {0}
+  load_cond_law condition same = (as_found shape words homes _ n COND y same (quiet_still shape words homes homes traces s kept refl (LoadedCond n (words n COND))
       (record { moving = λ h. refl; current = λ j. refl; stays = refl; numbers = λ h. refl; matched = refl; queued = λ c t e. e; put_there = refl; ended = refl; body = refl; off = λ t e. e })
       (load_cond_keeps shape words homes traces s n kept.holds (record { seat = seat; condition = condition }))
       (standing_still words traces s kept.standing (LoadedCond n (words n COND)) refl)
-      (runs_still words traces s kept.runs (LoadedCond n (words n COND)) refl refl))
+      (runs_still words traces s kept.runs (LoadedCond n (words n COND)) refl refl)), tt)
+
+-- of the state, with a mask
+pub load_masked_law : (mask : State) → IsMask (Some mask) → (shape : Shape) (words : ℕ → ℕ → ℕ) (homes : Homes) (traces : ℕ → List Rec) (s n y : ℕ)
+    → Kept shape words homes traces → s < shape.cpus + shape.agents → n < shape.tasks → y ≡ words n STATE
+    → Kept shape (put_at words n STATE y) homes (put traces s (LoadedState n (Some mask) (record { 0 = words n STATE }) ∷ traces s)) × (words n STATE < 2 ^ 16)
+load_masked_law mask allowed shape words homes traces s n y kept seat task same = (
+  as_found shape words homes _ n STATE y same (state_kept shape words homes traces s n y kept seat (Some mask) task allowed),
+  kept.states n,
+)
