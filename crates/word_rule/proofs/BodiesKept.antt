@@ -1,6 +1,6 @@
 -- A seat knows whether the body that it has out had ended: kept by each kind of step.
-use Rattle.std.proofs.Common.{◌≡◌, ◌≢◌, ℕ, inl, inr, refl, sym, ap, subst, ◌∙◌, List, [], ◌∷◌, arith}
-use Rattle.std.specs.Prelude.{Bool, Option, Some, None, IsSome}
+use Rattle.std.proofs.Common.{◌≡◌, ℕ, inl, inr, refl, sym, subst, ◌∙◌, List, [], ◌∷◌, arith}
+use Rattle.std.specs.Prelude.{Bool, Option, Some, IsSome}
 use Rattle.std.proofs.lemmas.Bool.{cases_eq}
 use Rattle.core_data.specs.Table.{put}
 use Rattle.core_stores.proofs.Columns.{put_there}

@@ -24,54 +24,59 @@ use Rattle.word_steps.proofs.MovingSteps.{moving_start, states_start, moving_sti
 use Rattle.word_steps.proofs.NumbersKept.{numbers_start, numbers_still}
 use Rattle.word_steps.proofs.PutKept.{put_start, put_still}
 use Rattle.word_steps.proofs.QueuedKept.{queued_start, queued_still}
-use Rattle.word_steps.specs.Beside.{EndedHolds}
-use Rattle.word_steps.specs.Decode.{Homes, core_of, core_after}
+use Rattle.word_steps.specs.Decode.{Homes, core_of}
 use Rattle.word_steps.specs.Opening.{first_words, first_homes}
 use Rattle.word_steps.specs.Records.{Rec, OutBody, HomeBody}
 
 module _ (shape : Shape) (words : ℕ → ℕ → ℕ) (homes : Homes) (traces : ℕ → List Rec) (s t : ℕ) where
   pub take_body_law : Kept shape words homes traces → s < shape.cpus + shape.agents → t < shape.tasks → MayTakeBody s (traces s) t
       → (homes.body t ≡ true) × Kept shape words (record homes { body = put homes.body t false }) (put traces s (OutBody t (homes.ended t) ∷ traces s))
-  take_body_law kept seat task may = (core.home, record {
-    holds = body_out_keeps shape words homes traces s t (homes.ended t) kept.holds core;
-    moving = moving_still shape words homes traces s kept.moving (OutBody t (homes.ended t)) (λ h. refl);
-    current = current_still words traces s kept.current (OutBody t (homes.ended t)) (λ j. refl) refl;
-    numbers = numbers_still words traces s kept.numbers (OutBody t (homes.ended t)) (λ h. refl);
-    matched = matched_still words traces s kept.matched (OutBody t (homes.ended t)) refl;
-    queued = queued_still words traces s kept.queued (OutBody t (homes.ended t)) (λ c u e. e);
-    put_there = put_still words traces s kept.put_there (OutBody t (homes.ended t)) refl;
-    ended = body_out_ended homes.ended traces s kept.ended t (homes.ended t) refl;
-    counts = kept.counts;
-    states = kept.states;
-    standing = standing_still words traces s kept.standing (OutBody t (homes.ended t)) refl;
-    runs = runs_still words traces s kept.runs (OutBody t (homes.ended t)) refl refl;
-    off = off_still words traces s kept.off (OutBody t (homes.ended t)) (λ u e. e) refl;
-    grown = grown_still words traces s kept.grown (OutBody t (homes.ended t)) refl;
-    known = body_out_known traces s kept.known t (homes.ended t);
-  })
+  take_body_law kept seat task may = (
+    core.home,
+    record {
+      holds = body_out_keeps shape words homes traces s t (homes.ended t) kept.holds core;
+      moving = moving_still shape words homes traces s kept.moving (OutBody t (homes.ended t)) (λ h. refl);
+      current = current_still words traces s kept.current (OutBody t (homes.ended t)) (λ j. refl) refl;
+      numbers = numbers_still words traces s kept.numbers (OutBody t (homes.ended t)) (λ h. refl);
+      matched = matched_still words traces s kept.matched (OutBody t (homes.ended t)) refl;
+      queued = queued_still words traces s kept.queued (OutBody t (homes.ended t)) (λ c u e. e);
+      put_there = put_still words traces s kept.put_there (OutBody t (homes.ended t)) refl;
+      ended = body_out_ended homes.ended traces s kept.ended t (homes.ended t) refl;
+      counts = kept.counts;
+      states = kept.states;
+      standing = standing_still words traces s kept.standing (OutBody t (homes.ended t)) refl;
+      runs = runs_still words traces s kept.runs (OutBody t (homes.ended t)) refl refl;
+      off = off_still words traces s kept.off (OutBody t (homes.ended t)) (λ u e. e) refl;
+      grown = grown_still words traces s kept.grown (OutBody t (homes.ended t)) refl;
+      known = body_out_known traces s kept.known t (homes.ended t);
+    },
+  )
     where
       core : MayBodyOut (core_of shape words homes traces) s t
       core = take_body_possible shape words homes traces s kept seat t task may
 
   pub return_body_law : (ended : Bool) → Kept shape words homes traces → s < shape.cpus + shape.agents → t < shape.tasks → MayReturnBody s (traces s) t ended
       → (homes.body t ≡ false) × Kept shape words (record homes { body = put homes.body t true; ended = put homes.ended t ended }) (put traces s (HomeBody t ended ∷ traces s))
-  return_body_law ended kept seat task may = (kept.holds.busy.bodies.out_away s t may.out, record {
-    holds = body_home_keeps shape words homes traces s t ended kept.holds core;
-    moving = moving_still shape words homes traces s kept.moving (HomeBody t ended) (λ h. refl);
-    current = current_still words traces s kept.current (HomeBody t ended) (λ j. refl) refl;
-    numbers = numbers_still words traces s kept.numbers (HomeBody t ended) (λ h. refl);
-    matched = matched_still words traces s kept.matched (HomeBody t ended) refl;
-    queued = queued_still words traces s kept.queued (HomeBody t ended) (λ c u e. e);
-    put_there = put_still words traces s kept.put_there (HomeBody t ended) refl;
-    ended = body_home_ended shape words homes traces s kept.holds kept.ended t ended core;
-    counts = kept.counts;
-    states = kept.states;
-    standing = standing_still words traces s kept.standing (HomeBody t ended) refl;
-    runs = runs_still words traces s kept.runs (HomeBody t ended) refl refl;
-    off = off_still words traces s kept.off (HomeBody t ended) (λ u e. e) refl;
-    grown = grown_still words traces s kept.grown (HomeBody t ended) refl;
-    known = body_home_known traces s kept.known t ended;
-  })
+  return_body_law ended kept seat task may = (
+    kept.holds.busy.bodies.out_away s t may.out,
+    record {
+      holds = body_home_keeps shape words homes traces s t ended kept.holds core;
+      moving = moving_still shape words homes traces s kept.moving (HomeBody t ended) (λ h. refl);
+      current = current_still words traces s kept.current (HomeBody t ended) (λ j. refl) refl;
+      numbers = numbers_still words traces s kept.numbers (HomeBody t ended) (λ h. refl);
+      matched = matched_still words traces s kept.matched (HomeBody t ended) refl;
+      queued = queued_still words traces s kept.queued (HomeBody t ended) (λ c u e. e);
+      put_there = put_still words traces s kept.put_there (HomeBody t ended) refl;
+      ended = body_home_ended shape words homes traces s kept.holds kept.ended t ended core;
+      counts = kept.counts;
+      states = kept.states;
+      standing = standing_still words traces s kept.standing (HomeBody t ended) refl;
+      runs = runs_still words traces s kept.runs (HomeBody t ended) refl refl;
+      off = off_still words traces s kept.off (HomeBody t ended) (λ u e. e) refl;
+      grown = grown_still words traces s kept.grown (HomeBody t ended) refl;
+      known = body_home_known traces s kept.known t ended;
+    },
+  )
     where
       core : MayBodyHome (core_of shape words homes traces) s t ended
       core = return_body_possible shape words homes traces s kept seat t ended task may

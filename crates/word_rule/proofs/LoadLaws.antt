@@ -82,11 +82,14 @@ module _ (shape : Shape) (words : ℕ → ℕ → ℕ) (homes : Homes) (traces :
 
   pub load_busy_law : n < shape.tasks → y ≡ words n BUSY
       → Kept shape (put_at words n BUSY y) homes (put traces s (LoadedBusy n (is_set (words n BUSY)) (words n BUSY / 2) ∷ traces s)) × Unit {0}
-  load_busy_law task same = (as_found shape words homes _ n BUSY y same (quiet_still shape words homes homes traces s kept refl (LoadedBusy n (is_set (words n BUSY)) (words n BUSY / 2))
-      (record { moving = λ h. refl; current = λ j. refl; stays = refl; numbers = λ h. refl; matched = refl; queued = λ c t e. e; put_there = refl; ended = refl; body = refl; off = λ t e. e })
-      (load_busy_keeps shape words homes traces s n kept.holds (record { seat = seat; task = task }))
-      (standing_still words traces s kept.standing (LoadedBusy n (is_set (words n BUSY)) (words n BUSY / 2)) refl)
-      (runs_still words traces s kept.runs (LoadedBusy n (is_set (words n BUSY)) (words n BUSY / 2)) refl refl)), tt)
+  load_busy_law task same = (
+    as_found shape words homes _ n BUSY y same (quiet_still shape words homes homes traces s kept refl (LoadedBusy n (is_set (words n BUSY)) (words n BUSY / 2))
+        (record { moving = λ h. refl; current = λ j. refl; stays = refl; numbers = λ h. refl; matched = refl; queued = λ c t e. e; put_there = refl; ended = refl; body = refl; off = λ t e. e })
+        (load_busy_keeps shape words homes traces s n kept.holds (record { seat = seat; task = task }))
+        (standing_still words traces s kept.standing (LoadedBusy n (is_set (words n BUSY)) (words n BUSY / 2)) refl)
+        (runs_still words traces s kept.runs (LoadedBusy n (is_set (words n BUSY)) (words n BUSY / 2)) refl refl)),
+    tt,
+  )
 
   pub load_cpu_law : n < shape.tasks → y ≡ words n CPU
       → Kept shape (put_at words n CPU y) homes (put traces s (LoadedCpu n (words n CPU) ∷ traces s)) × (words n CPU < shape.cpus)
@@ -101,11 +104,14 @@ module _ (shape : Shape) (words : ℕ → ℕ → ℕ) (homes : Homes) (traces :
 
   pub load_cond_law : n < shape.conds → y ≡ words n COND
       → Kept shape (put_at words n COND y) homes (put traces s (LoadedCond n (words n COND) ∷ traces s)) × Unit {0}
-  load_cond_law condition same = (as_found shape words homes _ n COND y same (quiet_still shape words homes homes traces s kept refl (LoadedCond n (words n COND))
-      (record { moving = λ h. refl; current = λ j. refl; stays = refl; numbers = λ h. refl; matched = refl; queued = λ c t e. e; put_there = refl; ended = refl; body = refl; off = λ t e. e })
-      (load_cond_keeps shape words homes traces s n kept.holds (record { seat = seat; condition = condition }))
-      (standing_still words traces s kept.standing (LoadedCond n (words n COND)) refl)
-      (runs_still words traces s kept.runs (LoadedCond n (words n COND)) refl refl)), tt)
+  load_cond_law condition same = (
+    as_found shape words homes _ n COND y same (quiet_still shape words homes homes traces s kept refl (LoadedCond n (words n COND))
+        (record { moving = λ h. refl; current = λ j. refl; stays = refl; numbers = λ h. refl; matched = refl; queued = λ c t e. e; put_there = refl; ended = refl; body = refl; off = λ t e. e })
+        (load_cond_keeps shape words homes traces s n kept.holds (record { seat = seat; condition = condition }))
+        (standing_still words traces s kept.standing (LoadedCond n (words n COND)) refl)
+        (runs_still words traces s kept.runs (LoadedCond n (words n COND)) refl refl)),
+    tt,
+  )
 
 -- of the state, with a mask
 pub load_masked_law : (mask : State) → IsMask (Some mask) → (shape : Shape) (words : ℕ → ℕ → ℕ) (homes : Homes) (traces : ℕ → List Rec) (s n y : ℕ)

@@ -1,5 +1,5 @@
 -- Takes and gives of locks keep the rule; a free lock has its value home, and a held one names its seat.
-use Rattle.std.proofs.Common.{◌≡◌, ◌≢◌, ℕ, zero, suc, ◌<◌, ◌+◌, refl, sym, ap, subst, ◌∙◌, List, ◌∷◌, arith}
+use Rattle.std.proofs.Common.{◌≡◌, ℕ, zero, suc, ◌<◌, ◌+◌, refl, sym, ap, subst, ◌∙◌, List, ◌∷◌, arith}
 use Rattle.std.specs.Prelude.{false, Option, Some, None, IsSome, unwrap_or}
 use Rattle.core_data.specs.Queue.{Queue}
 use Rattle.core_data.specs.Table.{put, put_at}
@@ -16,7 +16,7 @@ use Rattle.word_rule.proofs.GrownKept.{grown_beside, take_task_grown}
 use Rattle.word_rule.proofs.OffKept.{off_beside, take_task_off, give_task_off}
 use Rattle.word_rule.proofs.Possible.{value_of}
 use Rattle.word_rule.proofs.PossibleGives.{give_task_possible, give_works_possible, give_wait_possible}
-use Rattle.word_rule.proofs.Quiet.{quiet_beside, IsBeside, works_beside, wait_beside}
+use Rattle.word_rule.proofs.Quiet.{quiet_beside, works_beside, wait_beside}
 use Rattle.word_rule.proofs.RunsKept.{runs_beside, take_queue_runs, give_queue_runs}
 use Rattle.word_rule.proofs.StandingKept.{standing_beside, take_queue_standing, give_queue_standing}
 use Rattle.word_rule.specs.Kept.{Kept}

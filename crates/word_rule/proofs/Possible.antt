@@ -1,17 +1,12 @@
 -- What a seat may do as its own trace tells, the core that the table shows allows: words of tasks.
-use Rattle.std.proofs.Common.{◌≡◌, ◌≢◌, ℕ, suc, ◌<◌, ◌≤◌, ◌+◌, refl, sym, ap, subst, ◌∙◌, inl, inr, List, [], ◌∷◌, arith}
-use Rattle.std.specs.Prelude.{◌*◌, ◌/◌, ◌%◌, ◌^◌, ◌==◌, ◌&&◌, ◌⊎◌, if◌then◌else◌, Bool, true, false, Option, Some, None, IsSome, unwrap_or}
-use Rattle.std.proofs.lemmas.Bool.{cases_Bool, cases_eq}
+use Rattle.std.proofs.Common.{◌≡◌, ◌≢◌, ℕ, ◌<◌, ◌≤◌, ◌+◌, refl, sym, subst, inl, inr, List, arith}
+use Rattle.std.specs.Prelude.{◌/◌, ◌%◌, ◌^◌, ◌==◌, ◌&&◌, ◌⊎◌, if◌then◌else◌, true, false, Option, Some, None, IsSome}
+use Rattle.std.proofs.lemmas.Bool.{cases_Bool}
 use Rattle.std.proofs.lemmas.Bool.Decides.{nat_tests}
 use Rattle.core_data.specs.Queue.{Queue, times_in}
-use Rattle.core_data.specs.Table.{put}
-use Rattle.core_data.specs.declared.values.TaskVal.{TaskVal}
 use Rattle.core_gives.specs.Queues.{times}
-use Rattle.core_invariant.specs.Invariant.{Holds}
 use Rattle.core_kinds.specs.Running.{MayQueue, MayDequeue, MayMove, MaySetBusy, MayClearBusy, MayLeave, IsReady}
-use Rattle.core_kinds.specs.Steps.{is_sleep, dead}
 use Rattle.core_kinds.specs.Waking.{MayOwnState, MayClaim, MayRelease, MayStoreCpu, IsOwnState}
-use Rattle.core_stores.proofs.Columns.{put_there, put_other}
 use Rattle.handoff_data.specs.declared.shape.Shape.{Shape}
 use Rattle.handoff_data.specs.declared.state.State.{State}
 use Rattle.word_rule.specs.Kept.{Kept}
@@ -23,9 +18,9 @@ use Rattle.word_steps.proofs.NumbersKept.{release_new_may, store_cpu_new_may}
 use Rattle.word_steps.proofs.PutKept.{release_put_may}
 use Rattle.word_steps.proofs.QueuedKept.{release_queued_may}
 use Rattle.word_steps.specs.Decode.{Homes, core_of}
-use Rattle.word_steps.specs.Folds.{task_held, queue_held, current_task, task_to_clear, seen_state, is_claimed, saw_clear, is_moving, last_reads, saw_off, number_read}
+use Rattle.word_steps.specs.Folds.{task_held, queue_held, current_task, task_to_clear, seen_state, is_claimed, saw_clear, is_moving, last_reads}
 use Rattle.word_steps.specs.Records.{Rec}
-use Rattle.word_steps.specs.Words.{LOCK, STATE, RQ, BUSY, CPU, COUNT, QUEUE_LOCK, holder, is_set}
+use Rattle.word_steps.specs.Words.{LOCK, STATE, RQ, BUSY, CPU, QUEUE_LOCK, holder, is_set}
 
 -- the value that is there
 pub value_of : {A : Type 0} (o : Option A) → IsSome o → (v : A) × (o ≡ Some v)

@@ -1,6 +1,6 @@
 -- What a seat may do as its own trace tells, the core that the table shows allows: gives of locks, and bodies.
 use Rattle.std.proofs.Common.{◌≡◌, ◌≢◌, ℕ, suc, ◌<◌, ◌+◌, refl, sym, ap, subst, ◌∙◌, inl, inr, List, [], ◌∷◌, arith}
-use Rattle.std.specs.Prelude.{◌/◌, ◌==◌, ◌&&◌, ◌⊎◌, Bool, true, false, Option, Some, None, IsSome, unwrap_or}
+use Rattle.std.specs.Prelude.{◌/◌, ◌==◌, ◌&&◌, Bool, true, false, Option, Some, None, IsSome, unwrap_or}
 use Rattle.std.proofs.lemmas.Bool.{cases_eq}
 use Rattle.core_data.specs.Table.{put}
 use Rattle.core_data.specs.declared.values.TaskVal.{TaskVal}
@@ -19,7 +19,7 @@ use Rattle.word_steps.proofs.Conditions.{task_locked, give_task_may, give_works_
 use Rattle.word_steps.proofs.EndedKept.{body_home_may}
 use Rattle.word_steps.proofs.MovingSteps.{settled_given}
 use Rattle.word_steps.specs.Decode.{Homes, core_of}
-use Rattle.word_steps.specs.Folds.{task_held, has_stored, is_claimed, is_moving, number_read, is_matched_by, current_task, ended_known, saw_off, put_if, is_unstored}
+use Rattle.word_steps.specs.Folds.{number_read, ended_known, saw_off, put_if, is_unstored}
 use Rattle.word_steps.specs.Records.{Rec, Took, Gave, OutBody, HomeBody, Queued, Dequeued, Moved, SetBusy, ClearedBusy, StoredOwn, Claimed, Released, LoadedState, LoadedRq, LoadedBusy, LoadedCpu, StoredCpu, Bumped, LoadedCond}
 use Rattle.word_steps.specs.Words.{LOCK, STATE, RQ, holder}
 use Rattle.word_steps.specs.declared.val.Val.TheVariants as val

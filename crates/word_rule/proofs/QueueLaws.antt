@@ -1,5 +1,5 @@
 -- Stores of a task's queue word keep the rule.
-use Rattle.std.proofs.Common.{◌≡◌, ◌≢◌, ℕ, ◌<◌, ◌+◌, refl, sym, ap, subst, ◌∙◌, List, ◌∷◌, arith}
+use Rattle.std.proofs.Common.{◌≡◌, ℕ, ◌<◌, ◌+◌, refl, sym, ap, subst, List, ◌∷◌, arith}
 use Rattle.std.specs.Prelude.{◌/◌, ◌%◌, Option, Some, unwrap_or}
 use Rattle.core_data.specs.Queue.{Queue}
 use Rattle.core_data.specs.Table.{put, put_at}
@@ -33,10 +33,12 @@ read_of trace t c read = sym (ap (λ (o : Option ℕ). unwrap_or o 0) read)
 
 module _ (shape : Shape) (words : ℕ → ℕ → ℕ) (homes : Homes) (traces : ℕ → List Rec) (s n y : ℕ) (kept : Kept shape words homes traces) (seat : s < shape.cpus + shape.agents) where
   pub queue_law : n < shape.tasks → MayQueueWord s (traces s) n (words n RQ) y
-      → Kept shape (put_at words n RQ y) homes (put traces s (Queued n (cpu_read_of (traces s) n) (words n RQ % 4) (words n RQ / 4) ∷ traces s))
-  queue_law task may =
-      subst (λ (c : ℕ). Kept shape (put_at words n RQ y) homes (put traces s (Queued n c (words n RQ % 4) (words n RQ / 4) ∷ traces s))) (read_of (traces s) n may.cpu may.read)
-      (kept_after may.cpu (omega (arith, may.after)) (omega (arith, may.after)) (queue_possible shape words homes traces s kept seat n y task may))
+      → Kept shape (put_at words n RQ y) homes (put traces s (Queued n (cpu_read_of (traces s) n) (words n RQ % 4) (words n RQ / 4) ∷ traces s)) × Unit {0}
+  queue_law task may = (
+    subst (λ (c : ℕ). Kept shape (put_at words n RQ y) homes (put traces s (Queued n c (words n RQ % 4) (words n RQ / 4) ∷ traces s))) (read_of (traces s) n may.cpu may.read)
+        (kept_after may.cpu (omega (arith, may.after)) (omega (arith, may.after)) (queue_possible shape words homes traces s kept seat n y task may)),
+    tt,
+  )
     where
       kept_after : (c : ℕ) → y % 4 ≡ 1 → y / 4 ≡ words n RQ / 4 + 1 → MayQueue (core_of shape words homes traces) s c n
           → Kept shape (put_at words n RQ y) homes (put traces s (Queued n c (words n RQ % 4) (words n RQ / 4) ∷ traces s))
@@ -59,8 +61,8 @@ module _ (shape : Shape) (words : ℕ → ℕ → ℕ) (homes : Homes) (traces :
       }
 
   pub dequeue_law : n < shape.tasks → MayDequeueWord s (traces s) n (words n RQ) y
-      → Kept shape (put_at words n RQ y) homes (put traces s (Dequeued n s (words n RQ / 4) ∷ traces s))
-  dequeue_law task may = kept_after (omega (arith, may.after)) (omega (arith, may.after)) (dequeue_possible shape words homes traces s kept seat n y task may)
+      → Kept shape (put_at words n RQ y) homes (put traces s (Dequeued n s (words n RQ / 4) ∷ traces s)) × Unit {0}
+  dequeue_law task may = (kept_after (omega (arith, may.after)) (omega (arith, may.after)) (dequeue_possible shape words homes traces s kept seat n y task may), tt)
     where
       kept_after : y % 4 ≡ 0 → y / 4 ≡ words n RQ / 4 + 1 → MayDequeue (core_of shape words homes traces) s s n
           → Kept shape (put_at words n RQ y) homes (put traces s (Dequeued n s (words n RQ / 4) ∷ traces s))
@@ -83,10 +85,12 @@ module _ (shape : Shape) (words : ℕ → ℕ → ℕ) (homes : Homes) (traces :
       }
 
   pub move_law : n < shape.tasks → MayMoveWord s (traces s) n (words n RQ) y
-      → Kept shape (put_at words n RQ y) homes (put traces s (Moved n (cpu_read_of (traces s) n) (words n RQ / 4) ∷ traces s))
-  move_law task may =
-      subst (λ (c : ℕ). Kept shape (put_at words n RQ y) homes (put traces s (Moved n c (words n RQ / 4) ∷ traces s))) (read_of (traces s) n may.cpu may.read)
-      (kept_after may.cpu may.taken (omega (arith, may.after)) (omega (arith, may.after)) (move_possible shape words homes traces s kept seat n y task may))
+      → Kept shape (put_at words n RQ y) homes (put traces s (Moved n (cpu_read_of (traces s) n) (words n RQ / 4) ∷ traces s)) × Unit {0}
+  move_law task may = (
+    subst (λ (c : ℕ). Kept shape (put_at words n RQ y) homes (put traces s (Moved n c (words n RQ / 4) ∷ traces s))) (read_of (traces s) n may.cpu may.read)
+        (kept_after may.cpu may.taken (omega (arith, may.after)) (omega (arith, may.after)) (move_possible shape words homes traces s kept seat n y task may)),
+    tt,
+  )
     where
       kept_after : (c : ℕ) (q : Queue) → y % 4 ≡ 2 → y / 4 ≡ words n RQ / 4 + 1 → MayMove (core_of shape words homes traces) s c n q
           → Kept shape (put_at words n RQ y) homes (put traces s (Moved n c (words n RQ / 4) ∷ traces s))

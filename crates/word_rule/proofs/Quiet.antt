@@ -1,6 +1,6 @@
 -- Steps that change none of what stands beside the invariant: but for the invariant, and what is known of the tasks on a
 -- queue under its lock, they keep the rule.
-use Rattle.std.proofs.Common.{◌≡◌, ◌≢◌, ℕ, ◌<◌, ◌+◌, List, ◌∷◌, sym, subst, arith}
+use Rattle.std.proofs.Common.{◌≡◌, ◌≢◌, ℕ, ◌<◌, List, ◌∷◌, sym, subst, arith}
 use Rattle.std.specs.Prelude.{◌^◌, Bool, true, Option}
 use Rattle.core_data.specs.Table.{put, put_at}
 use Rattle.core_invariant.specs.Invariant.{Holds}
