@@ -1,3 +1,4 @@
 pub mod GiveQueue
 pub mod RunsKept
 pub mod StandingKept
+pub mod Taken

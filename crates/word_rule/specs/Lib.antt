@@ -2,3 +2,4 @@ pub mod Kept
 pub mod May
 pub mod Sorts
 pub mod Standing
+pub mod Told
