@@ -33,6 +33,7 @@ module _ (shape : Shape) (words : ℕ → ℕ → ℕ) (homes : Homes) (traces :
         once = λ t. at_most_once _ ((words t RQ % 4 == 1) && (words t CPU == n)) (kept.holds.queues.at_home n w is t);
         current = λ own t e. kept.holds.busy.named.cur_home n t w (subst (λ (k : ℕ). current_task k (traces k) ≡ Some t) own e) is;
         clear = λ own t e. kept.holds.busy.named.left_home n t w (subst (λ (k : ℕ). task_to_clear k (traces k) ≡ Some t) own e) is;
+        first = λ t e. kept.holds.busy.runner.clear_first s t e;
       })
   take_told OfWorks n v home = of_some val.Works (TakeTold shape s (traces s) OfWorks n) (homes.works n) v home (λ w is. tt)
   take_told OfWait n v home = of_some val.Wait (TakeTold shape s (traces s) OfWait n) (homes.wait n) v home (λ w is.

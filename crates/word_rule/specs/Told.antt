@@ -1,5 +1,5 @@
 -- What the value of a lock is known to be as the seat s takes it, by its own trace.
-use Rattle.std.specs.Prelude.{◌≡◌, ◌≢◌, ℕ, ◌<◌, ◌≤◌, true, List, Some}
+use Rattle.std.specs.Prelude.{◌≡◌, ◌≢◌, ℕ, ◌<◌, ◌≤◌, true, List, Some, None}
 use Rattle.core_data.specs.Entries.{has_entry}
 use Rattle.core_data.specs.Queue.{Queue, times_in}
 use Rattle.core_data.specs.declared.values.TaskVal.{TaskVal}
@@ -25,6 +25,7 @@ pub record TakenQueue (shape : Shape) (s : ℕ) (trace : List Rec) (c : ℕ) (v 
   pub once : (t : ℕ) → times v t ≤ 1
   pub current : s ≡ c → (t : ℕ) → current_task s trace ≡ Some t → v.cur ≡ Some t
   pub clear : s ≡ c → (t : ℕ) → task_to_clear s trace ≡ Some t → v.left ≡ Some t
+  pub first : (t : ℕ) → current_task s trace ≡ Some t → task_to_clear s trace ≡ None
 
 pub record TakenWait (shape : Shape) (v : List WaitEntry) : Type 0 where
   pub once : HasEachOnce v
