@@ -13,7 +13,8 @@ use Rattle.word_steps.specs.declared.val.Val.{Val}
 use Rattle.word_steps.specs.declared.val.Val.TheVariants as val
 
 -- what holds of each value that is there holds of the one that is found
-of_some : {A : Type 0} (f : A → Val) (P : Val → Type 0) (o : Option A) (v : Val) → some_of f o ≡ Some v → ((w : A) → o ≡ Some w → P (f w)) → P v
+of_some : {A : Type 0} (f : A → Val) (P : Val → Type 0) (o : Option A) (v : Val) → some_of f o ≡ Some v
+    → ((w : A) → o ≡ Some w → P (f w)) → P v
 of_some f P None v e h = absurd (grind (arith, e))
 of_some f P (Some w) v e h = subst P (ap (λ (z : Option Val). unwrap_or z (f w)) e) (h w refl)
 
@@ -21,7 +22,8 @@ at_most_once : (n : ℕ) (b : Bool) → n ≡ (if b then 1 else 0) → n ≤ 1
 at_most_once n true e = omega (arith, e)
 at_most_once n false e = omega (arith, e)
 
-module _ (shape : Shape) (words : ℕ → ℕ → ℕ) (homes : Homes) (traces : ℕ → List Rec) (s : ℕ) (kept : Kept shape words homes traces) where
+module _ (shape : Shape) (words : ℕ → ℕ → ℕ) (homes : Homes) (traces : ℕ → List Rec) (s : ℕ)
+    (kept : Kept shape words homes traces) where
   pub take_told : (sort : Sort) (n : ℕ) (v : Val) → home_of sort homes n ≡ Some v → TakeTold shape s (traces s) sort n v
   take_told OfTask n v home = of_some val.Task (TakeTold shape s (traces s) OfTask n) (homes.task n) v home (λ w is.
       let told = kept.holds.shapes.task_values.at_home n w is in record { wake_cpu = told.wake_cpu; dest = told.dest })
@@ -31,10 +33,13 @@ module _ (shape : Shape) (words : ℕ → ℕ → ℕ) (homes : Homes) (traces :
         cur = told.cur;
         left = told.left;
         once = λ t. at_most_once _ ((words t RQ % 4 == 1) && (words t CPU == n)) (kept.holds.queues.at_home n w is t);
-        current = λ own t e. kept.holds.busy.named.cur_home n t w (subst (λ (k : ℕ). current_task k (traces k) ≡ Some t) own e) is;
-        clear = λ own t e. kept.holds.busy.named.left_home n t w (subst (λ (k : ℕ). task_to_clear k (traces k) ≡ Some t) own e) is;
+        current = λ own t e. kept.holds.busy.named.cur_home n t w
+            (subst (λ (k : ℕ). current_task k (traces k) ≡ Some t) own e) is;
+        clear = λ own t e. kept.holds.busy.named.left_home n t w
+            (subst (λ (k : ℕ). task_to_clear k (traces k) ≡ Some t) own e) is;
         first = λ t e. kept.holds.busy.runner.clear_first s t e;
       })
-  take_told OfWorks n v home = of_some val.Works (TakeTold shape s (traces s) OfWorks n) (homes.works n) v home (λ w is. tt)
+  take_told OfWorks n v home = of_some val.Works (TakeTold shape s (traces s) OfWorks n) (homes.works n) v home
+      (λ w is. tt)
   take_told OfWait n v home = of_some val.Wait (TakeTold shape s (traces s) OfWait n) (homes.wait n) v home (λ w is.
       record { once = kept.holds.sleepers.once.at_home n w is; tasks = kept.holds.shapes.wait_values.at_home n w is })

@@ -15,8 +15,8 @@ use Rattle.word_steps.specs.Folds.{current_task, stays_queued, queue_held, body_
 use Rattle.word_steps.specs.Records.{Rec, Took, Queued, Dequeued, Moved, SetBusy, Released, LoadedState, LoadedRq, LoadedBusy}
 use Rattle.word_steps.specs.declared.val.Val.TheVariants as val
 
--- one more, or one less, of t among those waiting
-abbrev IsPushed : List ℕ → List ℕ → ℕ → Type 0
+-- t stands once more in the new list, and each other task as often
+abbrev pub IsPushed : List ℕ → List ℕ → ℕ → Type 0
 IsPushed old new t = (u : ℕ) → times_in new u ≡ times_in old u + (if u == t then 1 else 0)
 
 pushed_count : (w w' x t u : ℕ) → w' ≡ w + (if u == t then 1 else 0) → w' + x ≡ (if u == t then w + x + 1 else w + x)
@@ -25,14 +25,13 @@ pushed_count w w' x t u e = grind (arith, nat_tests, e)
 pulled_count : (w w' x t u : ℕ) → w ≡ w' + (if u == t then 1 else 0) → w' + x ≡ (if u == t then (w + x) - 1 else w + x)
 pulled_count w w' x t u e = grind (arith, nat_tests, e)
 
-next_count : (w : ℕ) (o o' : Option ℕ) (u : ℕ) → o' ≡ o → w + (if is_some_of o' u then 1 else 0) ≡ w + (if is_some_of o u then 1 else 0)
+next_count : (w : ℕ) (o o' : Option ℕ) (u : ℕ) → o' ≡ o
+    → w + (if is_some_of o' u then 1 else 0) ≡ w + (if is_some_of o u then 1 else 0)
 next_count w o o' u e = ap (λ (z : Option ℕ). w + (if is_some_of z u then 1 else 0)) e
 
-one_of : (t u : ℕ) → ◌≡◌ {A = ℕ} (if is_some_of (Some t) u then 1 else 0) (if u == t then 1 else 0)
-one_of t u = grind (arith, nat_tests)
-
 -- what is known to run after a read, by what was known
-still_known : (b : Bool) (h : ℕ → ℕ → Bool) (s t c u : ℕ) → h c u ≡ true → (if b then put_both h s t true else h) c u ≡ true
+still_known : (b : Bool) (h : ℕ → ℕ → Bool) (s t c u : ℕ) → h c u ≡ true
+    → (if b then put_both h s t true else h) c u ≡ true
 still_known true h s t c u e = grind (arith, nat_tests, e)
 still_known false h s t c u e = e
 
@@ -56,13 +55,15 @@ module _ (shape : Shape) (s c : ℕ) (v : Queue) (rs : List Rec) (told : TakenQu
   }
 
   -- t is put at its back: new, or half way from another queue
-  pub gives_put : (t on m : ℕ) (given : Queue) → (m ≡ 0) ⊎ (on ≡ 2) → IsPushed v.waiting given.waiting t → given.cur ≡ v.cur → given.left ≡ v.left
+  pub gives_put : (t on m : ℕ) (given : Queue) → (m ≡ 0) ⊎ (on ≡ 2) → IsPushed v.waiting given.waiting t
+      → given.cur ≡ v.cur → given.left ≡ v.left
       → MayGiveQueueVal s (Queued t c on m ∷ Took c (val.Queue v) ∷ rs) shape c given
   gives_put t on m given ready pushed cur left = record {
     taken = v;
     held = grind (arith, nat_tests);
     stands = λ u. next_count (times_in given.waiting u) v.cur given.cur u cur
-        ∙ pushed_count (times_in v.waiting u) (times_in given.waiting u) (if is_some_of v.cur u then 1 else 0) t u (pushed u) ∙ grind (arith, nat_tests);
+        ∙ pushed_count (times_in v.waiting u) (times_in given.waiting u) (if is_some_of v.cur u then 1 else 0) t u
+        (pushed u) ∙ grind (arith, nat_tests);
     waits = λ u w. grind (arith, nat_tests, w, pushed u, ready);
     next = λ u e. next u;
     others = λ ne. (cur, left);
@@ -71,20 +72,24 @@ module _ (shape : Shape) (s c : ℕ) (v : Queue) (rs : List Rec) (told : TakenQu
     left = λ u e. told.left u (sym left ∙ e);
   }
     where
-      next : (u : ℕ) → (may_run s (Queued t c on m ∷ Took c (val.Queue v) ∷ rs) c u ≡ true) ⊎ (has_added (Queued t c on m ∷ Took c (val.Queue v) ∷ rs) c u ≡ false)
+      next : (u : ℕ)
+          → (may_run s (Queued t c on m ∷ Took c (val.Queue v) ∷ rs) c u ≡ true)
+          ⊎ (has_added (Queued t c on m ∷ Took c (val.Queue v) ∷ rs) c u ≡ false)
       next u = elim (cases_eq u t) [
         | inl same ↦ inl (grind (arith, nat_tests, same, ready))
         | inr apart ↦ inr (grind (arith, nat_tests, apart))
       ]
 
   -- t was woken: put at its back, and then stored as running
-  pub gives_woken : (t m : ℕ) (given : Queue) → IsPushed v.waiting given.waiting t → given.cur ≡ v.cur → given.left ≡ v.left
+  pub gives_woken : (t m : ℕ) (given : Queue) → IsPushed v.waiting given.waiting t → given.cur ≡ v.cur
+      → given.left ≡ v.left
       → MayGiveQueueVal s (Released t ∷ Queued t c 0 m ∷ Took c (val.Queue v) ∷ rs) shape c given
   gives_woken t m given pushed cur left = record {
     taken = v;
     held = grind (arith, nat_tests);
     stands = λ u. next_count (times_in given.waiting u) v.cur given.cur u cur
-        ∙ pushed_count (times_in v.waiting u) (times_in given.waiting u) (if is_some_of v.cur u then 1 else 0) t u (pushed u) ∙ grind (arith, nat_tests);
+        ∙ pushed_count (times_in v.waiting u) (times_in given.waiting u) (if is_some_of v.cur u then 1 else 0) t u
+        (pushed u) ∙ grind (arith, nat_tests);
     waits = λ u w. waits u w;
     next = λ u e. next u;
     others = λ ne. (cur, left);
@@ -93,7 +98,8 @@ module _ (shape : Shape) (s c : ℕ) (v : Queue) (rs : List Rec) (told : TakenQu
     left = λ u e. told.left u (sym left ∙ e);
   }
     where
-      waits : (u : ℕ) → times_in given.waiting u ≢ 0 → may_run s (Released t ∷ Queued t c 0 m ∷ Took c (val.Queue v) ∷ rs) c u ≡ true
+      waits : (u : ℕ) → times_in given.waiting u ≢ 0
+          → may_run s (Released t ∷ Queued t c 0 m ∷ Took c (val.Queue v) ∷ rs) c u ≡ true
       waits u w = grind (arith, nat_tests, w, pushed u)
 
       next : (u : ℕ) → (may_run s (Released t ∷ Queued t c 0 m ∷ Took c (val.Queue v) ∷ rs) c u ≡ true)
@@ -103,7 +109,7 @@ module _ (shape : Shape) (s c : ℕ) (v : Queue) (rs : List Rec) (told : TakenQu
         | inr apart ↦ inr (grind (arith, nat_tests, apart))
       ]
 
-  -- one that was queued was woken, or moved off the queue
+  -- one that was queued was woken, and the queue is given as it was
   pub gives_released : (t m : ℕ) → MayGiveQueueVal s (Released t ∷ LoadedRq t 1 m ∷ Took c (val.Queue v) ∷ rs) shape c v
   gives_released t m = record {
     taken = v;
@@ -117,13 +123,16 @@ module _ (shape : Shape) (s c : ℕ) (v : Queue) (rs : List Rec) (told : TakenQu
     left = told.left;
   }
 
-  pub gives_moved : (t n m : ℕ) (given : Queue) → IsPushed given.waiting v.waiting t → given.cur ≡ v.cur → given.left ≡ v.left
+  -- t was taken off it, to be moved
+  pub gives_moved : (t n m : ℕ) (given : Queue) → IsPushed given.waiting v.waiting t → given.cur ≡ v.cur
+      → given.left ≡ v.left
       → MayGiveQueueVal s (Moved t c m ∷ LoadedBusy t false n ∷ Took c (val.Queue v) ∷ rs) shape c given
   gives_moved t n m given pulled cur left = record {
     taken = v;
     held = grind (arith, nat_tests);
     stands = λ u. next_count (times_in given.waiting u) v.cur given.cur u cur
-        ∙ pulled_count (times_in v.waiting u) (times_in given.waiting u) (if is_some_of v.cur u then 1 else 0) t u (pulled u) ∙ grind (arith, nat_tests);
+        ∙ pulled_count (times_in v.waiting u) (times_in given.waiting u) (if is_some_of v.cur u then 1 else 0) t u
+        (pulled u) ∙ grind (arith, nat_tests);
     waits = λ u w. waits u w;
     next = λ u e. inr (grind (arith, nat_tests));
     others = λ ne. (cur, left);
@@ -132,7 +141,8 @@ module _ (shape : Shape) (s c : ℕ) (v : Queue) (rs : List Rec) (told : TakenQu
     left = λ u e. told.left u (sym left ∙ e);
   }
     where
-      waits : (u : ℕ) → times_in given.waiting u ≢ 0 → may_run s (Moved t c m ∷ LoadedBusy t false n ∷ Took c (val.Queue v) ∷ rs) c u ≡ true
+      waits : (u : ℕ) → times_in given.waiting u ≢ 0
+          → may_run s (Moved t c m ∷ LoadedBusy t false n ∷ Took c (val.Queue v) ∷ rs) c u ≡ true
       waits u w = grind (arith, nat_tests, w, pulled u, told.once u)
 
 module _ (shape : Shape) (s : ℕ) (v : Queue) (rs : List Rec) (told : TakenQueue shape s rs s v) where
@@ -143,7 +153,8 @@ module _ (shape : Shape) (s : ℕ) (v : Queue) (rs : List Rec) (told : TakenQueu
   gives_picked t n given clear none pulled cur left = record {
     taken = v;
     held = grind (arith, nat_tests);
-    stands = λ u. next_count (times_in given.waiting u) (Some t) given.cur u cur ∙ picked_count u ∙ sym (next_count (times_in v.waiting u) None v.cur u none)
+    stands = λ u. next_count (times_in given.waiting u) (Some t) given.cur u cur ∙ picked_count u
+        ∙ sym (next_count (times_in v.waiting u) None v.cur u none)
         ∙ grind (arith, nat_tests);
     waits = λ u w. grind (arith, nat_tests, w, pulled u);
     next = λ u e. inr (grind (arith, nat_tests));
@@ -153,7 +164,8 @@ module _ (shape : Shape) (s : ℕ) (v : Queue) (rs : List Rec) (told : TakenQueu
     left = λ u e. told.left u (sym left ∙ e);
   }
     where
-      picked_count : (u : ℕ) → times_in given.waiting u + (if is_some_of (Some t) u then 1 else 0) ≡ times_in v.waiting u + (if is_some_of None u then 1 else 0)
+      picked_count : (u : ℕ) → times_in given.waiting u + (if is_some_of (Some t) u then 1 else 0)
+          ≡ times_in v.waiting u + (if is_some_of None u then 1 else 0)
       picked_count u = grind (arith, nat_tests, pulled u)
 
   -- the current task, which runs, is put back at the end
@@ -164,7 +176,8 @@ module _ (shape : Shape) (s : ℕ) (v : Queue) (rs : List Rec) (told : TakenQueu
     taken = v;
     held = grind (arith, nat_tests);
     stands = λ u. next_count (times_in given.waiting u) None given.cur u cur ∙ back_count u
-        ∙ sym (next_count (times_in v.waiting u) (Some t) v.cur u (told.current refl t current)) ∙ grind (arith, nat_tests);
+        ∙ sym (next_count (times_in v.waiting u) (Some t) v.cur u (told.current refl t current))
+        ∙ grind (arith, nat_tests);
     waits = λ u w. known u (cases_eq u t) w;
     next = λ u e. inr (grind (arith, nat_tests));
     others = λ ne. absurd (ne refl);
@@ -174,19 +187,24 @@ module _ (shape : Shape) (s : ℕ) (v : Queue) (rs : List Rec) (told : TakenQueu
   }
     where
       reads : Bool
-      reads = is_some_of (current_task s rs) t && (stays_queued rs && (is_some (put (queue_held rs) s (Some v) s) && true))
+      reads = is_some_of (current_task s rs) t &&
+          (stays_queued rs && (is_some (put (queue_held rs) s (Some v) s) && true))
 
       reads_is : reads ≡ true
       reads_is = rw (current, stays) (grind (arith, nat_tests))
 
-      known : (u : ℕ) → (u ≡ t) ⊎ (u ≢ t) → times_in given.waiting u ≢ 0 → may_run s (LoadedState t None (record { 0 = 0 }) ∷ Took s (val.Queue v) ∷ rs) s u ≡ true
+      known : (u : ℕ) → (u ≡ t) ⊎ (u ≢ t) → times_in given.waiting u ≢ 0
+          → may_run s (LoadedState t None (record { 0 = 0 }) ∷ Took s (val.Queue v) ∷ rs) s u ≡ true
       known u (inl same) w =
-          subst (λ (k : ℕ). may_run s (LoadedState t None (record { 0 = 0 }) ∷ Took s (val.Queue v) ∷ rs) s k ≡ true) (sym same)
+          subst (λ (k : ℕ). may_run s (LoadedState t None (record { 0 = 0 }) ∷ Took s (val.Queue v) ∷ rs) s k ≡ true)
+          (sym same)
           (now_known reads (may_run s (Took s (val.Queue v) ∷ rs)) s t reads_is)
       known u (inr apart) w =
-          still_known reads (may_run s (Took s (val.Queue v) ∷ rs)) s t s u (grind (arith, nat_tests, apart, w, pushed u))
+          still_known reads (may_run s (Took s (val.Queue v) ∷ rs)) s t s u
+          (grind (arith, nat_tests, apart, w, pushed u))
 
-      back_count : (u : ℕ) → times_in given.waiting u + (if is_some_of None u then 1 else 0) ≡ times_in v.waiting u + (if is_some_of (Some t) u then 1 else 0)
+      back_count : (u : ℕ) → times_in given.waiting u + (if is_some_of None u then 1 else 0) ≡ times_in v.waiting u +
+          (if is_some_of (Some t) u then 1 else 0)
       back_count u = grind (arith, nat_tests, pushed u)
 
   -- the current task has left its queue to sleep
@@ -197,7 +215,9 @@ module _ (shape : Shape) (s : ℕ) (v : Queue) (rs : List Rec) (told : TakenQueu
     taken = v;
     held = grind (arith, nat_tests);
     stands = λ u. next_count (times_in given.waiting u) None given.cur u cur ∙ left_count u
-        ∙ ap (λ (k : ℕ). if u == t then k - 1 else k) (sym (next_count (times_in v.waiting u) (Some t) v.cur u (told.current refl t current))) ∙ grind (arith, nat_tests);
+        ∙ ap (λ (k : ℕ). if u == t then k - 1 else k)
+        (sym (next_count (times_in v.waiting u) (Some t) v.cur u (told.current refl t current)))
+        ∙ grind (arith, nat_tests);
     waits = λ u w. known u w;
     next = λ u e. inr (grind (arith, nat_tests));
     others = λ ne. absurd (ne refl);
@@ -207,7 +227,9 @@ module _ (shape : Shape) (s : ℕ) (v : Queue) (rs : List Rec) (told : TakenQueu
   }
     where
       left_count : (u : ℕ) → times_in given.waiting u + (if is_some_of None u then 1 else 0)
-          ≡ (if u == t then (times_in v.waiting u + (if is_some_of (Some t) u then 1 else 0)) - 1 else times_in v.waiting u + (if is_some_of (Some t) u then 1 else 0))
+          ≡ (if u == t then (times_in v.waiting u +
+          (if is_some_of (Some t) u then 1 else 0)) - 1 else times_in v.waiting u +
+          (if is_some_of (Some t) u then 1 else 0))
       left_count u = grind (arith, nat_tests, same u)
 
       -- it stands there once, as the next
@@ -216,10 +238,14 @@ module _ (shape : Shape) (s : ℕ) (v : Queue) (rs : List Rec) (told : TakenQueu
           absurd (grind (arith, nat_tests, w, e, same u, once, told.once u))
 
       reads : Bool
-      reads = is_some_of (current_task s rs) t && (stays_queued rs && (is_some (put (queue_held rs) s (Some v) s) && (state.0 == 0)))
+      reads = is_some_of (current_task s rs) t &&
+          (stays_queued rs && (is_some (put (queue_held rs) s (Some v) s) && (state.0 == 0)))
 
-      before : (u : ℕ) → times_in given.waiting u ≢ 0 → may_run s (LoadedState t None state ∷ Took s (val.Queue v) ∷ rs) s u ≡ true
-      before u w = still_known reads (may_run s (Took s (val.Queue v) ∷ rs)) s t s u (grind (arith, nat_tests, w, same u))
+      before : (u : ℕ) → times_in given.waiting u ≢ 0
+          → may_run s (LoadedState t None state ∷ Took s (val.Queue v) ∷ rs) s u ≡ true
+      before u w = still_known reads (may_run s (Took s (val.Queue v) ∷ rs)) s t s u
+          (grind (arith, nat_tests, w, same u))
 
-      known : (u : ℕ) → times_in given.waiting u ≢ 0 → may_run s (Dequeued t s m ∷ LoadedState t None state ∷ Took s (val.Queue v) ∷ rs) s u ≡ true
+      known : (u : ℕ) → times_in given.waiting u ≢ 0
+          → may_run s (Dequeued t s m ∷ LoadedState t None state ∷ Took s (val.Queue v) ∷ rs) s u ≡ true
       known u w = let apart : u ≢ t = gone u w in grind (arith, nat_tests, apart, before u w)
