@@ -12,3 +12,5 @@ pub mod Quiet
 pub mod RunsKept
 pub mod StandingKept
 pub mod StoreLaws
+pub mod Taken
+pub mod Uses
