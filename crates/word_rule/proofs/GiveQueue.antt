@@ -30,14 +30,17 @@ is_or_not (Some j) t = elim (cases_eq j t) [
 ]
 
 -- the next task of a queue stands there
-next_stands : (o : Option ℕ) (t waits on at c : ℕ) → o ≡ Some t → waits + (if is_some_of o t then 1 else 0) ≡ (if (on == 1) && (at == c) then 1 else 0)
+next_stands : (o : Option ℕ) (t waits on at c : ℕ) → o ≡ Some t
+    → waits + (if is_some_of o t then 1 else 0) ≡ (if (on == 1) && (at == c) then 1 else 0)
     → (on ≡ 1) × (at ≡ c)
 next_stands None t waits on at c e stands = absurd (grind (arith, e))
 next_stands (Some j) t waits on at c e stands =
-    let same : j ≡ t = grind (arith, e) in (grind (arith, nat_tests, same, stands), grind (arith, nat_tests, same, stands))
+    let same : j ≡ t = grind (arith, e) in
+    (grind (arith, nat_tests, same, stands), grind (arith, nat_tests, same, stands))
 
 module _ (shape : Shape) (words : ℕ → ℕ → ℕ) (homes : Homes) (traces : ℕ → List Rec) (s c : ℕ) (given : Queue) where
-  pub give_queue_may : Kept shape words homes traces → s < shape.cpus + shape.agents → c < shape.cpus → MayGiveQueueVal s (traces s) shape c given
+  pub give_queue_may : Kept shape words homes traces → s < shape.cpus + shape.agents → c < shape.cpus
+      → MayGiveQueueVal s (traces s) shape c given
       → MayGiveQueue (core_of shape words homes traces) s c given
   give_queue_may kept seat processor may =
       record {
@@ -48,7 +51,8 @@ module _ (shape : Shape) (words : ℕ → ℕ → ℕ) (homes : Homes) (traces :
         fits = fits;
         runnable = (λ t waits. (kept.runs s c t locked (may.waits t waits)).runnable, next);
         switch = (
-          λ other taken out. subst (λ (v : Queue). (given.cur ≡ v.cur) × (given.left ≡ v.left)) (one_value (queue_held (traces s) c) may.taken taken may.held out) (may.others other),
+          λ other taken out. subst (λ (v : Queue). (given.cur ≡ v.cur) × (given.left ≡ v.left))
+              (one_value (queue_held (traces s) c) may.taken taken may.held out) (may.others other),
           gives_up,
           may.clear,
         );
@@ -62,31 +66,51 @@ module _ (shape : Shape) (words : ℕ → ℕ → ℕ) (homes : Homes) (traces :
       fits t = may.stands t ∙ kept.standing s c t locked
 
       -- no seat's current task but that of the processor's own seat stands in its queue
-      unadded : (t : ℕ) → (words t RQ % 4 ≡ 1) × (words t CPU ≡ c) → has_added (traces s) c t ≡ false → current_task c (traces c) ≢ Some t
+      unadded : (t : ℕ) → (words t RQ % 4 ≡ 1) × (words t CPU ≡ c) → has_added (traces s) c t ≡ false
+          → current_task c (traces c) ≢ Some t
           → IsRunnable (record { 0 = words t STATE })
       unadded t at unput other = elim (kept.holds.places.waiting t at.0 (λ k is. other
-          (subst (λ (z : ℕ). current_task z (traces z) ≡ Some t) (sym (kept.holds.busy.runner.current_here k t is) ∙ at.1) is))) [
+          (subst (λ (z : ℕ). current_task z (traces z) ≡ Some t)
+          (sym (kept.holds.busy.runner.current_here k t is) ∙ at.1) is))) [
             | inl h ↦ h
             | inr w ↦ absurd (by_holder w.1.0 w.1.1 w.1.2)
           ]
         where
-          by_holder : (o : ℕ) → holder (words (words t CPU) QUEUE_LOCK) ≡ Some o → has_added (traces o) (words t CPU) t ≡ true → ⊥
+          by_holder : (o : ℕ) → holder (words (words t CPU) QUEUE_LOCK) ≡ Some o
+              → has_added (traces o) (words t CPU) t ≡ true → ⊥
           by_holder o held added =
-              let same : o ≡ s = one_seat (holder (words c QUEUE_LOCK)) s o locked (subst (λ (z : ℕ). holder (words z QUEUE_LOCK) ≡ Some o) at.1 held) in
-              absurd (grind (arith, unput, subst (λ (z : ℕ). has_added (traces z) c t ≡ true) same (subst (λ (z : ℕ). has_added (traces o) z t ≡ true) at.1 added)))
+              let same : o ≡ s = one_seat (holder (words c QUEUE_LOCK)) s o locked
+              (subst (λ (z : ℕ). holder (words z QUEUE_LOCK) ≡ Some o) at.1 held) in
+              absurd (grind (
+                arith,
+                unput,
+                subst (λ (z : ℕ). has_added (traces z) c t ≡ true) same
+                    (subst (λ (z : ℕ). has_added (traces o) z t ≡ true) at.1 added),
+              ))
 
-      next : (t : ℕ) → given.cur ≡ Some t → IsRunnable (record { 0 = words t STATE }) ⊎ ((k : ℕ) × (current_task k (traces k) ≡ Some t))
+      next : (t : ℕ) → given.cur ≡ Some t
+          → IsRunnable (record { 0 = words t STATE }) ⊎ ((k : ℕ) × (current_task k (traces k) ≡ Some t))
       next t is = elim (may.next t is) [
         | inl runs ↦ inl (kept.runs s c t locked runs).runnable
         | inr unput ↦ elim (is_or_not (current_task c (traces c)) t) [
           | inl runs ↦ inr (c, runs)
-          | inr other ↦ inl (unadded t (next_stands given.cur t (times_in given.waiting t) (words t RQ % 4) (words t CPU) c is (fits t)) unput other)
+          | inr other ↦ inl (unadded t
+              (next_stands given.cur t (times_in given.waiting t) (words t RQ % 4) (words t CPU) c is (fits t)) unput other)
         ]
       ]
 
       gives_up : s ≡ c → (t : ℕ) → current_task s (traces s) ≡ Some t
-          → (given.cur ≡ Some t) ⊎ ((given.cur ≡ None) × (given.left ≡ Some t) × MayGiveUp (core_of shape words homes traces) s t)
+          → (given.cur ≡ Some t)
+          ⊎ ((given.cur ≡ None) × (given.left ≡ Some t) × MayGiveUp (core_of shape words homes traces) s t)
       gives_up own t is = elim (may.own own t is) [
         | inl stays ↦ inl stays
-        | inr left ↦ inr (left.0, left.1, ((body_out_may shape words homes traces s kept.holds seat t (kept.holds.shapes.current s t is) is left.2).home, inr (kept.counts t)))
+        | inr left ↦ inr (
+          left.0,
+          left.1,
+          (
+            (body_out_may shape words homes traces s kept.holds seat t
+                (kept.holds.shapes.current s t is) is left.2).home,
+            inr (kept.counts t),
+          ),
+        )
       ]

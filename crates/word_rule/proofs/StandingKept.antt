@@ -21,7 +21,8 @@ use Rattle.word_steps.specs.Words.{QUEUE_LOCK, RQ, CPU, holder}
 use Rattle.word_steps.specs.declared.val.Val.TheVariants as val
 
 -- where no lock of a queue is held
-pub standing_start : (words : ℕ → ℕ → ℕ) → ((c : ℕ) → holder (words c QUEUE_LOCK) ≡ None) → StandingHolds words (λ s. [])
+pub standing_start : (words : ℕ → ℕ → ℕ) → ((c : ℕ) → holder (words c QUEUE_LOCK) ≡ None)
+    → StandingHolds words (λ s. [])
 standing_start words free s c t locked = absurd (grind (arith, sym (free c) ∙ locked))
 
 pub standing_first : (shape : Shape) → StandingHolds (first_words shape) (λ s. [])
@@ -59,52 +60,68 @@ changed_else h c t g k u ne = elim (cases_eq k c) [
 
 module _ (words : ℕ → ℕ → ℕ) (traces : ℕ → List Rec) (s : ℕ) (holds : StandingHolds words traces) where
   pub standing_step : (words' : ℕ → ℕ → ℕ) (r : Rec)
-      → ((j c t : ℕ) → j ≢ s → holder (words' c QUEUE_LOCK) ≡ Some j → standing (traces j) c t ≡ count_at (words' t RQ % 4) (words' t CPU) c)
-      → ((c t : ℕ) → holder (words' c QUEUE_LOCK) ≡ Some s → standing (r ∷ traces s) c t ≡ count_at (words' t RQ % 4) (words' t CPU) c)
+      → ((j c t : ℕ) → j ≢ s → holder (words' c QUEUE_LOCK) ≡ Some j
+      → standing (traces j) c t ≡ count_at (words' t RQ % 4) (words' t CPU) c)
+      → ((c t : ℕ) → holder (words' c QUEUE_LOCK) ≡ Some s
+      → standing (r ∷ traces s) c t ≡ count_at (words' t RQ % 4) (words' t CPU) c)
       → StandingHolds words' (put traces s (r ∷ traces s))
   standing_step words' r others mine j c t locked = elim (cases_eq j s) [
     | inl q ↦ ap (λ (f : ℕ → ℕ → ℕ). f c t) (fold_here standing traces s r j q) ∙ mine c t (locked ∙ ap Some q)
     | inr ne ↦ ap (λ (f : ℕ → ℕ → ℕ). f c t) (fold_else standing traces s r j ne) ∙ others j c t ne locked
   ]
 
-  -- a step that changes no lock of a queue, no queue word and no processor word, and neither puts a task on a queue nor takes one off
+  -- a step that changes no lock of a queue, no queue word and no processor word, and neither puts a task on a queue nor
+  -- takes one off
   pub standing_quiet : (words' : ℕ → ℕ → ℕ) (r : Rec) → ((c : ℕ) → words' c QUEUE_LOCK ≡ words c QUEUE_LOCK)
       → ((t : ℕ) → words' t CPU ≡ words t CPU) → ((t : ℕ) → words' t RQ ≡ words t RQ)
       → standing (r ∷ traces s) ≡ standing (traces s) → StandingHolds words' (put traces s (r ∷ traces s))
   standing_quiet words' r queue cpu rq same =
-      standing_step words' r (λ j c t ne locked. as_was j c t locked) (λ c t locked. ap (λ (f : ℕ → ℕ → ℕ). f c t) same ∙ as_was s c t locked)
+      standing_step words' r (λ j c t ne locked. as_was j c t locked) (λ c t locked. ap (λ (f : ℕ → ℕ → ℕ). f c t) same
+      ∙ as_was s c t locked)
     where
-      as_was : (j c t : ℕ) → holder (words' c QUEUE_LOCK) ≡ Some j → standing (traces j) c t ≡ count_at (words' t RQ % 4) (words' t CPU) c
+      as_was : (j c t : ℕ) → holder (words' c QUEUE_LOCK) ≡ Some j
+          → standing (traces j) c t ≡ count_at (words' t RQ % 4) (words' t CPU) c
       as_was j c t locked =
           same_count (standing (traces j) c t) (words t RQ % 4) (words' t RQ % 4) (words t CPU) (words' t CPU) c
           (holds j c t (ap holder (sym (queue c)) ∙ locked)) (ap (λ (z : ℕ). z % 4) (rq t)) (cpu t)
 
-  pub standing_beside : (n c x : ℕ) (r : Rec) → QUEUE_LOCK ≢ c → CPU ≢ c → RQ ≢ c → standing (r ∷ traces s) ≡ standing (traces s)
+  pub standing_beside : (n c x : ℕ) (r : Rec) → QUEUE_LOCK ≢ c → CPU ≢ c → RQ ≢ c
+      → standing (r ∷ traces s) ≡ standing (traces s)
       → StandingHolds (put_at words n c x) (put traces s (r ∷ traces s))
   standing_beside n c x r queue cpu rq same =
-      standing_quiet (put_at words n c x) r (λ d. word_beside words n c x d QUEUE_LOCK queue) (λ t. word_beside words n c x t CPU cpu)
+      standing_quiet (put_at words n c x) r (λ d. word_beside words n c x d QUEUE_LOCK queue)
+      (λ t. word_beside words n c x t CPU cpu)
       (λ t. word_beside words n c x t RQ rq) same
 
-  pub standing_still : (r : Rec) → standing (r ∷ traces s) ≡ standing (traces s) → StandingHolds words (put traces s (r ∷ traces s))
+  pub standing_still : (r : Rec) → standing (r ∷ traces s) ≡ standing (traces s)
+      → StandingHolds words (put traces s (r ∷ traces s))
   standing_still r same = standing_quiet words r (λ c. refl) (λ t. refl) (λ t. refl) same
 
   -- the lock of a queue is taken or given
   lock_beside : (n x h c t : ℕ) → h ≡ count_at (words t RQ % 4) (words t CPU) c
       → h ≡ count_at (put_at words n QUEUE_LOCK x t RQ % 4) (put_at words n QUEUE_LOCK x t CPU) c
   lock_beside n x h c t e =
-      same_count h (words t RQ % 4) (put_at words n QUEUE_LOCK x t RQ % 4) (words t CPU) (put_at words n QUEUE_LOCK x t CPU) c e
-      (ap (λ (z : ℕ). z % 4) (word_beside words n QUEUE_LOCK x t RQ (λ q. omega (arith, q)))) (word_beside words n QUEUE_LOCK x t CPU (λ q. omega (arith, q)))
+      same_count h (words t RQ % 4) (put_at words n QUEUE_LOCK x t RQ % 4) (words t CPU)
+      (put_at words n QUEUE_LOCK x t CPU) c e
+      (ap (λ (z : ℕ). z % 4) (word_beside words n QUEUE_LOCK x t RQ (λ q. omega (arith, q))))
+      (word_beside words n QUEUE_LOCK x t CPU (λ q. omega (arith, q)))
 
   pub give_queue_standing : (n : ℕ) (taken given : Queue)
-      → StandingHolds (put_at words n QUEUE_LOCK 0) (put traces s (Gave n (val.Queue taken) (val.Queue given) ∷ traces s))
+      → StandingHolds (put_at words n QUEUE_LOCK 0)
+      (put traces s (Gave n (val.Queue taken) (val.Queue given) ∷ traces s))
   give_queue_standing n taken given =
       standing_step (put_at words n QUEUE_LOCK 0) (Gave n (val.Queue taken) (val.Queue given))
       (λ j c t ne locked. lock_beside n 0 (standing (traces j) c t) c t (holds j c t (was j c locked)))
       (λ c t locked. lock_beside n 0 (standing (traces s) c t) c t (holds s c t (was s c locked)))
     where
-      was : (j c : ℕ) → holder (put_at words n QUEUE_LOCK 0 c QUEUE_LOCK) ≡ Some j → holder (words c QUEUE_LOCK) ≡ Some j
+      was : (j c : ℕ) → holder (put_at words n QUEUE_LOCK 0 c QUEUE_LOCK) ≡ Some j
+          → holder (words c QUEUE_LOCK) ≡ Some j
       was j c e = elim (cases_eq c n) [
-        | inl q ↦ absurd (grind (arith, ap holder (sym (word_here words n QUEUE_LOCK 0)) ∙ subst (λ (k : ℕ). holder (put_at words n QUEUE_LOCK 0 k QUEUE_LOCK) ≡ Some j) q e))
+        | inl q ↦ absurd (grind (
+          arith,
+          ap holder (sym (word_here words n QUEUE_LOCK 0))
+              ∙ subst (λ (k : ℕ). holder (put_at words n QUEUE_LOCK 0 k QUEUE_LOCK) ≡ Some j) q e,
+        ))
         | inr apart ↦ ap holder (sym (word_apart words n QUEUE_LOCK 0 c QUEUE_LOCK apart)) ∙ e
       ]
 
@@ -125,33 +142,42 @@ module _ (words : ℕ → ℕ → ℕ) (traces : ℕ → List Rec) (s : ℕ) (ho
       cpu t = word_beside words n RQ x t CPU (λ q. omega (arith, q))
 
       theirs : (j c : ℕ) → c ≡ d → holder (words c QUEUE_LOCK) ≡ Some j → j ≡ s
-      theirs j c q locked = one_seat (holder (words d QUEUE_LOCK)) s j queue (subst (λ (k : ℕ). holder (words k QUEUE_LOCK) ≡ Some j) q locked)
+      theirs j c q locked = one_seat (holder (words d QUEUE_LOCK)) s j queue
+          (subst (λ (k : ℕ). holder (words k QUEUE_LOCK) ≡ Some j) q locked)
 
       -- of another task, or in another queue
       else_was : (j c t : ℕ) → (c ≡ d → t ≢ n) → holder (put_at words n RQ x c QUEUE_LOCK) ≡ Some j
           → standing (traces j) c t ≡ count_at (put_at words n RQ x t RQ % 4) (put_at words n RQ x t CPU) c
       else_was j c t other locked = let old = holds j c t (lock j c locked) in elim (cases_eq t n) [
-        | inl p ↦ same_count (standing (traces j) c t) (put_at words n RQ x t RQ % 4) (put_at words n RQ x t RQ % 4) (words t CPU) (put_at words n RQ x t CPU) c
+        | inl p ↦ same_count (standing (traces j) c t) (put_at words n RQ x t RQ % 4) (put_at words n RQ x t RQ % 4)
+            (words t CPU) (put_at words n RQ x t CPU) c
             (elsewhere (standing (traces j) c t) (words t RQ % 4) (put_at words n RQ x t RQ % 4) (words t CPU) c old
             (λ q. other (sym q ∙ ap (λ (k : ℕ). words k CPU) p ∙ here) p)) refl (cpu t)
-        | inr apart ↦ same_count (standing (traces j) c t) (words t RQ % 4) (put_at words n RQ x t RQ % 4) (words t CPU) (put_at words n RQ x t CPU) c old
+        | inr apart ↦ same_count (standing (traces j) c t) (words t RQ % 4) (put_at words n RQ x t RQ % 4)
+            (words t CPU) (put_at words n RQ x t CPU) c old
             (ap (λ (z : ℕ). z % 4) (word_apart words n RQ x t RQ apart)) (cpu t)
       ]
 
       now : standing (traces s) d n ≡ count_at (words n RQ % 4) (words n CPU) d
           → g (standing (traces s) d n) ≡ count_at (put_at words n RQ x n RQ % 4) (put_at words n RQ x n CPU) d
       now old =
-          same_count (g (standing (traces s) d n)) (x % 4) (put_at words n RQ x n RQ % 4) (words n CPU) (put_at words n RQ x n CPU) d
+          same_count (g (standing (traces s) d n)) (x % 4) (put_at words n RQ x n RQ % 4) (words n CPU)
+          (put_at words n RQ x n CPU) d
           (counts (standing (traces s) d n) old) (ap (λ (z : ℕ). z % 4) (word_here words n RQ x)) (cpu n)
 
       mine : (c t : ℕ) → holder (put_at words n RQ x c QUEUE_LOCK) ≡ Some s
-          → change_both (standing (traces s)) d n g c t ≡ count_at (put_at words n RQ x t RQ % 4) (put_at words n RQ x t CPU) c
+          → change_both (standing (traces s)) d n g c t ≡ count_at (put_at words n RQ x t RQ % 4)
+          (put_at words n RQ x t CPU) c
       mine c t locked = elim (cases_eq c d) [
-        | inr apart ↦ changed_else (standing (traces s)) d n g c t (λ q. absurd (apart q)) ∙ else_was s c t (λ q. absurd (apart q)) locked
+        | inr apart ↦ changed_else (standing (traces s)) d n g c t (λ q. absurd (apart q))
+            ∙ else_was s c t (λ q. absurd (apart q)) locked
         | inl q ↦ elim (cases_eq t n) [
-          | inr apart ↦ changed_else (standing (traces s)) d n g c t (λ same. apart) ∙ else_was s c t (λ same. apart) locked
-          | inl p ↦ subst (λ (k : ℕ). change_both (standing (traces s)) d n g k t ≡ count_at (put_at words n RQ x t RQ % 4) (put_at words n RQ x t CPU) k) (sym q)
-              (subst (λ (u : ℕ). change_both (standing (traces s)) d n g d u ≡ count_at (put_at words n RQ x u RQ % 4) (put_at words n RQ x u CPU) d) (sym p)
+          | inr apart ↦ changed_else (standing (traces s)) d n g c t (λ same. apart)
+              ∙ else_was s c t (λ same. apart) locked
+          | inl p ↦ subst (λ (k : ℕ). change_both (standing (traces s)) d n g k t ≡ count_at
+              (put_at words n RQ x t RQ % 4) (put_at words n RQ x t CPU) k) (sym q)
+              (subst (λ (u : ℕ). change_both (standing (traces s)) d n g d u ≡ count_at (put_at words n RQ x u RQ % 4)
+              (put_at words n RQ x u CPU) d) (sym p)
               (changed_here (standing (traces s)) d n g d n refl refl ∙ now (holds s d n queue)))
         ]
       ]
@@ -160,7 +186,8 @@ module _ (words : ℕ → ℕ → ℕ) (traces : ℕ → List Rec) (s : ℕ) (ho
     pub queue_task_standing : (d n on m x : ℕ) → x % 4 ≡ 1 → MayQueue (core_of shape words homes traces) s d n
         → StandingHolds (put_at words n RQ x) (put traces s (Queued n d on m ∷ traces s))
     queue_task_standing d n on m x on_is may =
-        rq_store d n x (Queued n d on m) (λ k. k + 1) may.locked may.here refl (λ h e. is_queued h (words n RQ % 4) (x % 4) (words n CPU) d e may.here may.off on_is)
+        rq_store d n x (Queued n d on m) (λ k. k + 1) may.locked may.here refl
+        (λ h e. is_queued h (words n RQ % 4) (x % 4) (words n CPU) d e may.here may.off on_is)
 
     pub dequeue_task_standing : (d n m x : ℕ) → x % 4 ≡ 0 → MayDequeue (core_of shape words homes traces) s d n
         → StandingHolds (put_at words n RQ x) (put traces s (Dequeued n d m ∷ traces s))
@@ -168,7 +195,8 @@ module _ (words : ℕ → ℕ → ℕ) (traces : ℕ → List Rec) (s : ℕ) (ho
         rq_store d n x (Dequeued n d m) (λ k. k - 1) may.locked may.here refl
         (λ h e. leaves h (words n RQ % 4) (x % 4) (words n CPU) d e may.here may.queued (λ q. omega (arith, q, on_is)))
 
-    pub move_task_standing : (d n m x : ℕ) (queue : Queue) → x % 4 ≡ 2 → MayMove (core_of shape words homes traces) s d n queue
+    pub move_task_standing : (d n m x : ℕ) (queue : Queue) → x % 4 ≡ 2
+        → MayMove (core_of shape words homes traces) s d n queue
         → StandingHolds (put_at words n RQ x) (put traces s (Moved n d m ∷ traces s))
     move_task_standing d n m x queue on_is may =
         rq_store d n x (Moved n d m) (λ k. k - 1) may.locked may.here refl
@@ -179,19 +207,23 @@ module _ (words : ℕ → ℕ → ℕ) (traces : ℕ → List Rec) (s : ℕ) (ho
           → StandingHolds (put_at words n QUEUE_LOCK (suc s)) (put traces s (Took n (val.Queue v) ∷ traces s))
       take_queue_standing n v home =
           standing_step (put_at words n QUEUE_LOCK (suc s)) (Took n (val.Queue v))
-          (λ j c t ne locked. lock_beside n (suc s) (standing (traces j) c t) c t (holds j c t (was j c (λ q. ne (theirs j c q locked)) locked))) mine
+          (λ j c t ne locked. lock_beside n (suc s) (standing (traces j) c t) c t
+          (holds j c t (was j c (λ q. ne (theirs j c q locked)) locked))) mine
         where
           theirs : (j c : ℕ) → c ≡ n → holder (put_at words n QUEUE_LOCK (suc s) c QUEUE_LOCK) ≡ Some j → j ≡ s
           theirs j c q locked = one_seat (Some s) s j refl (ap holder (sym (word_here words n QUEUE_LOCK (suc s)))
               ∙ subst (λ (k : ℕ). holder (put_at words n QUEUE_LOCK (suc s) k QUEUE_LOCK) ≡ Some j) q locked)
 
-          was : (j c : ℕ) → c ≢ n → holder (put_at words n QUEUE_LOCK (suc s) c QUEUE_LOCK) ≡ Some j → holder (words c QUEUE_LOCK) ≡ Some j
+          was : (j c : ℕ) → c ≢ n → holder (put_at words n QUEUE_LOCK (suc s) c QUEUE_LOCK) ≡ Some j
+              → holder (words c QUEUE_LOCK) ≡ Some j
           was j c apart locked = ap holder (sym (word_apart words n QUEUE_LOCK (suc s) c QUEUE_LOCK apart)) ∙ locked
 
           mine : (c t : ℕ) → holder (put_at words n QUEUE_LOCK (suc s) c QUEUE_LOCK) ≡ Some s
-              → put (standing (traces s)) n (times v) c t ≡ count_at (put_at words n QUEUE_LOCK (suc s) t RQ % 4) (put_at words n QUEUE_LOCK (suc s) t CPU) c
+              → put (standing (traces s)) n (times v) c t ≡ count_at (put_at words n QUEUE_LOCK (suc s) t RQ % 4)
+              (put_at words n QUEUE_LOCK (suc s) t CPU) c
           mine c t locked = elim (cases_eq c n) [
-            | inl q ↦ ap (λ (f : ℕ → ℕ). f t) (put_there (standing (traces s)) n (times v) c q) ∙ lock_beside n (suc s) (times v t) c t
+            | inl q ↦ ap (λ (f : ℕ → ℕ). f t) (put_there (standing (traces s)) n (times v) c q)
+                ∙ lock_beside n (suc s) (times v t) c t
                 (core.queues.at_home c v (ap homes.queue q ∙ home) t)
             | inr apart ↦ ap (λ (f : ℕ → ℕ). f t) (put_other (standing (traces s)) n (times v) c apart)
                 ∙ lock_beside n (suc s) (standing (traces s) c t) c t (holds s c t (was s c apart locked))
@@ -200,7 +232,8 @@ module _ (words : ℕ → ℕ → ℕ) (traces : ℕ → List Rec) (s : ℕ) (ho
       pub store_cpu_standing : (n d : ℕ) → MayStoreCpu (core_of shape words homes traces) s n d
           → StandingHolds (put_at words n CPU d) (put traces s (StoredCpu n d ∷ traces s))
       store_cpu_standing n d may =
-          standing_step (put_at words n CPU d) (StoredCpu n d) (λ j c t ne locked. as_was j c t locked) (λ c t locked. as_was s c t locked)
+          standing_step (put_at words n CPU d) (StoredCpu n d) (λ j c t ne locked. as_was j c t locked)
+          (λ c t locked. as_was s c t locked)
         where
           unqueued : words n RQ % 4 ≢ 1
           unqueued on = elim may.placeable [
@@ -217,10 +250,14 @@ module _ (words : ℕ → ℕ → ℕ) (traces : ℕ → List Rec) (s : ℕ) (ho
           as_was : (j c t : ℕ) → holder (put_at words n CPU d c QUEUE_LOCK) ≡ Some j
               → standing (traces j) c t ≡ count_at (put_at words n CPU d t RQ % 4) (put_at words n CPU d t CPU) c
           as_was j c t locked =
-              let old = holds j c t (ap holder (sym (word_beside words n CPU d c QUEUE_LOCK (λ q. omega (arith, q)))) ∙ locked) in elim (cases_eq t n) [
-                | inl p ↦ same_count (standing (traces j) c t) (words t RQ % 4) (put_at words n CPU d t RQ % 4) (put_at words n CPU d t CPU) (put_at words n CPU d t CPU) c
-                    (off_queues (standing (traces j) c t) (words t RQ % 4) (words t CPU) (put_at words n CPU d t CPU) c old
+              let old = holds j c t (ap holder (sym (word_beside words n CPU d c QUEUE_LOCK (λ q. omega (arith, q))))
+              ∙ locked) in elim (cases_eq t n) [
+                | inl p ↦ same_count (standing (traces j) c t) (words t RQ % 4) (put_at words n CPU d t RQ % 4)
+                    (put_at words n CPU d t CPU) (put_at words n CPU d t CPU) c
+                    (off_queues (standing (traces j) c t) (words t RQ % 4) (words t CPU)
+                    (put_at words n CPU d t CPU) c old
                     (λ on. unqueued (subst (λ (k : ℕ). words k RQ % 4 ≡ 1) p on))) (rq t) refl
-                | inr apart ↦ same_count (standing (traces j) c t) (words t RQ % 4) (put_at words n CPU d t RQ % 4) (words t CPU) (put_at words n CPU d t CPU) c old (rq t)
+                | inr apart ↦ same_count (standing (traces j) c t) (words t RQ % 4) (put_at words n CPU d t RQ % 4)
+                    (words t CPU) (put_at words n CPU d t CPU) c old (rq t)
                     (word_apart words n CPU d t CPU apart)
               ]
