@@ -18,7 +18,7 @@ use Rattle.word_steps.proofs.NumbersKept.{release_new_may, store_cpu_new_may}
 use Rattle.word_steps.proofs.PutKept.{release_put_may}
 use Rattle.word_steps.proofs.QueuedKept.{release_queued_may}
 use Rattle.word_steps.specs.Decode.{Homes, core_of}
-use Rattle.word_steps.specs.Folds.{task_held, queue_held, current_task, task_to_clear, seen_state, is_claimed, saw_clear, is_moving, last_reads}
+use Rattle.word_steps.specs.Folds.{task_held, queue_held, current_task, task_to_clear, seen_state, is_claimed, saw_clear, is_moving, number_read, last_reads}
 use Rattle.word_steps.specs.Records.{Rec}
 use Rattle.word_steps.specs.Words.{LOCK, STATE, RQ, BUSY, CPU, QUEUE_LOCK, holder, is_set}
 
@@ -63,13 +63,19 @@ module _ (shape : Shape) (words : ℕ → ℕ → ℕ) (homes : Homes) (traces :
         locked = kept.holds.locks.queues.out_held s may.cpu may.queue;
         task_locked = task_locked t may.locked;
         here = here;
-        off = off may.ready;
-        ready = ready may.ready;
+        off = off (found may.ready);
+        ready = ready (found may.ready);
         room = may.room;
       }
     where
       here : words t CPU ≡ may.cpu
       here = here_read t may.cpu may.locked may.read
+
+      -- a task that was read as new under its lock is new
+      found : (number_read (traces s) t ≡ Some 0) ⊎ (((is_claimed (traces s) t ≡ true) × (saw_clear (traces s) t ≡ true)) ⊎ (is_moving (traces s) t ≡ true))
+          → (words t RQ / 4 ≡ 0) ⊎ (((is_claimed (traces s) t ≡ true) × (saw_clear (traces s) t ≡ true)) ⊎ (is_moving (traces s) t ≡ true))
+      found (inl new) = inl (kept.numbers s t (task_locked t may.locked) new)
+      found (inr h) = inr h
 
       ready : (words t RQ / 4 ≡ 0) ⊎ (((is_claimed (traces s) t ≡ true) × (saw_clear (traces s) t ≡ true)) ⊎ (is_moving (traces s) t ≡ true))
           → IsReady (core_of shape words homes traces) s t
