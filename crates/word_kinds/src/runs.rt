@@ -8,7 +8,7 @@ impl Kind for QueueTask {
     ghost use Rattle.std.specs.Prelude.{◌/◌, ◌%◌, refl};
     ghost use Rattle.std.proofs.Common.{lit<};
     ghost use Rattle.word_kinds.specs.Rows.{tasks_rows};
-    ghost use Rattle.word_rule.proofs.QueueLaws.{queue_task_law};
+    ghost use Rattle.word_rule.proofs.QueueLaws.{queue_law};
     ghost use Rattle.word_rule.specs.May.{MayQueueWord, cpu_read_of};
     ghost use Rattle.word_steps.specs.Records.{Queued};
     ghost use Rattle.word_steps.specs.Words.{RQ};
@@ -29,7 +29,7 @@ impl Kind for QueueTask {
 
     ghost quiet = { λ s trace t y x. record { task = refl; queue = refl; works = refl; wait = refl; body = refl } };
 
-    ghost keep = { queue_task_law };
+    ghost keep = { queue_law };
 
     fn column() -> usize {
         3
@@ -43,7 +43,7 @@ impl Kind for DequeueTask {
     ghost use Rattle.std.specs.Prelude.{◌/◌, refl};
     ghost use Rattle.std.proofs.Common.{lit<};
     ghost use Rattle.word_kinds.specs.Rows.{tasks_rows};
-    ghost use Rattle.word_rule.proofs.QueueLaws.{dequeue_task_law};
+    ghost use Rattle.word_rule.proofs.QueueLaws.{dequeue_law};
     ghost use Rattle.word_rule.specs.May.{MayDequeueWord};
     ghost use Rattle.word_steps.specs.Records.{Dequeued};
     ghost use Rattle.word_steps.specs.Words.{RQ};
@@ -64,7 +64,7 @@ impl Kind for DequeueTask {
 
     ghost quiet = { λ s trace t y x. record { task = refl; queue = refl; works = refl; wait = refl; body = refl } };
 
-    ghost keep = { dequeue_task_law };
+    ghost keep = { dequeue_law };
 
     fn column() -> usize {
         3
@@ -78,7 +78,7 @@ impl Kind for MoveTask {
     ghost use Rattle.std.specs.Prelude.{◌/◌, refl};
     ghost use Rattle.std.proofs.Common.{lit<};
     ghost use Rattle.word_kinds.specs.Rows.{tasks_rows};
-    ghost use Rattle.word_rule.proofs.QueueLaws.{move_task_law};
+    ghost use Rattle.word_rule.proofs.QueueLaws.{move_law};
     ghost use Rattle.word_rule.specs.May.{MayMoveWord, cpu_read_of};
     ghost use Rattle.word_steps.specs.Records.{Moved};
     ghost use Rattle.word_steps.specs.Words.{RQ};
@@ -99,7 +99,7 @@ impl Kind for MoveTask {
 
     ghost quiet = { λ s trace t y x. record { task = refl; queue = refl; works = refl; wait = refl; body = refl } };
 
-    ghost keep = { move_task_law };
+    ghost keep = { move_law };
 
     fn column() -> usize {
         3
@@ -113,7 +113,7 @@ impl Kind for SetBusy {
     ghost use Rattle.std.specs.Prelude.{◌/◌, refl};
     ghost use Rattle.std.proofs.Common.{lit<};
     ghost use Rattle.word_kinds.specs.Rows.{tasks_rows};
-    ghost use Rattle.word_rule.proofs.QueueLaws.{set_busy_law};
+    ghost use Rattle.word_rule.proofs.StoreLaws.{set_busy_law};
     ghost use Rattle.word_rule.specs.May.{MaySetBusyWord};
     ghost use Rattle.word_steps.specs.Records.{SetBusy};
     ghost use Rattle.word_steps.specs.Words.{BUSY};
@@ -148,7 +148,7 @@ impl Kind for ClearBusy {
     ghost use Rattle.std.specs.Prelude.{◌≡◌, ◌/◌, ◌%◌, ◌<◌, ◌^◌, refl};
     ghost use Rattle.std.proofs.Common.{lit<};
     ghost use Rattle.word_kinds.specs.Rows.{tasks_rows};
-    ghost use Rattle.word_rule.proofs.QueueLaws.{clear_busy_law};
+    ghost use Rattle.word_rule.proofs.StoreLaws.{clear_busy_law};
     ghost use Rattle.word_rule.specs.May.{MayClearBusyWord};
     ghost use Rattle.word_steps.specs.Records.{ClearedBusy};
     ghost use Rattle.word_steps.specs.Words.{BUSY};
