@@ -7,7 +7,7 @@ use crate::pass::Pass;
 use crate::wk::Wk;
 use handoff_data::CondNo;
 use word_kinds::{BumpCond, LoadCond};
-use word_table::Kept;
+use word_table::{Kept, fetch_add, load};
 
 /// The counter of a condition.
 pub fn load_cond<B: Kept>(wk: &Wk<B>, pass: &mut Pass, k: CondNo) -> u64
@@ -16,7 +16,7 @@ pub fn load_cond<B: Kept>(wk: &Wk<B>, pass: &mut Pass, k: CondNo) -> u64
     ensures same { IsSame pass.old pass.new }
     ensures trace { pass.new.trace ≡ LoadedCond k result ∷ pass.old.trace }
 {
-    wk.words.load::<LoadCond>(&mut pass.token, k)
+    load::<B, LoadCond>(&wk.words, &mut pass.token, k)
 }
 
 /// Raises the counter of a condition by one, modulo 2^64, and answers what it was. From then on the seat owes a walk to
@@ -27,5 +27,5 @@ pub fn bump_cond<B: Kept>(wk: &Wk<B>, pass: &mut Pass, k: CondNo) -> u64
     ensures same { IsSame pass.old pass.new }
     ensures trace { pass.new.trace ≡ Bumped k result ∷ pass.old.trace }
 {
-    wk.words.fetch_add::<BumpCond>(&mut pass.token, k)
+    fetch_add::<B, BumpCond>(&wk.words, &mut pass.token, k)
 }

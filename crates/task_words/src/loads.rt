@@ -8,7 +8,7 @@ use crate::wk::Wk;
 use core_data::Rq;
 use handoff_data::{CpuNo, State, TaskNo};
 use word_kinds::{LoadBusy, LoadCpu, LoadRq, LoadState};
-use word_table::Kept;
+use word_table::{Kept, load};
 
 /// What a busy word says.
 #[derive(Clone, Copy, Debug, PartialEq, Eq)]
@@ -26,7 +26,7 @@ pub fn load_state<B: Kept>(wk: &Wk<B>, pass: &mut Pass, t: TaskNo) -> State
     ensures same { IsSame pass.old pass.new }
     ensures trace { pass.new.trace ≡ LoadedState t None result ∷ pass.old.trace }
 {
-    State(wk.words.load::<LoadState>(&mut pass.token, t) as u16)
+    State(load::<B, LoadState>(&wk.words, &mut pass.token, t) as u16)
 }
 
 /// The queue word of a task: whether it is queued, and how often that was changed.
@@ -36,7 +36,7 @@ pub fn load_rq<B: Kept>(wk: &Wk<B>, pass: &mut Pass, t: TaskNo) -> Rq
     ensures same { IsSame pass.old pass.new }
     ensures trace { pass.new.trace ≡ LoadedRq t result.on result.m ∷ pass.old.trace }
 {
-    let word = wk.words.load::<LoadRq>(&mut pass.token, t);
+    let word = load::<B, LoadRq>(&wk.words, &mut pass.token, t);
     Rq {
         on: (word % 4) as u8,
         m: word / 4,
@@ -50,7 +50,7 @@ pub fn load_busy<B: Kept>(wk: &Wk<B>, pass: &mut Pass, t: TaskNo) -> BusyWord
     ensures same { IsSame pass.old pass.new }
     ensures trace { pass.new.trace ≡ LoadedBusy t result.on result.n ∷ pass.old.trace }
 {
-    let word = wk.words.load::<LoadBusy>(&mut pass.token, t);
+    let word = load::<B, LoadBusy>(&wk.words, &mut pass.token, t);
     BusyWord {
         on: word % 2 == 1,
         n: word / 2,
@@ -65,5 +65,5 @@ pub fn load_cpu<B: Kept>(wk: &Wk<B>, pass: &mut Pass, t: TaskNo) -> CpuNo
     ensures trace { pass.new.trace ≡ LoadedCpu t result ∷ pass.old.trace }
     ensures processor { result < wk.now.shape.cpus }
 {
-    wk.words.load::<LoadCpu>(&mut pass.token, t) as CpuNo
+    load::<B, LoadCpu>(&wk.words, &mut pass.token, t) as CpuNo
 }

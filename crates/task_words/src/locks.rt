@@ -7,37 +7,13 @@ ghost use Rattle.word_steps.specs.Folds.{task_held, queue_held, works_held, wait
 ghost use Rattle.word_steps.specs.Records.{Took, Gave};
 ghost use Rattle.word_steps.specs.declared.val.Val.TheVariants as val;
 
+use crate::guards::{QueueGuard, TaskGuard, WaitGuard, WorksGuard};
 use crate::pass::Pass;
 use crate::wk::Wk;
-use core_data::{QueueVal, TaskVal, WaitVal, WorksVal};
 use handoff_data::{CondNo, CpuNo, TaskNo};
 use std::sync::Wait;
 use word_steps::Val;
 use word_table::{Kept, QueueLock, TaskLock, WaitLock, WorksLock};
-
-/// What a task's lock guards, while the lock is held. It has no `Drop`, so it ends in `give`.
-pub struct TaskGuard {
-    pub val: TaskVal,
-    pub(crate) task: TaskNo,
-}
-
-/// What the lock of a processor's queue guards, while it is held; it ends in `give`.
-pub struct QueueGuard {
-    pub val: QueueVal,
-    pub(crate) cpu: CpuNo,
-}
-
-/// What the lock of a processor's works guards, while it is held; it ends in `give`.
-pub struct WorksGuard {
-    pub val: WorksVal,
-    pub(crate) cpu: CpuNo,
-}
-
-/// What the lock of a condition's wait queue guards, while it is held; it ends in `give`.
-pub struct WaitGuard {
-    pub val: WaitVal,
-    pub(crate) cond: CondNo,
-}
 
 /// Takes the lock of a task, as Linux's `raw_spin_lock(&p->pi_lock)`, and waits until it is free.
 pub fn lock_task<B: Kept, R: Wait>(rt: &R, wk: &Wk<B>, pass: &mut Pass, t: TaskNo) -> TaskGuard
@@ -103,13 +79,6 @@ pub fn lock_wait<B: Kept, R: Wait>(rt: &R, wk: &Wk<B>, pass: &mut Pass, k: CondN
 }
 
 impl TaskGuard {
-    /// The task.
-    pub fn task(&self) -> TaskNo
-        ensures { result ≡ self.now.task }
-    {
-        self.task
-    }
-
     /// Gives the lock, with the value as it now is.
     pub fn give<B: Kept>(self, wk: &Wk<B>, pass: &mut Pass)
         requires of { IsOf wk.now pass.old }
@@ -125,13 +94,6 @@ impl TaskGuard {
 }
 
 impl QueueGuard {
-    /// The processor.
-    pub fn cpu(&self) -> CpuNo
-        ensures { result ≡ self.now.cpu }
-    {
-        self.cpu
-    }
-
     /// Gives the lock, with the value as it now is. Where the queue is the seat's own and has no `cur`, the seat has no
     /// current task from then on.
     pub fn give<B: Kept>(self, wk: &Wk<B>, pass: &mut Pass)
@@ -152,13 +114,6 @@ impl QueueGuard {
 }
 
 impl WorksGuard {
-    /// The processor.
-    pub fn cpu(&self) -> CpuNo
-        ensures { result ≡ self.now.cpu }
-    {
-        self.cpu
-    }
-
     /// Gives the lock, with the works as they were taken.
     pub fn give<B: Kept>(self, wk: &Wk<B>, pass: &mut Pass)
         requires of { IsOf wk.now pass.old }
@@ -174,13 +129,6 @@ impl WorksGuard {
 }
 
 impl WaitGuard {
-    /// The condition.
-    pub fn cond(&self) -> CondNo
-        ensures { result ≡ self.now.cond }
-    {
-        self.cond
-    }
-
     /// Gives the lock, with the entries as they now are.
     pub fn give<B: Kept>(self, wk: &Wk<B>, pass: &mut Pass)
         requires of { IsOf wk.now pass.old }

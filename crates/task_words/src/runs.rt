@@ -8,7 +8,7 @@ ghost use Rattle.word_steps.specs.Folds.{seen_state, last_reads};
 ghost use Rattle.word_table.specs.Views.{IsOf as IsTokenOf, IsSame as IsSameToken};
 ghost use Rattle.word_steps.specs.Records.{Queued, Dequeued, Moved, SetBusy, ClearedBusy};
 
-use crate::locks::QueueGuard;
+use crate::guards::QueueGuard;
 use crate::pass::Pass;
 use crate::wk::Wk;
 use core_data::Rq;
@@ -16,7 +16,7 @@ use crossbeam_utils::Backoff;
 use handoff_data::{CpuNo, Entry, TaskNo};
 use std::sync::Wait;
 use word_kinds::{DequeueTask, MoveTask, QueueTask};
-use word_table::{Kept, Kind, Token};
+use word_table::{Kept, Kind, Token, exchange, fetch_add, peek};
 
 // A queue word and a busy word are changed while their number is below it.
 const END: u64 = 1 << 60;
@@ -39,10 +39,10 @@ fn change_rq<B: Kept, K: Kind, R: Wait>(
 {
     let backoff = Backoff::new();
     for _ in rt.forever() {
-        let found = wk.words.peek(t, K::column());
+        let found = peek(&wk.words, t, K::column());
         if found / 4 < END {
             let new = 4 * (found / 4 + 1) + on;
-            if wk.words.exchange::<K>(token, t, found, new) == found {
+            if exchange::<B, K>(&wk.words, token, t, found, new) == found {
                 return found;
             }
         }
@@ -179,15 +179,11 @@ fn change_busy<B: Kept, R: Wait>(rt: &R, wk: &Wk<B>, token: &mut Token, t: TaskN
 {
     let backoff = Backoff::new();
     for _ in rt.forever() {
-        let found = wk.words.peek(t, word_kinds::SetBusy::column());
+        let found = peek(&wk.words, t, word_kinds::SetBusy::column());
         let n = found / 2;
         if n < END {
             let new = 2 * (n + 1) + 1;
-            if wk
-                .words
-                .exchange::<word_kinds::SetBusy>(token, t, found, new)
-                == found
-            {
+            if exchange::<B, word_kinds::SetBusy>(&wk.words, token, t, found, new) == found {
                 return n;
             }
         }
@@ -207,10 +203,7 @@ pub fn clear_busy<B: Kept>(wk: &Wk<B>, pass: &mut Pass, t: TaskNo) -> u64
     ensures trace { pass.new.trace ≡ ClearedBusy t result ∷ pass.old.trace }
     ensures turn { pass.new.turn ≡ logged (entry.Finish t (result + 1) pass.old.seat) pass.old.turn }
 {
-    let n = wk
-        .words
-        .fetch_add::<word_kinds::ClearBusy>(&mut pass.token, t)
-        / 2;
+    let n = fetch_add::<B, word_kinds::ClearBusy>(&wk.words, &mut pass.token, t) / 2;
     let c = pass.token.seat();
     pass.log(Entry::Finish { t, n: n + 1, c });
     n

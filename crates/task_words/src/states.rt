@@ -9,7 +9,7 @@ ghost use Rattle.word_steps.specs.Folds.{current_task};
 ghost use Rattle.word_table.specs.Views.{IsOf as IsTokenOf, IsSame as IsSameToken};
 ghost use Rattle.word_steps.specs.Records.{StoredOwn, Claimed, Released, StoredCpu, LoadedState};
 
-use crate::locks::TaskGuard;
+use crate::guards::TaskGuard;
 use crate::pass::Pass;
 use crate::wk::Wk;
 use handoff_data::{CpuNo, Entry, State, TaskNo, matches};
@@ -17,7 +17,7 @@ use word_kinds::{
     Interruptible, InterruptibleKill, Killable, MatchState, NoBits, Normal, NormalKill, StoreOwn,
     StoreRunning, StoreWaking, Uninterruptible, WakeKill,
 };
-use word_table::{Kept, Token};
+use word_table::{Kept, Token, load, store};
 
 /// Stores the state of the seat's own current task, as Linux's `set_current_state`. TASK_DEAD needs the task's lock.
 pub fn set_state<B: Kept>(wk: &Wk<B>, pass: &mut Pass, state: State)
@@ -29,8 +29,7 @@ pub fn set_state<B: Kept>(wk: &Wk<B>, pass: &mut Pass, state: State)
     let Some(t) = pass.current else {
         unreachable!()
     };
-    wk.words
-        .store::<StoreOwn>(&mut pass.token, t, state.0 as u64);
+    store::<B, StoreOwn>(&wk.words, &mut pass.token, t, state.0 as u64);
 }
 
 /// Stores TASK_RUNNING as the state of the seat's own current task, as Linux's `__set_current_state(TASK_RUNNING)`.
@@ -55,7 +54,7 @@ pub fn store_waking<B: Kept>(wk: &Wk<B>, pass: &mut Pass, t: TaskNo, m: u64)
     ensures trace { pass.new.trace ≡ Claimed t m ∷ pass.old.trace }
     ensures turn { pass.new.turn ≡ logged (entry.Wake t m) pass.old.turn }
 {
-    wk.words.store::<StoreWaking>(&mut pass.token, t, 0x200);
+    store::<B, StoreWaking>(&wk.words, &mut pass.token, t, 0x200);
     pass.log(Entry::Wake { t, m });
 }
 
@@ -67,7 +66,7 @@ pub fn store_running<B: Kept>(wk: &Wk<B>, pass: &mut Pass, t: TaskNo)
     ensures same { IsSame pass.old pass.new }
     ensures trace { pass.new.trace ≡ Released t ∷ pass.old.trace }
 {
-    wk.words.store::<StoreRunning>(&mut pass.token, t, 0);
+    store::<B, StoreRunning>(&wk.words, &mut pass.token, t, 0);
 }
 
 /// Stores the processor of a task that is on no queue, under its lock, as Linux's `set_task_cpu`.
@@ -78,8 +77,7 @@ pub fn store_cpu<B: Kept>(wk: &Wk<B>, pass: &mut Pass, task: &TaskGuard, c: CpuN
     ensures same { IsSame pass.old pass.new }
     ensures trace { pass.new.trace ≡ StoredCpu task.now.task c ∷ pass.old.trace }
 {
-    wk.words
-        .store::<word_kinds::StoreCpu>(&mut pass.token, task.task, c as u64);
+    store::<B, word_kinds::StoreCpu>(&wk.words, &mut pass.token, task.task, c as u64);
 }
 
 // The word of a state, read to be held against a mask, which is a type there.
@@ -93,14 +91,14 @@ fn match_word<B: Kept>(wk: &Wk<B>, token: &mut Token, t: TaskNo, mask: State) ->
 {
     let words = &wk.words;
     match mask.0 {
-        0 => words.load::<MatchState<NoBits>>(token, t),
-        1 => words.load::<MatchState<Interruptible>>(token, t),
-        2 => words.load::<MatchState<Uninterruptible>>(token, t),
-        3 => words.load::<MatchState<Normal>>(token, t),
-        0x100 => words.load::<MatchState<WakeKill>>(token, t),
-        0x101 => words.load::<MatchState<InterruptibleKill>>(token, t),
-        0x102 => words.load::<MatchState<Killable>>(token, t),
-        _ => words.load::<MatchState<NormalKill>>(token, t),
+        0 => load::<B, MatchState<NoBits>>(words, token, t),
+        1 => load::<B, MatchState<Interruptible>>(words, token, t),
+        2 => load::<B, MatchState<Uninterruptible>>(words, token, t),
+        3 => load::<B, MatchState<Normal>>(words, token, t),
+        0x100 => load::<B, MatchState<WakeKill>>(words, token, t),
+        0x101 => load::<B, MatchState<InterruptibleKill>>(words, token, t),
+        0x102 => load::<B, MatchState<Killable>>(words, token, t),
+        _ => load::<B, MatchState<NormalKill>>(words, token, t),
     }
 }
 

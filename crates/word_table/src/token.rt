@@ -1,4 +1,6 @@
 //! What a seat's thread holds.
+ghost use Rattle.std.specs.Prelude.{◌≡◌};
+
 use crate::view::View;
 use atomic_table::Badge;
 use std::marker::Model;
@@ -20,4 +22,13 @@ impl Model for Token {
     ghost view = { token_view };
 
     ghost invariant = { IsToken };
+}
+
+impl Token {
+    /// The seat's number.
+    pub fn seat(&self) -> u32
+        ensures { result ≡ self.now.seat }
+    {
+        self.seat
+    }
 }
