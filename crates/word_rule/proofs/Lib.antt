@@ -1,3 +1,5 @@
 pub mod GiveQueue
+pub mod Pigeons
 pub mod RunsKept
 pub mod StandingKept
+pub mod TakenLaw
