@@ -1,6 +1,6 @@
 -- A list of numbers below n without repeats is no longer than n.
-use Rattle.std.proofs.Common.{◌≡◌, ◌≢◌, ℕ, suc, ◌+◌, ◌<◌, ◌≤◌, List, [], ◌∷◌, eqb, length, refl, sym, ap, subst, ◌∙◌, inl, inr, arith}
-use Rattle.std.specs.Prelude.{◌==◌, ◌||◌, ◌⊎◌, Bool, true, false, Some, slice_get, if◌then◌else◌}
+use Rattle.std.proofs.Common.{◌≡◌, ◌≢◌, ℕ, suc, ◌<◌, ◌≤◌, List, [], ◌∷◌, eqb, length, refl, sym, ap, subst, ◌∙◌, inl, inr, arith}
+use Rattle.std.specs.Prelude.{◌==◌, true, false, Some, slice_get}
 use Rattle.std.specs.List.{AllByRecursion, IsDistinct, list_any}
 use Rattle.std.proofs.lemmas.Bool.{cases_eq}
 use Rattle.std.proofs.lemmas.Bool.Decides.{nat_tests}
@@ -11,7 +11,7 @@ use Rattle.core_data.specs.Entries.{has_entry}
 use Rattle.core_data.specs.Queue.{times_in}
 use Rattle.core_data.specs.declared.values.WaitEntry.{WaitEntry}
 use Rattle.core_gives.proofs.WaitsLemmas.{has_task-list, place-entry}
-use Rattle.core_gives.specs.Waits.{has_task, HasEachOnce}
+use Rattle.core_gives.specs.Waits.{HasEachOnce}
 
 no_numbers : IsDistinct eqb []
 unfolding IsDistinct

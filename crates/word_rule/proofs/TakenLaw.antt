@@ -1,6 +1,6 @@
 -- What a seat knows of a value that is home, by its own trace before it takes it.
-use Rattle.std.proofs.Common.{◌≡◌, ◌≢◌, ℕ, ◌<◌, ◌≤◌, ◌+◌, refl, sym, ap, subst, ◌∙◌, inl, inr, List, arith}
-use Rattle.std.specs.Prelude.{◌%◌, ◌==◌, ◌&&◌, ◌⊎◌, true, Option, Some, None, IsSome, unwrap_or, if◌then◌else◌}
+use Rattle.std.proofs.Common.{◌≡◌, ◌≢◌, ℕ, ◌<◌, ◌≤◌, ◌+◌, refl, ap, subst, inl, inr, List, arith}
+use Rattle.std.specs.Prelude.{◌%◌, ◌==◌, ◌&&◌, Option, Some, None, unwrap_or, if◌then◌else◌}
 use Rattle.std.proofs.lemmas.Bool.Decides.{nat_tests}
 use Rattle.core_data.specs.Queue.{Queue, times_in}
 use Rattle.core_data.specs.declared.values.TaskVal.{TaskVal}
