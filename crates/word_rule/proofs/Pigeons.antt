@@ -1,4 +1,4 @@
--- A list of numbers below n without repeats is no longer than n.
+-- A list of different numbers below n, or of entries of different tasks below n, is no longer than n.
 use Rattle.std.proofs.Common.{◌≡◌, ◌≢◌, ℕ, suc, ◌<◌, ◌≤◌, List, [], ◌∷◌, eqb, length, refl, sym, ap, subst, ◌∙◌, inl, inr, arith}
 use Rattle.std.specs.Prelude.{◌==◌, true, false, Some, slice_get}
 use Rattle.std.specs.List.{AllByRecursion, IsDistinct, list_any}
@@ -33,7 +33,10 @@ distinct (x ∷ xs) once =
     let here = times_in-cons x xs x in
     let most = once x in
     let none : times_in xs x ≡ 0 = grind (arith, nat_tests, here, most) in
-    IsDistinct-cons eqb x xs (apart x xs none) (distinct xs (λ t. let count = times_in-cons x xs t in let o = once t in omega (arith, count, o)))
+    IsDistinct-cons eqb x xs (apart x xs none) (distinct xs rest)
+  where
+    rest : (t : ℕ) → times_in xs t ≤ 1
+    rest t = let count = times_in-cons x xs t in let o = once t in omega (arith, count, o)
 
 stands : (xs : List ℕ) (q : ℕ) → list_any (eqb q) xs ≡ true → times_in xs q ≢ 0
 stands [] q e = absurd (grind (arith, e))
@@ -45,7 +48,8 @@ stands (x ∷ xs) q e = λ none. elim (cases_eq q x) [
       stands xs q (grind (arith, nat_tests, other, e)) rest
 ]
 
-pub room_of : (n : ℕ) (xs : List ℕ) → ((t : ℕ) → times_in xs t ≤ 1) → ((t : ℕ) → times_in xs t ≢ 0 → t < n) → length xs ≤ n
+pub room_of : (n : ℕ) (xs : List ℕ) → ((t : ℕ) → times_in xs t ≤ 1) → ((t : ℕ) → times_in xs t ≢ 0 → t < n)
+    → length xs ≤ n
 room_of n xs once below = length-le_from_distinct_below xs n (distinct xs once) (λ q e. below q (stands xs q e))
 
 -- where one is missing, there is room for it
@@ -55,14 +59,18 @@ room_for n xs once below t lt none = let all = room_of n (t ∷ xs) once_more st
   where
     once_more : (u : ℕ) → times_in (t ∷ xs) u ≤ 1
     once_more u = let count = times_in-cons t xs u in let o = once u in elim (cases_eq t u) [
-      | inl q ↦ let zero_there : times_in xs u ≡ 0 = subst (λ (k : ℕ). times_in xs k ≡ 0) q none in grind (arith, nat_tests, count, zero_there)
+      | inl q ↦
+          let zero_there : times_in xs u ≡ 0 = subst (λ (k : ℕ). times_in xs k ≡ 0) q none in
+          grind (arith, nat_tests, count, zero_there)
       | inr ne ↦ grind (arith, nat_tests, count, o, ne)
     ]
 
     still_below : (u : ℕ) → times_in (t ∷ xs) u ≢ 0 → u < n
     still_below u some = elim (cases_eq t u) [
       | inl q ↦ subst (λ (k : ℕ). k < n) q lt
-      | inr ne ↦ let count = times_in-cons t xs u in below u (λ zero_there. some (grind (arith, nat_tests, count, zero_there, ne)))
+      | inr ne ↦
+          let count = times_in-cons t xs u in
+          below u (λ zero_there. some (grind (arith, nat_tests, count, zero_there, ne)))
     ]
 
 -- Entries of a wait queue, by their tasks
@@ -75,7 +83,8 @@ length-tasks_of : (xs : List WaitEntry) → length (tasks_of xs) ≡ length xs
 length-tasks_of [] = refl
 length-tasks_of (x ∷ xs) = ap suc (length-tasks_of xs)
 
-tasks_apart : (t : ℕ) (xs : List WaitEntry) → list_any (λ (x : WaitEntry). x.t == t) xs ≡ false → AllByRecursion (λ y. eqb t y ≡ false) (tasks_of xs)
+tasks_apart : (t : ℕ) (xs : List WaitEntry) → list_any (λ (x : WaitEntry). x.t == t) xs ≡ false
+    → AllByRecursion (λ y. eqb t y ≡ false) (tasks_of xs)
 tasks_apart t [] e = tt
 tasks_apart t (x ∷ xs) e =
     let other : t ≢ x.t = λ q. absurd (grind (arith, nat_tests, e, q)) in
@@ -84,19 +93,26 @@ tasks_apart t (x ∷ xs) e =
 
 tasks_distinct : (xs : List WaitEntry) → HasEachOnce xs → IsDistinct eqb (tasks_of xs)
 tasks_distinct [] once = no_numbers
-tasks_distinct (x ∷ xs) once = IsDistinct-cons eqb x.t (tasks_of xs) (tasks_apart x.t xs (has_task-list xs x.t ∙ once.0)) (tasks_distinct xs once.1)
+tasks_distinct (x ∷ xs) once =
+    let others = tasks_apart x.t xs (has_task-list xs x.t ∙ once.0) in
+    IsDistinct-cons eqb x.t (tasks_of xs) others (tasks_distinct xs once.1)
 
 -- a task that has an entry has it at some place
-entry_of : (xs : List WaitEntry) (q : ℕ) → list_any (eqb q) (tasks_of xs) ≡ true → (x : WaitEntry) × ((i : ℕ) × ((slice_get xs i ≡ Some x) × (q ≡ x.t)))
+entry_of : (xs : List WaitEntry) (q : ℕ) → list_any (eqb q) (tasks_of xs) ≡ true
+    → (x : WaitEntry) × ((i : ℕ) × ((slice_get xs i ≡ Some x) × (q ≡ x.t)))
 entry_of [] q e = absurd (grind (arith, e))
 entry_of (x ∷ xs) q e = elim (cases_eq q x.t) [
   | inl same ↦ (x, (0, (refl, same)))
-  | inr other ↦ let found = entry_of xs q (grind (arith, nat_tests, other, e)) in (found.0, (suc found.1.0, found.1.1))
+  | inr other ↦
+      let found = entry_of xs q (grind (arith, nat_tests, other, e)) in
+      (found.0, (suc found.1.0, found.1.1))
 ]
 
-pub room_of_entries : (n : ℕ) (xs : List WaitEntry) → HasEachOnce xs → ((x : WaitEntry) → has_entry xs x ≡ true → x.t < n) → length xs ≤ n
+pub room_of_entries : (n : ℕ) (xs : List WaitEntry) → HasEachOnce xs
+    → ((x : WaitEntry) → has_entry xs x ≡ true → x.t < n) → length xs ≤ n
 room_of_entries n xs once below =
-    subst (λ (k : ℕ). k ≤ n) (length-tasks_of xs) (length-le_from_distinct_below (tasks_of xs) n (tasks_distinct xs once) named)
+    let most = length-le_from_distinct_below (tasks_of xs) n (tasks_distinct xs once) named in
+    subst (λ (k : ℕ). k ≤ n) (length-tasks_of xs) most
   where
     named : (q : ℕ) → list_any (eqb q) (tasks_of xs) ≡ true → q < n
     named q e = let found = entry_of xs q e in
