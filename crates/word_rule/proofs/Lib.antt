@@ -15,5 +15,4 @@ pub mod StandingKept
 pub mod Stands
 pub mod StoreLaws
 pub mod Taken
-pub mod TakenLaw
 pub mod Uses

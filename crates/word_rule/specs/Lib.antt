@@ -3,5 +3,4 @@ pub mod Kept
 pub mod May
 pub mod Sorts
 pub mod Standing
-pub mod Taken
 pub mod Told
