@@ -2,11 +2,9 @@
 //! call of running threads.
 #![tactic(auto)]
 
-// mod bodies;
 mod conds;
 mod guards;
 mod loads;
-// mod locks;
 mod pass;
 mod runs;
 mod states;

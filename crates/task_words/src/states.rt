@@ -39,7 +39,7 @@ pub fn set_running<B: Kept>(wk: &Wk<B>, pass: &mut Pass)
     ensures same { IsSame pass.old pass.new }
     ensures trace { pass.new.trace ≡ StoredOwn (unwrap_or (current_task pass.old.seat pass.old.trace) 0) running ∷ pass.old.trace }
 {
-    set_state(wk, pass, State::RUNNING);
+    set_state(wk, pass, State::TASK_RUNNING);
 }
 
 /// Stores TASK_WAKING as the state of a task that the seat has found off its queue, under the task's lock; `m` is the
