@@ -38,8 +38,17 @@ module _ (shape : Shape) (words : ℕ → ℕ → ℕ) (homes : Homes) (traces :
   take_body_law kept seat task may =
       let core = take_body_possible shape words homes traces s kept seat t task may in (
         core.home,
-        still_kept shape words homes (record homes { body = put homes.body t false }) traces s kept (OutBody t (homes.ended t))
-            (record { moving = λ h. refl; numbers = λ h. refl; matched = refl; queued = λ c u e. e; put_there = refl; standing = refl; off = λ u e. e })
+        still_kept shape words homes (record homes { body = put homes.body t false }) traces s kept
+            (OutBody t (homes.ended t))
+            (record {
+              moving = λ h. refl;
+              numbers = λ h. refl;
+              matched = refl;
+              queued = λ c u e. e;
+              put_there = refl;
+              standing = refl;
+              off = λ u e. e;
+            })
             (record { current = λ j. refl; stays = refl }) refl
             (body_out_keeps shape words homes traces s t (homes.ended t) kept.holds core)
             (body_out_ended homes.ended traces s kept.ended t (homes.ended t) refl)
@@ -55,9 +64,18 @@ module _ (shape : Shape) (words : ℕ → ℕ → ℕ) (homes : Homes) (traces :
   return_body_law ended kept seat task may =
       let core = return_body_possible shape words homes traces s kept seat t ended task may in (
         kept.holds.busy.bodies.out_away s t may.out,
-        still_kept shape words homes (record homes { body = put homes.body t true; ended = put homes.ended t ended }) traces s kept
+        still_kept shape words homes
+            (record homes { body = put homes.body t true; ended = put homes.ended t ended }) traces s kept
             (HomeBody t ended)
-            (record { moving = λ h. refl; numbers = λ h. refl; matched = refl; queued = λ c u e. e; put_there = refl; standing = refl; off = λ u e. e })
+            (record {
+              moving = λ h. refl;
+              numbers = λ h. refl;
+              matched = refl;
+              queued = λ c u e. e;
+              put_there = refl;
+              standing = refl;
+              off = λ u e. e;
+            })
             (record { current = λ j. refl; stays = refl }) refl
             (body_home_keeps shape words homes traces s t ended kept.holds core)
             (body_home_ended shape words homes traces s kept.holds kept.ended t ended core)

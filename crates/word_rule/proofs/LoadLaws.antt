@@ -51,14 +51,16 @@ module _ (shape : Shape) (words : ℕ → ℕ → ℕ) (homes : Homes) (traces :
   state_kept : (mask : Option State) → n < shape.tasks → IsMask mask
       → Kept shape words homes (put traces s (state_note mask ∷ traces s))
   state_kept mask task allowed =
-      let may : MayLoadState (core_of shape words homes traces) s n mask = record { seat = seat; task = task; allowed = allowed } in
+      let may : MayLoadState
+      (core_of shape words homes traces) s n mask = record { seat = seat; task = task; allowed = allowed } in
       let holds = load_state_keeps shape words homes traces s n mask kept.holds may in
       record {
         holds = holds;
         moving = moving_still shape words homes traces s kept.moving (state_note mask) (λ h. refl);
         current = current_still words traces s kept.current (state_note mask) (λ j. refl) refl;
         numbers = numbers_still words traces s kept.numbers (state_note mask) (λ h. refl);
-        matched = load_state_matched words traces s kept.matched shape homes n mask (record { 0 = words n STATE }) holds;
+        matched = load_state_matched words traces s kept.matched shape homes n mask
+            (record { 0 = words n STATE }) holds;
         queued = queued_still words traces s kept.queued (state_note mask) (λ c t e. e);
         put_there = put_still words traces s kept.put_there (state_note mask) refl;
         ended = ended_still homes.ended traces s kept.ended (state_note mask) (λ j. refl) refl;
@@ -110,7 +112,15 @@ module _ (shape : Shape) (words : ℕ → ℕ → ℕ) (homes : Homes) (traces :
       (put traces s (LoadedBusy n (is_set (words n BUSY)) (words n BUSY / 2) ∷ traces s)) × Unit {0}
   load_busy_law task same = (
     quiet_load BUSY (LoadedBusy n (is_set (words n BUSY)) (words n BUSY / 2)) same
-        (record { moving = λ h. refl; numbers = λ h. refl; matched = refl; queued = λ c t e. e; put_there = refl; standing = refl; off = λ t e. e })
+        (record {
+          moving = λ h. refl;
+          numbers = λ h. refl;
+          matched = refl;
+          queued = λ c t e. e;
+          put_there = refl;
+          standing = refl;
+          off = λ t e. e;
+        })
         (record { current = λ j. refl; stays = refl }) (record { ended = refl; body = refl }) refl
         (load_busy_keeps shape words homes traces s n kept.holds (record { seat = seat; task = task })),
     tt,
@@ -121,7 +131,15 @@ module _ (shape : Shape) (words : ℕ → ℕ → ℕ) (homes : Homes) (traces :
       (put traces s (LoadedCpu n (words n CPU) ∷ traces s)) × (words n CPU < shape.cpus)
   load_cpu_law task same = (
     quiet_load CPU (LoadedCpu n (words n CPU)) same
-        (record { moving = λ h. refl; numbers = λ h. refl; matched = refl; queued = λ c t e. e; put_there = refl; standing = refl; off = λ t e. e })
+        (record {
+          moving = λ h. refl;
+          numbers = λ h. refl;
+          matched = refl;
+          queued = λ c t e. e;
+          put_there = refl;
+          standing = refl;
+          off = λ t e. e;
+        })
         (record { current = λ j. refl; stays = refl }) (record { ended = refl; body = refl }) refl
         (load_cpu_keeps shape words homes traces s n kept.holds (record { seat = seat; task = task })),
     kept.holds.shapes.cpu n task,
@@ -131,7 +149,15 @@ module _ (shape : Shape) (words : ℕ → ℕ → ℕ) (homes : Homes) (traces :
       → Kept shape (put_at words n COND y) homes (put traces s (LoadedCond n (words n COND) ∷ traces s)) × Unit {0}
   load_cond_law condition same = (
     quiet_load COND (LoadedCond n (words n COND)) same
-        (record { moving = λ h. refl; numbers = λ h. refl; matched = refl; queued = λ c t e. e; put_there = refl; standing = refl; off = λ t e. e })
+        (record {
+          moving = λ h. refl;
+          numbers = λ h. refl;
+          matched = refl;
+          queued = λ c t e. e;
+          put_there = refl;
+          standing = refl;
+          off = λ t e. e;
+        })
         (record { current = λ j. refl; stays = refl }) (record { ended = refl; body = refl }) refl
         (load_cond_keeps shape words homes traces s n kept.holds (record { seat = seat; condition = condition })),
     tt,
@@ -144,7 +170,8 @@ pub load_masked_law : (mask : State) → IsMask (Some mask)
     → Kept shape (put_at words n STATE y) homes
     (put traces s (LoadedState n (Some mask) (record { 0 = words n STATE }) ∷ traces s)) × (words n STATE < 2 ^ 16)
 load_masked_law mask allowed shape words homes traces s n y kept seat task same = (
-  as_found shape words homes traces s n y kept seat STATE (state_note shape words homes traces s n y kept seat (Some mask)) same
+  as_found shape words homes traces s n y kept seat STATE
+      (state_note shape words homes traces s n y kept seat (Some mask)) same
       (state_kept shape words homes traces s n y kept seat (Some mask) task allowed),
   kept.states n,
 )

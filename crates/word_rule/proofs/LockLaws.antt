@@ -42,7 +42,8 @@ use Rattle.word_steps.specs.declared.val.Val.{Val}
 use Rattle.word_steps.specs.declared.val.Val.TheVariants as val
 
 -- the value of one sort that is there
-of_sort : {A : Type 0} (f : A → Val) (o : Option A) (v : Val) → some_of f o ≡ Some v → (w : A) × (o ≡ Some w) × (f w ≡ v)
+of_sort : {A : Type 0} (f : A → Val) (o : Option A) (v : Val) → some_of f o ≡ Some v
+    → (w : A) × (o ≡ Some w) × (f w ≡ v)
 of_sort f None v e = absurd (grind (arith, e))
 of_sort f (Some w) v e = (w, refl, ap (λ (z : Option Val). unwrap_or z (f w)) e)
 
@@ -64,15 +65,18 @@ module _ (shape : Shape) (words : ℕ → ℕ → ℕ) (homes : Homes) (traces :
       record {
         holds = take_task_keeps shape words homes traces s n v home kept.holds may;
         moving = take_task_moves shape words homes traces s kept.moving n v kept.holds may;
-        current = current_quiet words traces s kept.current n LOCK (suc s) (Took n (val.Task v)) (λ e. omega (arith, e)) (λ j. refl) refl;
+        current = current_quiet words traces s kept.current n LOCK (suc s) (Took n (val.Task v))
+            (λ e. omega (arith, e)) (λ j. refl) refl;
         numbers = take_task_numbers words traces s kept.numbers n v;
         matched = take_task_matched words traces s kept.matched n v;
         queued = take_task_queued words traces s kept.queued n v;
-        put_there = put_beside words traces s kept.put_there n LOCK (suc s) (Took n (val.Task v)) (λ e. omega (arith, e)) (λ e. omega (arith, e)) (λ e. omega (arith, e)) refl;
+        put_there = put_beside words traces s kept.put_there n LOCK (suc s) (Took n (val.Task v))
+            (λ e. omega (arith, e)) (λ e. omega (arith, e)) (λ e. omega (arith, e)) refl;
         ended = ended_still homes.ended traces s kept.ended (Took n (val.Task v)) (λ j. refl) refl;
         counts = counts_put words n LOCK (suc s) kept.counts (λ e. omega (arith, e));
         states = states_put words n LOCK (suc s) kept.states (λ e. absurd (omega (arith, e)));
-        standing = standing_beside words traces s kept.standing n LOCK (suc s) (Took n (val.Task v)) (λ e. omega (arith, e)) (λ e. omega (arith, e)) (λ e. omega (arith, e)) refl;
+        standing = standing_beside words traces s kept.standing n LOCK (suc s) (Took n (val.Task v))
+            (λ e. omega (arith, e)) (λ e. omega (arith, e)) (λ e. omega (arith, e)) refl;
         runs = runs_beside words traces s kept.runs n LOCK (suc s) (Took n (val.Task v))
             (λ e. omega (arith, e)) (λ e. omega (arith, e)) (λ e. omega (arith, e)) (λ e. omega (arith, e)) refl refl;
         off = take_task_off words traces s kept.off n v;
@@ -87,10 +91,14 @@ module _ (shape : Shape) (words : ℕ → ℕ → ℕ) (homes : Homes) (traces :
       let may = take_queue_may shape words homes traces s kept.holds seat n near free in
       record {
         holds = take_queue_keeps shape words homes traces s n v home kept.holds may;
-        moving = moving_beside shape words homes traces s kept.moving n QUEUE_LOCK (suc s) (Took n (val.Queue v)) (λ e. omega (arith, e)) (λ e. omega (arith, e)) (λ h. refl);
-        current = current_quiet words traces s kept.current n QUEUE_LOCK (suc s) (Took n (val.Queue v)) (λ e. omega (arith, e)) (λ j. refl) refl;
-        numbers = numbers_beside words traces s kept.numbers n QUEUE_LOCK (suc s) (Took n (val.Queue v)) (λ e. omega (arith, e)) (λ e. omega (arith, e)) (λ h. refl);
-        matched = matched_beside words traces s kept.matched n QUEUE_LOCK (suc s) (Took n (val.Queue v)) (λ e. omega (arith, e))
+        moving = moving_beside shape words homes traces s kept.moving n QUEUE_LOCK (suc s) (Took n (val.Queue v))
+            (λ e. omega (arith, e)) (λ e. omega (arith, e)) (λ h. refl);
+        current = current_quiet words traces s kept.current n QUEUE_LOCK (suc s) (Took n (val.Queue v))
+            (λ e. omega (arith, e)) (λ j. refl) refl;
+        numbers = numbers_beside words traces s kept.numbers n QUEUE_LOCK (suc s) (Took n (val.Queue v))
+            (λ e. omega (arith, e)) (λ e. omega (arith, e)) (λ h. refl);
+        matched = matched_beside words traces s kept.matched n QUEUE_LOCK (suc s) (Took n (val.Queue v))
+            (λ e. omega (arith, e))
             (grows_beside words traces s kept.matched n QUEUE_LOCK (suc s) (λ e. omega (arith, e))) refl;
         queued = take_queue_queued words traces s kept.queued n v;
         put_there = take_queue_put words traces s kept.put_there n v;
@@ -99,8 +107,10 @@ module _ (shape : Shape) (words : ℕ → ℕ → ℕ) (homes : Homes) (traces :
         states = states_put words n QUEUE_LOCK (suc s) kept.states (λ e. absurd (omega (arith, e)));
         standing = take_queue_standing words traces s kept.standing shape homes kept.holds n v home;
         runs = take_queue_runs words traces s kept.runs shape homes kept.holds n v home may;
-        off = off_beside words traces s kept.off n QUEUE_LOCK (suc s) (Took n (val.Queue v)) (λ e. omega (arith, e)) (λ e. omega (arith, e)) (λ t e. e) refl;
-        grown = grown_beside words traces s kept.grown n QUEUE_LOCK (suc s) (Took n (val.Queue v)) (λ e. omega (arith, e)) refl;
+        off = off_beside words traces s kept.off n QUEUE_LOCK (suc s) (Took n (val.Queue v)) (λ e. omega (arith, e))
+            (λ e. omega (arith, e)) (λ t e. e) refl;
+        grown = grown_beside words traces s kept.grown n QUEUE_LOCK (suc s) (Took n (val.Queue v))
+            (λ e. omega (arith, e)) refl;
         known = known_still traces s kept.known (Took n (val.Queue v)) refl refl;
       }
 
@@ -111,19 +121,23 @@ module _ (shape : Shape) (words : ℕ → ℕ → ℕ) (homes : Homes) (traces :
       record {
         holds = give_task_keeps shape words homes traces s n taken given kept.holds may;
         moving = give_task_moves shape words homes traces s kept.moving n taken given false false may;
-        current = current_quiet words traces s kept.current n LOCK 0 (Gave n (val.Task taken) (val.Task given)) (λ e. omega (arith, e)) (λ j. refl) refl;
+        current = current_quiet words traces s kept.current n LOCK 0 (Gave n (val.Task taken) (val.Task given))
+            (λ e. omega (arith, e)) (λ j. refl) refl;
         numbers = give_task_numbers words traces s kept.numbers n taken given;
         matched = give_task_matched words traces s kept.matched n taken given;
         queued = give_task_queued words traces s kept.queued n taken given;
-        put_there = put_beside words traces s kept.put_there n LOCK 0 (Gave n (val.Task taken) (val.Task given)) (λ e. omega (arith, e)) (λ e. omega (arith, e)) (λ e. omega (arith, e)) refl;
+        put_there = put_beside words traces s kept.put_there n LOCK 0 (Gave n (val.Task taken) (val.Task given))
+            (λ e. omega (arith, e)) (λ e. omega (arith, e)) (λ e. omega (arith, e)) refl;
         ended = ended_still homes.ended traces s kept.ended (Gave n (val.Task taken) (val.Task given)) (λ j. refl) refl;
         counts = counts_put words n LOCK 0 kept.counts (λ e. omega (arith, e));
         states = states_put words n LOCK 0 kept.states (λ e. absurd (omega (arith, e)));
-        standing = standing_beside words traces s kept.standing n LOCK 0 (Gave n (val.Task taken) (val.Task given)) (λ e. omega (arith, e)) (λ e. omega (arith, e)) (λ e. omega (arith, e)) refl;
+        standing = standing_beside words traces s kept.standing n LOCK 0 (Gave n (val.Task taken) (val.Task given))
+            (λ e. omega (arith, e)) (λ e. omega (arith, e)) (λ e. omega (arith, e)) refl;
         runs = runs_beside words traces s kept.runs n LOCK 0 (Gave n (val.Task taken) (val.Task given))
             (λ e. omega (arith, e)) (λ e. omega (arith, e)) (λ e. omega (arith, e)) (λ e. omega (arith, e)) refl refl;
         off = give_task_off words traces s kept.off n taken given;
-        grown = grown_beside words traces s kept.grown n LOCK 0 (Gave n (val.Task taken) (val.Task given)) (λ e. omega (arith, e)) refl;
+        grown = grown_beside words traces s kept.grown n LOCK 0 (Gave n (val.Task taken) (val.Task given))
+            (λ e. omega (arith, e)) refl;
         known = known_still traces s kept.known (Gave n (val.Task taken) (val.Task given)) refl refl;
       }
 
@@ -133,10 +147,13 @@ module _ (shape : Shape) (words : ℕ → ℕ → ℕ) (homes : Homes) (traces :
   give_queue_kept taken given may =
       record {
         holds = give_queue_keeps shape words homes traces s n taken given kept.holds may;
-        moving = moving_beside shape words homes traces s kept.moving n QUEUE_LOCK 0 (Gave n (val.Queue taken) (val.Queue given)) (λ e. omega (arith, e)) (λ e. omega (arith, e)) (λ h. refl);
+        moving = moving_beside shape words homes traces s kept.moving n QUEUE_LOCK 0
+            (Gave n (val.Queue taken) (val.Queue given)) (λ e. omega (arith, e)) (λ e. omega (arith, e)) (λ h. refl);
         current = give_queue_current words traces s kept.current n QUEUE_LOCK 0 taken given (λ e. omega (arith, e));
-        numbers = numbers_beside words traces s kept.numbers n QUEUE_LOCK 0 (Gave n (val.Queue taken) (val.Queue given)) (λ e. omega (arith, e)) (λ e. omega (arith, e)) (λ h. refl);
-        matched = matched_beside words traces s kept.matched n QUEUE_LOCK 0 (Gave n (val.Queue taken) (val.Queue given)) (λ e. omega (arith, e))
+        numbers = numbers_beside words traces s kept.numbers n QUEUE_LOCK 0
+            (Gave n (val.Queue taken) (val.Queue given)) (λ e. omega (arith, e)) (λ e. omega (arith, e)) (λ h. refl);
+        matched = matched_beside words traces s kept.matched n QUEUE_LOCK 0
+            (Gave n (val.Queue taken) (val.Queue given)) (λ e. omega (arith, e))
             (grows_beside words traces s kept.matched n QUEUE_LOCK 0 (λ e. omega (arith, e))) refl;
         queued = give_queue_queued words traces s kept.queued n taken given;
         put_there = give_queue_put words traces s kept.put_there n taken given;
@@ -145,26 +162,39 @@ module _ (shape : Shape) (words : ℕ → ℕ → ℕ) (homes : Homes) (traces :
         states = states_put words n QUEUE_LOCK 0 kept.states (λ e. absurd (omega (arith, e)));
         standing = give_queue_standing words traces s kept.standing n taken given;
         runs = give_queue_runs words traces s kept.runs n taken given;
-        off = off_beside words traces s kept.off n QUEUE_LOCK 0 (Gave n (val.Queue taken) (val.Queue given)) (λ e. omega (arith, e)) (λ e. omega (arith, e)) (λ t e. e) refl;
-        grown = grown_beside words traces s kept.grown n QUEUE_LOCK 0 (Gave n (val.Queue taken) (val.Queue given)) (λ e. omega (arith, e)) refl;
+        off = off_beside words traces s kept.off n QUEUE_LOCK 0 (Gave n (val.Queue taken) (val.Queue given))
+            (λ e. omega (arith, e)) (λ e. omega (arith, e)) (λ t e. e) refl;
+        grown = grown_beside words traces s kept.grown n QUEUE_LOCK 0 (Gave n (val.Queue taken) (val.Queue given))
+            (λ e. omega (arith, e)) refl;
         known = known_still traces s kept.known (Gave n (val.Queue taken) (val.Queue given)) refl refl;
       }
 
   -- the locks of works and of wait queues tell nothing of what stands beside the invariant
   quiet_lock : (c x : ℕ) (homes' : Homes) (r : Rec) → homes'.ended ≡ homes.ended → IsBeside c → STATE ≢ c
-      → IsQuiet r (traces s) → IsSteady r (traces s) → IsOutside r (traces s) → may_run s (r ∷ traces s) ≡ may_run s (traces s)
+      → IsQuiet r (traces s) → IsSteady r (traces s) → IsOutside r (traces s)
+      → may_run s (r ∷ traces s) ≡ may_run s (traces s)
       → Holds (core_after shape (put_at words n c x) homes' traces s r)
       → Kept shape (put_at words n c x) homes' (put traces s (r ∷ traces s))
   quiet_lock c x homes' r same at state quiet steady outside runs holds =
-      quiet_beside shape words homes homes' traces s kept same n c x r at (λ e. absurd (state (sym e))) quiet steady outside holds
+      quiet_beside shape words homes homes' traces s kept same n c x r at
+      (λ e. absurd (state (sym e))) quiet steady outside holds
       (runs_beside words traces s kept.runs n c x r at.queue at.cpu at.rq state runs (steady.current s))
 
   take_works_kept : (v : List WorkItem) → homes.works n ≡ Some v → n < shape.cpus → words n WORKS_LOCK ≡ 0
       → Kept shape (put_at words n WORKS_LOCK (suc s)) (record homes { works = put homes.works n None })
       (put traces s (Took n (val.Works v) ∷ traces s))
   take_works_kept v home near free =
-      quiet_lock WORKS_LOCK (suc s) (record homes { works = put homes.works n None }) (Took n (val.Works v)) refl works_beside (λ e. omega (arith, e))
-      (record { moving = λ h. refl; numbers = λ h. refl; matched = refl; queued = λ c t e. e; put_there = refl; standing = refl; off = λ t e. e })
+      quiet_lock WORKS_LOCK (suc s) (record homes { works = put homes.works n None })
+      (Took n (val.Works v)) refl works_beside (λ e. omega (arith, e))
+      (record {
+        moving = λ h. refl;
+        numbers = λ h. refl;
+        matched = refl;
+        queued = λ c t e. e;
+        put_there = refl;
+        standing = refl;
+        off = λ t e. e;
+      })
       (record { current = λ j. refl; stays = refl }) (record { ended = refl; body = refl }) refl
       (take_works_keeps shape words homes traces s n v home kept.holds
       (take_works_may shape words homes traces s kept.holds seat n near free))
@@ -173,8 +203,17 @@ module _ (shape : Shape) (words : ℕ → ℕ → ℕ) (homes : Homes) (traces :
       → Kept shape (put_at words n WAIT_LOCK (suc s)) (record homes { wait = put homes.wait n None })
       (put traces s (Took n (val.Wait v) ∷ traces s))
   take_wait_kept v home near free =
-      quiet_lock WAIT_LOCK (suc s) (record homes { wait = put homes.wait n None }) (Took n (val.Wait v)) refl wait_beside (λ e. omega (arith, e))
-      (record { moving = λ h. refl; numbers = λ h. refl; matched = refl; queued = λ c t e. e; put_there = refl; standing = refl; off = λ t e. e })
+      quiet_lock WAIT_LOCK (suc s) (record homes { wait = put homes.wait n None })
+      (Took n (val.Wait v)) refl wait_beside (λ e. omega (arith, e))
+      (record {
+        moving = λ h. refl;
+        numbers = λ h. refl;
+        matched = refl;
+        queued = λ c t e. e;
+        put_there = refl;
+        standing = refl;
+        off = λ t e. e;
+      })
       (record { current = λ j. refl; stays = refl }) (record { ended = refl; body = refl }) refl
       (take_wait_keeps shape words homes traces s n v home kept.holds
       (take_wait_may shape words homes traces s kept.holds seat n near free))
@@ -183,8 +222,17 @@ module _ (shape : Shape) (words : ℕ → ℕ → ℕ) (homes : Homes) (traces :
       → Kept shape (put_at words n WORKS_LOCK 0) (record homes { works = put homes.works n (Some given) })
       (put traces s (Gave n (val.Works taken) (val.Works given) ∷ traces s))
   give_works_kept taken given may =
-      quiet_lock WORKS_LOCK 0 (record homes { works = put homes.works n (Some given) }) (Gave n (val.Works taken) (val.Works given)) refl works_beside (λ e. omega (arith, e))
-      (record { moving = λ h. refl; numbers = λ h. refl; matched = refl; queued = λ c t e. e; put_there = refl; standing = refl; off = λ t e. e })
+      quiet_lock WORKS_LOCK 0 (record homes { works = put homes.works n (Some given) })
+      (Gave n (val.Works taken) (val.Works given)) refl works_beside (λ e. omega (arith, e))
+      (record {
+        moving = λ h. refl;
+        numbers = λ h. refl;
+        matched = refl;
+        queued = λ c t e. e;
+        put_there = refl;
+        standing = refl;
+        off = λ t e. e;
+      })
       (record { current = λ j. refl; stays = refl }) (record { ended = refl; body = refl }) refl
       (give_works_keeps shape words homes traces s n taken given kept.holds may)
 
@@ -193,8 +241,17 @@ module _ (shape : Shape) (words : ℕ → ℕ → ℕ) (homes : Homes) (traces :
       → Kept shape (put_at words n WAIT_LOCK 0) (record homes { wait = put homes.wait n (Some given) })
       (put traces s (Gave n (val.Wait taken) (val.Wait given) ∷ traces s))
   give_wait_kept taken given out may =
-      quiet_lock WAIT_LOCK 0 (record homes { wait = put homes.wait n (Some given) }) (Gave n (val.Wait taken) (val.Wait given)) refl wait_beside (λ e. omega (arith, e))
-      (record { moving = λ h. refl; numbers = λ h. refl; matched = refl; queued = λ c t e. e; put_there = refl; standing = refl; off = λ t e. e })
+      quiet_lock WAIT_LOCK 0 (record homes { wait = put homes.wait n (Some given) })
+      (Gave n (val.Wait taken) (val.Wait given)) refl wait_beside (λ e. omega (arith, e))
+      (record {
+        moving = λ h. refl;
+        numbers = λ h. refl;
+        matched = refl;
+        queued = λ c t e. e;
+        put_there = refl;
+        standing = refl;
+        off = λ t e. e;
+      })
       (record { current = λ j. refl; stays = refl }) (record { ended = refl; body = refl }) refl
       (give_wait_keeps shape words homes traces s n taken given out kept.holds may)
 
@@ -221,46 +278,58 @@ some_there : {A : Type 0} (f : A → Val) (o : Option A) (v : Val) → some_of f
 some_there f o v e = let w = of_sort f o v e in subst (λ (z : Option _). IsSome z) (sym w.1) refl
 
 -- the lock of a value that a seat has out has that seat in its word
-pub held_locked : (sort : Sort) (shape : Shape) (words : ℕ → ℕ → ℕ) (homes : Homes) (traces : ℕ → List Rec) (s n : ℕ) (v : Val)
+pub held_locked : (sort : Sort) (shape : Shape) (words : ℕ → ℕ → ℕ) (homes : Homes) (traces : ℕ
+    → List Rec) (s n : ℕ) (v : Val)
     → Kept shape words homes traces → held_of sort (traces s) n ≡ Some v → words n (lock_of sort) ≡ suc s
 held_locked OfTask shape words homes traces s n v kept held =
-    seat_word (words n LOCK) s (kept.holds.locks.tasks.out_held s n (some_there val.Task (task_held (traces s) n) v held))
+    seat_word (words n LOCK) s (kept.holds.locks.tasks.out_held s n
+    (some_there val.Task (task_held (traces s) n) v held))
 held_locked OfQueue shape words homes traces s n v kept held =
-    seat_word (words n QUEUE_LOCK) s (kept.holds.locks.queues.out_held s n (some_there val.Queue (queue_held (traces s) n) v held))
+    seat_word (words n QUEUE_LOCK) s (kept.holds.locks.queues.out_held s n
+    (some_there val.Queue (queue_held (traces s) n) v held))
 held_locked OfWorks shape words homes traces s n v kept held =
-    seat_word (words n WORKS_LOCK) s (kept.holds.locks.works.out_held s n (some_there val.Works (works_held (traces s) n) v held))
+    seat_word (words n WORKS_LOCK) s (kept.holds.locks.works.out_held s n
+    (some_there val.Works (works_held (traces s) n) v held))
 held_locked OfWait shape words homes traces s n v kept held =
-    seat_word (words n WAIT_LOCK) s (kept.holds.locks.waits.out_held s n (some_there val.Wait (wait_held (traces s) n) v held))
+    seat_word (words n WAIT_LOCK) s (kept.holds.locks.waits.out_held s n
+    (some_there val.Wait (wait_held (traces s) n) v held))
 
-pub take_law : (sort : Sort) (shape : Shape) (words : ℕ → ℕ → ℕ) (homes : Homes) (traces : ℕ → List Rec) (s n : ℕ) (v : Val)
+pub take_law : (sort : Sort) (shape : Shape) (words : ℕ → ℕ → ℕ) (homes : Homes) (traces : ℕ
+    → List Rec) (s n : ℕ) (v : Val)
     → Kept shape words homes traces → s < shape.cpus + shape.agents → n < count_of sort shape
     → words n (lock_of sort) ≡ 0 → home_of sort homes n ≡ Some v
     → Kept shape (put_at words n (lock_of sort) (suc s)) (without sort n homes) (put traces s (Took n v ∷ traces s))
 take_law OfTask shape words homes traces s n v kept seat near free home =
     let w = of_sort val.Task (homes.task n) v home in
     subst
-    (λ (z : Val). Kept shape (put_at words n LOCK (suc s)) (without OfTask n homes) (put traces s (Took n z ∷ traces s)))
+    (λ (z : Val). Kept shape (put_at words n LOCK (suc s)) (without OfTask n homes)
+    (put traces s (Took n z ∷ traces s)))
     w.2 (take_task_kept shape words homes traces s n kept seat w.0 w.1 near free)
 take_law OfQueue shape words homes traces s n v kept seat near free home =
     let w = of_sort val.Queue (homes.queue n) v home in
     subst
-    (λ (z : Val). Kept shape (put_at words n QUEUE_LOCK (suc s)) (without OfQueue n homes) (put traces s (Took n z ∷ traces s)))
+    (λ (z : Val). Kept shape (put_at words n QUEUE_LOCK (suc s)) (without OfQueue n homes)
+    (put traces s (Took n z ∷ traces s)))
     w.2 (take_queue_kept shape words homes traces s n kept seat w.0 w.1 near free)
 take_law OfWorks shape words homes traces s n v kept seat near free home =
     let w = of_sort val.Works (homes.works n) v home in
     subst
-    (λ (z : Val). Kept shape (put_at words n WORKS_LOCK (suc s)) (without OfWorks n homes) (put traces s (Took n z ∷ traces s)))
+    (λ (z : Val). Kept shape (put_at words n WORKS_LOCK (suc s)) (without OfWorks n homes)
+    (put traces s (Took n z ∷ traces s)))
     w.2 (take_works_kept shape words homes traces s n kept seat w.0 w.1 near free)
 take_law OfWait shape words homes traces s n v kept seat near free home =
     let w = of_sort val.Wait (homes.wait n) v home in
     subst
-    (λ (z : Val). Kept shape (put_at words n WAIT_LOCK (suc s)) (without OfWait n homes) (put traces s (Took n z ∷ traces s)))
+    (λ (z : Val). Kept shape (put_at words n WAIT_LOCK (suc s)) (without OfWait n homes)
+    (put traces s (Took n z ∷ traces s)))
     w.2 (take_wait_kept shape words homes traces s n kept seat w.0 w.1 near free)
 
-pub give_law : (sort : Sort) (shape : Shape) (words : ℕ → ℕ → ℕ) (homes : Homes) (traces : ℕ → List Rec) (s n : ℕ) (taken given : Val)
+pub give_law : (sort : Sort) (shape : Shape) (words : ℕ → ℕ → ℕ) (homes : Homes) (traces : ℕ
+    → List Rec) (s n : ℕ) (taken given : Val)
     → Kept shape words homes traces → s < shape.cpus + shape.agents → n < count_of sort shape
     → held_of sort (traces s) n ≡ Some taken → MayGive s (traces s) shape sort n given
-    → Kept shape (put_at words n (lock_of sort) 0) (with_home n given homes) (put traces s (Gave n taken given ∷ traces s))
+    → Kept shape (put_at words n (lock_of sort) 0) (with_home n given homes)
+    (put traces s (Gave n taken given ∷ traces s))
 give_law OfTask shape words homes traces s n taken (val.Task v) kept seat near held may =
     subst
     (λ (z : Val). Kept shape (put_at words n LOCK 0) (with_home n (val.Task v) homes)

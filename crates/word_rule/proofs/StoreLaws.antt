@@ -1,5 +1,5 @@
--- Stores of a task's state, busy word and processor, and the raise of a condition, keep the rule. Beside it stands what is
--- known of the word found.
+-- Stores of a task's state, busy word and processor, and the raise of a condition, keep the rule. Beside it stands what
+-- is known of the word found.
 use Rattle.std.proofs.Common.{◌≡◌, ◌≢◌, ℕ, ◌<◌, ◌+◌, refl, sym, ap, subst, inl, inr, List, ◌∷◌, lit<, arith}
 use Rattle.std.specs.Prelude.{◌/◌, ◌%◌, ◌^◌, ◌⊎◌, true, Some, IsSome}
 use Rattle.std.proofs.lemmas.Bool.Decides.{nat_tests}
@@ -49,9 +49,18 @@ module _ (shape : Shape) (words : ℕ → ℕ → ℕ) (homes : Homes) (traces :
       → Kept shape (put_at words n COND y) homes (put traces s (Bumped n (words n COND) ∷ traces s)) × Unit {0}
   bump_law condition after = (
     subst (λ (z : ℕ). Kept shape (put_at words n COND z) homes (put traces s (bump_note ∷ traces s))) (sym after)
-        (quiet_beside shape words homes homes traces s kept refl n COND ((words n COND + 1) % 2 ^ 64) bump_note cond_beside
+        (quiet_beside shape words homes homes traces s kept refl n COND
+        ((words n COND + 1) % 2 ^ 64) bump_note cond_beside
         (λ e. absurd (omega (arith, e)))
-        (record { moving = λ h. refl; numbers = λ h. refl; matched = refl; queued = λ c t e. e; put_there = refl; standing = refl; off = λ t e. e })
+        (record {
+          moving = λ h. refl;
+          numbers = λ h. refl;
+          matched = refl;
+          queued = λ c t e. e;
+          put_there = refl;
+          standing = refl;
+          off = λ t e. e;
+        })
         (record { current = λ j. refl; stays = refl }) (record { ended = refl; body = refl })
         (bump_keeps shape words homes traces s n kept.holds (record { seat = seat; condition = condition }))
         (runs_beside words traces s kept.runs n COND ((words n COND + 1) % 2 ^ 64) bump_note
@@ -74,8 +83,17 @@ module _ (shape : Shape) (words : ℕ → ℕ → ℕ) (homes : Homes) (traces :
       kept_after q core =
           beside_kept shape words homes homes traces s kept n BUSY y (SetBusy n s (words n BUSY / 2)) busy_beside
           (λ e. absurd (omega (arith, e)))
-          (record { moving = λ h. refl; numbers = λ h. refl; matched = refl; queued = λ c t e. e; put_there = refl; standing = refl; off = renewed words traces s kept.off n })
-          (set_busy_keeps shape words homes traces s s n y q (omega (arith, may.after)) (omega (arith, may.after)) kept.holds core)
+          (record {
+            moving = λ h. refl;
+            numbers = λ h. refl;
+            matched = refl;
+            queued = λ c t e. e;
+            put_there = refl;
+            standing = refl;
+            off = renewed words traces s kept.off n;
+          })
+          (set_busy_keeps shape words homes traces s s n y q (omega (arith, may.after))
+          (omega (arith, may.after)) kept.holds core)
           (set_busy_current words traces s kept.current shape homes kept.holds s n (words n BUSY / 2) y q core)
           (set_busy_ended homes.ended traces s kept.ended n s (words n BUSY / 2))
           (set_busy_runs words traces s kept.runs shape homes s n (words n BUSY / 2) y q core)
@@ -98,8 +116,17 @@ module _ (shape : Shape) (words : ℕ → ℕ → ℕ) (homes : Homes) (traces :
       kept_after : Kept shape (put_at words n BUSY y) homes (put traces s (ClearedBusy n (words n BUSY / 2) ∷ traces s))
       kept_after =
           let next = busy_next (words n BUSY) y odd core.room may.after in
-          quiet_beside shape words homes homes traces s kept refl n BUSY y clear_note busy_beside (λ e. absurd (omega (arith, e)))
-          (record { moving = λ h. refl; numbers = λ h. refl; matched = refl; queued = λ c t e. e; put_there = refl; standing = refl; off = renewed words traces s kept.off n })
+          quiet_beside shape words homes homes traces s kept refl n BUSY y clear_note busy_beside
+          (λ e. absurd (omega (arith, e)))
+          (record {
+            moving = λ h. refl;
+            numbers = λ h. refl;
+            matched = refl;
+            queued = λ c t e. e;
+            put_there = refl;
+            standing = refl;
+            off = renewed words traces s kept.off n;
+          })
           (record { current = λ j. refl; stays = refl }) (record { ended = refl; body = refl })
           (clear_busy_keeps shape words homes traces s n y next.0 next.1 kept.holds core)
           (runs_beside words traces s kept.runs n BUSY y clear_note busy_beside.queue busy_beside.cpu busy_beside.rq
@@ -113,14 +140,23 @@ module _ (shape : Shape) (words : ℕ → ℕ → ℕ) (homes : Homes) (traces :
       → RunsHold (put_at words n STATE x) (put traces s (r ∷ traces s))
       → Kept shape (put_at words n STATE x) homes (put traces s (r ∷ traces s))
   quiet_state x r small quiet steady outside holds runs =
-      quiet_beside shape words homes homes traces s kept refl n STATE x r state_beside (λ e. small) quiet steady outside holds runs
+      quiet_beside shape words homes homes traces s kept refl n STATE x r state_beside
+      (λ e. small) quiet steady outside holds runs
 
   pub own_state_law : n < shape.tasks → MayOwnWord s (traces s) n (words n STATE) y
       → Kept shape (put_at words n STATE y) homes (put traces s (StoredOwn n (record { 0 = y }) ∷ traces s)) × Unit {0}
   own_state_law task may =
       let core = own_state_possible shape words homes traces s kept seat n y task may in (
         quiet_state y (StoredOwn n (record { 0 = y })) (narrow may.allowed)
-            (record { moving = λ h. refl; numbers = λ h. refl; matched = refl; queued = λ c t e. e; put_there = refl; standing = refl; off = renewed words traces s kept.off n })
+            (record {
+              moving = λ h. refl;
+              numbers = λ h. refl;
+              matched = refl;
+              queued = λ c t e. e;
+              put_there = refl;
+              standing = refl;
+              off = renewed words traces s kept.off n;
+            })
             (record { current = λ j. refl; stays = refl }) (record { ended = refl; body = refl })
             (own_state_keeps shape words homes traces s n (record { 0 = y }) kept.holds core)
             (own_state_runs words traces s kept.runs shape homes n (record { 0 = y }) core),
@@ -135,11 +171,13 @@ module _ (shape : Shape) (words : ℕ → ℕ → ℕ) (homes : Homes) (traces :
       narrow (inr (inr dies)) = let same = ap (λ (x : State). x.0) dies.0 in omega (arith, same)
 
   pub claim_law : n < shape.tasks → MayClaimWord s (traces s) n (words n STATE) y
-      → Kept shape (put_at words n STATE y) homes (put traces s (Claimed n (number_of (traces s) n) ∷ traces s)) × Unit {0}
+      → Kept shape (put_at words n STATE y) homes
+      (put traces s (Claimed n (number_of (traces s) n) ∷ traces s)) × Unit {0}
   claim_law task may = (
     subst (λ (m : ℕ). Kept shape (put_at words n STATE y) homes (put traces s (Claimed n m ∷ traces s)))
         (claim_number shape words homes traces s kept seat n y may)
-        (subst (λ (z : ℕ). Kept shape (put_at words n STATE z) homes (put traces s (Claimed n (words n RQ / 4) ∷ traces s)))
+        (subst (λ (z : ℕ). Kept shape (put_at words n STATE z) homes
+        (put traces s (Claimed n (words n RQ / 4) ∷ traces s)))
         (sym may.after) kept_after),
     tt,
   )
@@ -148,7 +186,15 @@ module _ (shape : Shape) (words : ℕ → ℕ → ℕ) (homes : Homes) (traces :
       kept_after =
           let core = claim_possible shape words homes traces s kept seat n y task may in
           quiet_state 0x200 (Claimed n (words n RQ / 4)) (lit< tt)
-          (record { moving = λ h. refl; numbers = λ h. refl; matched = refl; queued = λ c t e. e; put_there = refl; standing = refl; off = renewed words traces s kept.off n })
+          (record {
+            moving = λ h. refl;
+            numbers = λ h. refl;
+            matched = refl;
+            queued = λ c t e. e;
+            put_there = refl;
+            standing = refl;
+            off = renewed words traces s kept.off n;
+          })
           (record { current = λ j. refl; stays = refl }) (record { ended = refl; body = refl })
           (claim_keeps shape words homes traces s n kept.holds core)
           (claim_runs words traces s kept.runs shape homes kept.holds n (words n RQ / 4) core)
@@ -157,9 +203,18 @@ module _ (shape : Shape) (words : ℕ → ℕ → ℕ) (homes : Homes) (traces :
       → Kept shape (put_at words n STATE y) homes (put traces s (Released n ∷ traces s)) × Unit {0}
   release_law task may =
       let core = release_possible shape words homes traces s kept seat n y task may in (
-        subst (λ (z : ℕ). Kept shape (put_at words n STATE z) homes (put traces s (Released n ∷ traces s))) (sym may.after)
+        subst (λ (z : ℕ). Kept shape (put_at words n STATE z) homes (put traces s (Released n ∷ traces s)))
+            (sym may.after)
             (quiet_state 0 (Released n) (lit< tt)
-            (record { moving = λ h. refl; numbers = λ h. refl; matched = refl; queued = λ c t e. e; put_there = refl; standing = refl; off = renewed words traces s kept.off n })
+            (record {
+              moving = λ h. refl;
+              numbers = λ h. refl;
+              matched = refl;
+              queued = λ c t e. e;
+              put_there = refl;
+              standing = refl;
+              off = renewed words traces s kept.off n;
+            })
             (record { current = λ j. refl; stays = refl }) (record { ended = refl; body = refl })
             (release_keeps shape words homes traces s n kept.holds core)
             (release_runs words traces s kept.runs shape homes kept.holds n kept.put_there)),
