@@ -95,7 +95,8 @@ module _ (shape : Shape) (words : ℕ → ℕ → ℕ) (homes : Homes) (traces :
         | inr unput ↦ elim (is_or_not (current_task c (traces c)) t) [
           | inl runs ↦ inr (c, runs)
           | inr other ↦ inl (unadded t
-              (next_stands given.cur t (times_in given.waiting t) (words t RQ % 4) (words t CPU) c is (fits t)) unput other)
+              (next_stands given.cur t (times_in given.waiting t) (words t RQ % 4) (words t CPU) c is (fits t))
+              unput other)
         ]
       ]
 

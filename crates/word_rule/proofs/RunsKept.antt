@@ -106,7 +106,7 @@ module _ (words : ℕ → ℕ → ℕ) (traces : ℕ → List Rec) (s : ℕ) (ho
         ∙ e)
   ]
 
-  -- nobody but j has t as current after the step, where so it was, and the seat that makes the step didn't pick t or is j
+  -- nobody but j has t as current after the step, where so it was, and the seat of the step didn't pick t or is j
   runner_after : (r : Rec) (j t : ℕ) → ((k : ℕ) → current_task k (traces k) ≡ Some t → k ≡ j)
       → (current_task s (r ∷ traces s) ≡ Some t → s ≡ j)
       → (k : ℕ) → current_task k (put traces s (r ∷ traces s) k) ≡ Some t → k ≡ j
