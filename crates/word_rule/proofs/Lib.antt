@@ -5,12 +5,14 @@ pub mod GrownKept
 pub mod LoadLaws
 pub mod LockLaws
 pub mod OffKept
+pub mod Pigeons
 pub mod Possible
 pub mod PossibleGives
 pub mod QueueLaws
 pub mod Quiet
 pub mod RunsKept
 pub mod StandingKept
+pub mod Stands
 pub mod StoreLaws
 pub mod Taken
 pub mod Uses

@@ -18,7 +18,7 @@ use Rattle.word_steps.proofs.NumbersKept.{release_new_may, store_cpu_new_may}
 use Rattle.word_steps.proofs.PutKept.{release_put_may}
 use Rattle.word_steps.proofs.QueuedKept.{release_queued_may}
 use Rattle.word_steps.specs.Decode.{Homes, core_of}
-use Rattle.word_steps.specs.Folds.{task_held, queue_held, current_task, task_to_clear, seen_state, is_claimed, saw_clear, is_moving, last_reads}
+use Rattle.word_steps.specs.Folds.{task_held, queue_held, current_task, task_to_clear, seen_state, is_claimed, saw_clear, is_moving, number_read, last_reads}
 use Rattle.word_steps.specs.Records.{Rec}
 use Rattle.word_steps.specs.Words.{LOCK, STATE, RQ, BUSY, CPU, QUEUE_LOCK, holder, is_set}
 
@@ -73,19 +73,23 @@ module _ (shape : Shape) (words : ℕ → ℕ → ℕ) (homes : Homes) (traces :
       here : words t CPU ≡ may.cpu
       here = here_read t may.cpu may.locked may.read
 
-      ready : (words t RQ / 4 ≡ 0)
+      -- a task that was read as new under its lock is new
+      is_new : number_read (traces s) t ≡ Some 0 → words t RQ / 4 ≡ 0
+      is_new read = kept.numbers s t (task_locked t may.locked) read
+
+      ready : (number_read (traces s) t ≡ Some 0)
           ⊎ (((is_claimed (traces s) t ≡ true) × (saw_clear (traces s) t ≡ true)) ⊎ (is_moving (traces s) t ≡ true))
           → IsReady (core_of shape words homes traces) s t
-      ready (inl new) = inl new
+      ready (inl new) = inl (is_new new)
       ready (inr (inl (claimed, clear))) =
           let claims = kept.holds.positions.claimed in
           inr (inl (claims.off s t claimed, claims.awaits s t claimed, clear))
       ready (inr (inr moves)) = inr (inr (kept.moving.known s t moves).1)
 
-      off : (words t RQ / 4 ≡ 0)
+      off : (number_read (traces s) t ≡ Some 0)
           ⊎ (((is_claimed (traces s) t ≡ true) × (saw_clear (traces s) t ≡ true)) ⊎ (is_moving (traces s) t ≡ true))
           → words t RQ % 4 ≢ 1
-      off (inl new) on = absurd (grind (arith, kept.holds.places.new.off t new, on))
+      off (inl new) on = absurd (grind (arith, kept.holds.places.new.off t (is_new new), on))
       off (inr (inl (claimed, clear))) on = absurd (grind (arith, kept.holds.positions.claimed.off s t claimed, on))
       off (inr (inr moves)) on = absurd (grind (arith, (kept.moving.known s t moves).1, on))
 

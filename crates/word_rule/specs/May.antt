@@ -44,7 +44,7 @@ module _ (s : ℕ) (trace : List Rec) where
     pub cpu : ℕ
     pub read : (last_reads trace t).cpu ≡ Some cpu
     pub queue : IsSome (queue_held trace cpu)
-    pub ready : (x / 4 ≡ 0) ⊎ (((is_claimed trace t ≡ true) × (saw_clear trace t ≡ true)) ⊎ (is_moving trace t ≡ true))
+    pub ready : (number_read trace t ≡ Some 0) ⊎ (((is_claimed trace t ≡ true) × (saw_clear trace t ≡ true)) ⊎ (is_moving trace t ≡ true))
 
   -- `on_rq` to 0
   pub record MayDequeueWord (t x y : ℕ) : Type 0 where

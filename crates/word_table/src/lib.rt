@@ -1,0 +1,20 @@
+//! The shared table: its words, slots and seats under the rule of `word_rule`, and single steps of any kind on it. The
+//! kinds of step stand in the crate above, each with its law.
+#![tactic(auto)]
+
+mod kind;
+mod lock;
+mod plays;
+mod rule;
+mod slot;
+mod steps;
+mod token;
+mod view;
+mod words;
+
+pub use kind::Kind;
+pub use lock::{Lock, QueueLock, TaskLock, WaitLock, WorksLock};
+pub use slot::Kept;
+pub use steps::{exchange, fetch_add, load, peek, store};
+pub use token::Token;
+pub use words::Words;
