@@ -16,22 +16,30 @@ same_task : (t u : ℕ) → ◌≡◌ {A = Option ℕ} (Some t) (Some u) → t �
 same_task t u e = grind (arith, e)
 
 module _ (traces : ℕ → List Rec) (s : ℕ) (holds : BodiesKnown traces) where
-  known_step : (r : Rec) → ((t : ℕ) → body_held (r ∷ traces s) ≡ Some t → IsSome (ended_known (r ∷ traces s) t)) → BodiesKnown (put traces s (r ∷ traces s))
+  known_step : (r : Rec) → ((t : ℕ) → body_held (r ∷ traces s) ≡ Some t → IsSome (ended_known (r ∷ traces s) t))
+      → BodiesKnown (put traces s (r ∷ traces s))
   known_step r mine j t e = elim (cases_eq j s) [
-    | inl q ↦ subst (λ (f : ℕ → Option Bool). IsSome (f t)) (sym (fold_here ended_known traces s r j q)) (mine t (sym (fold_here body_held traces s r j q) ∙ e))
-    | inr ne ↦ subst (λ (f : ℕ → Option Bool). IsSome (f t)) (sym (fold_else ended_known traces s r j ne)) (holds j t (sym (fold_else body_held traces s r j ne) ∙ e))
+    | inl q ↦ subst (λ (f : ℕ → Option Bool). IsSome (f t)) (sym (fold_here ended_known traces s r j q))
+        (mine t (sym (fold_here body_held traces s r j q) ∙ e))
+    | inr ne ↦ subst (λ (f : ℕ → Option Bool). IsSome (f t)) (sym (fold_else ended_known traces s r j ne))
+        (holds j t (sym (fold_else body_held traces s r j ne) ∙ e))
   ]
 
   -- a step that takes no body out or home, and makes no task current
-  pub known_still : (r : Rec) → body_held (r ∷ traces s) ≡ body_held (traces s) → ended_known (r ∷ traces s) ≡ ended_known (traces s) → BodiesKnown (put traces s (r ∷ traces s))
-  known_still r same ended = known_step r (λ t e. subst (λ (f : ℕ → Option Bool). IsSome (f t)) (sym ended) (holds s t (sym same ∙ e)))
+  pub known_still : (r : Rec) → body_held (r ∷ traces s) ≡ body_held (traces s)
+      → ended_known (r ∷ traces s) ≡ ended_known (traces s) → BodiesKnown (put traces s (r ∷ traces s))
+  known_still r same ended =
+      known_step r (λ t e. subst (λ (f : ℕ → Option Bool). IsSome (f t)) (sym ended) (holds s t (sym same ∙ e)))
 
   -- a seat that makes a task current has no body out
-  pub set_busy_known : (t c n : ℕ) → ((u : ℕ) → body_held (traces s) ≡ Some u → ⊥) → BodiesKnown (put traces s (SetBusy t c n ∷ traces s))
+  pub set_busy_known : (t c n : ℕ) → ((u : ℕ) → body_held (traces s) ≡ Some u → ⊥)
+      → BodiesKnown (put traces s (SetBusy t c n ∷ traces s))
   set_busy_known t c n none = known_step (SetBusy t c n) (λ u e. absurd (none u e))
 
   pub body_out_known : (t : ℕ) (now : Bool) → BodiesKnown (put traces s (OutBody t now ∷ traces s))
-  body_out_known t now = known_step (OutBody t now) (λ u e. subst (λ (o : Option Bool). IsSome o) (sym (put_there (ended_known (traces s)) t (Some now) u (sym (same_task t u e)))) refl)
+  body_out_known t now =
+      known_step (OutBody t now) (λ u e. subst (λ (o : Option Bool). IsSome o)
+      (sym (put_there (ended_known (traces s)) t (Some now) u (sym (same_task t u e)))) refl)
 
   pub body_home_known : (t : ℕ) (now : Bool) → BodiesKnown (put traces s (HomeBody t now ∷ traces s))
   body_home_known t now = known_step (HomeBody t now) (λ u e. absurd (grind (arith, e)))

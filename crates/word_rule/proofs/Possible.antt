@@ -43,7 +43,8 @@ next_queue taken t = record { waiting = taken.waiting; cur = Some t; left = take
 below_even : (n : ℕ) → n % 2 ≡ 1 → n ≤ 2 ^ 60 → n < 2 ^ 60
 below_even n odd most = omega (arith, odd, most)
 
-module _ (shape : Shape) (words : ℕ → ℕ → ℕ) (homes : Homes) (traces : ℕ → List Rec) (s : ℕ) (kept : Kept shape words homes traces) (seat : s < shape.cpus + shape.agents) where
+module _ (shape : Shape) (words : ℕ → ℕ → ℕ) (homes : Homes) (traces : ℕ → List Rec) (s : ℕ)
+    (kept : Kept shape words homes traces) (seat : s < shape.cpus + shape.agents) where
   task_locked : (t : ℕ) → IsSome (task_held (traces s) t) → holder (words t LOCK) ≡ Some s
   task_locked t out = kept.holds.locks.tasks.out_held s t out
 
@@ -54,7 +55,8 @@ module _ (shape : Shape) (words : ℕ → ℕ → ℕ) (homes : Homes) (traces :
   processor_of : (t c : ℕ) → t < shape.tasks → words t CPU ≡ c → c < shape.cpus
   processor_of t c task here = subst (λ (z : ℕ). z < shape.cpus) here (kept.holds.shapes.cpu t task)
 
-  pub queue_possible : (t y : ℕ) → t < shape.tasks → (may : MayQueueWord s (traces s) t (words t RQ) y) → MayQueue (core_of shape words homes traces) s may.cpu t
+  pub queue_possible : (t y : ℕ) → t < shape.tasks → (may : MayQueueWord s (traces s) t (words t RQ) y)
+      → MayQueue (core_of shape words homes traces) s may.cpu t
   queue_possible t y task may =
       record {
         seat = seat;
@@ -63,8 +65,8 @@ module _ (shape : Shape) (words : ℕ → ℕ → ℕ) (homes : Homes) (traces :
         locked = kept.holds.locks.queues.out_held s may.cpu may.queue;
         task_locked = task_locked t may.locked;
         here = here;
-        off = off (found may.ready);
-        ready = ready (found may.ready);
+        off = off may.ready;
+        ready = ready may.ready;
         room = may.room;
       }
     where
@@ -72,23 +74,27 @@ module _ (shape : Shape) (words : ℕ → ℕ → ℕ) (homes : Homes) (traces :
       here = here_read t may.cpu may.locked may.read
 
       -- a task that was read as new under its lock is new
-      found : (number_read (traces s) t ≡ Some 0) ⊎ (((is_claimed (traces s) t ≡ true) × (saw_clear (traces s) t ≡ true)) ⊎ (is_moving (traces s) t ≡ true))
-          → (words t RQ / 4 ≡ 0) ⊎ (((is_claimed (traces s) t ≡ true) × (saw_clear (traces s) t ≡ true)) ⊎ (is_moving (traces s) t ≡ true))
-      found (inl new) = inl (kept.numbers s t (task_locked t may.locked) new)
-      found (inr h) = inr h
+      is_new : number_read (traces s) t ≡ Some 0 → words t RQ / 4 ≡ 0
+      is_new read = kept.numbers s t (task_locked t may.locked) read
 
-      ready : (words t RQ / 4 ≡ 0) ⊎ (((is_claimed (traces s) t ≡ true) × (saw_clear (traces s) t ≡ true)) ⊎ (is_moving (traces s) t ≡ true))
+      ready : (number_read (traces s) t ≡ Some 0)
+          ⊎ (((is_claimed (traces s) t ≡ true) × (saw_clear (traces s) t ≡ true)) ⊎ (is_moving (traces s) t ≡ true))
           → IsReady (core_of shape words homes traces) s t
-      ready (inl new) = inl new
-      ready (inr (inl (claimed, clear))) = inr (inl (kept.holds.positions.claimed.off s t claimed, kept.holds.positions.claimed.awaits s t claimed, clear))
+      ready (inl new) = inl (is_new new)
+      ready (inr (inl (claimed, clear))) =
+          let claims = kept.holds.positions.claimed in
+          inr (inl (claims.off s t claimed, claims.awaits s t claimed, clear))
       ready (inr (inr moves)) = inr (inr (kept.moving.known s t moves).1)
 
-      off : (words t RQ / 4 ≡ 0) ⊎ (((is_claimed (traces s) t ≡ true) × (saw_clear (traces s) t ≡ true)) ⊎ (is_moving (traces s) t ≡ true)) → words t RQ % 4 ≢ 1
-      off (inl new) on = absurd (grind (arith, kept.holds.places.new.off t new, on))
+      off : (number_read (traces s) t ≡ Some 0)
+          ⊎ (((is_claimed (traces s) t ≡ true) × (saw_clear (traces s) t ≡ true)) ⊎ (is_moving (traces s) t ≡ true))
+          → words t RQ % 4 ≢ 1
+      off (inl new) on = absurd (grind (arith, kept.holds.places.new.off t (is_new new), on))
       off (inr (inl (claimed, clear))) on = absurd (grind (arith, kept.holds.positions.claimed.off s t claimed, on))
       off (inr (inr moves)) on = absurd (grind (arith, (kept.moving.known s t moves).1, on))
 
-  pub dequeue_possible : (t y : ℕ) → t < shape.tasks → MayDequeueWord s (traces s) t (words t RQ) y → MayDequeue (core_of shape words homes traces) s s t
+  pub dequeue_possible : (t y : ℕ) → t < shape.tasks → MayDequeueWord s (traces s) t (words t RQ) y
+      → MayDequeue (core_of shape words homes traces) s s t
   dequeue_possible t y task may =
       record {
         seat = seat;
@@ -103,14 +109,17 @@ module _ (shape : Shape) (words : ℕ → ℕ → ℕ) (homes : Homes) (traces :
         room = may.room;
       }
 
-  pub move_possible : (t y : ℕ) → t < shape.tasks → (may : MayMoveWord s (traces s) t (words t RQ) y) → MayMove (core_of shape words homes traces) s may.cpu t may.taken
+  pub move_possible : (t y : ℕ) → t < shape.tasks → (may : MayMoveWord s (traces s) t (words t RQ) y)
+      → MayMove (core_of shape words homes traces) s may.cpu t may.taken
   move_possible t y task may =
       let out = value_of (task_held (traces s) t) may.locked in
-      move_may shape words homes traces s kept.holds seat may.cpu t out.0 may.taken may.taken task (processor_of t may.cpu task (here_read t may.cpu may.locked may.read)) out.1 may.queue
+      move_may shape words homes traces s kept.holds seat may.cpu t out.0 may.taken may.taken task
+      (processor_of t may.cpu task (here_read t may.cpu may.locked may.read)) out.1 may.queue
       may.waiting queued may.read may.unadded may.idle may.other may.room
     where
       queued : words t RQ % 4 ≡ 1
-      queued = waits_once (times_in may.taken.waiting t) (times may.taken t) (words t RQ % 4) (words t CPU) may.cpu may.waiting (omega arith)
+      queued = waits_once (times_in may.taken.waiting t) (times may.taken t) (words t RQ % 4)
+          (words t CPU) may.cpu may.waiting (omega arith)
           (kept.holds.queues.left s may.cpu may.taken t may.queue may.unadded may.undropped)
 
   pub set_busy_possible : (t y : ℕ) → t < shape.tasks → (may : MaySetBusyWord s (traces s) t (words t BUSY) y)
@@ -140,7 +149,8 @@ module _ (shape : Shape) (words : ℕ → ℕ → ℕ) (homes : Homes) (traces :
       locked : holder (words s QUEUE_LOCK) ≡ Some s
       locked = queue_locked shape words homes traces s kept.holds seat s may.taken may.queue
 
-      idle : words t CPU ≡ s → (is_set (words t BUSY) ≡ true) ⊎ (is_set (words t BUSY) ≡ false) → is_set (words t BUSY) ≡ false
+      idle : words t CPU ≡ s → (is_set (words t BUSY) ≡ true) ⊎ (is_set (words t BUSY) ≡ false)
+          → is_set (words t BUSY) ≡ false
       idle here (inl busy) = elim (kept.holds.busy.runner.busy_is t busy) [
         | inl runs ↦ absurd (grind (arith, subst (λ (z : ℕ). current_task z (traces z) ≡ Some t) here runs, may.none))
         | inr left ↦ absurd (grind (arith, subst (λ (z : ℕ). task_to_clear z (traces z) ≡ Some t) here left, may.clear))
@@ -151,24 +161,39 @@ module _ (shape : Shape) (words : ℕ → ℕ → ℕ) (homes : Homes) (traces :
   is_odd : (t : ℕ) → task_to_clear s (traces s) ≡ Some t → (words t BUSY / 2) % 2 ≡ 1
   is_odd t left = kept.holds.journals.last_runs.busy_odd t (kept.holds.busy.runner.left_busy s t left)
 
-  pub clear_busy_possible : (t y : ℕ) → t < shape.tasks → MayClearBusyWord s (traces s) t (words t BUSY) y → MayClearBusy (core_of shape words homes traces) s t
-  clear_busy_possible t y task may = record { seat = seat; task = task; left = may.left; other = may.other; room = below_even (words t BUSY / 2) (is_odd t may.left) (kept.holds.journals.numbered.runs_end t) }
+  pub clear_busy_possible : (t y : ℕ) → t < shape.tasks → MayClearBusyWord s (traces s) t (words t BUSY) y
+      → MayClearBusy (core_of shape words homes traces) s t
+  clear_busy_possible t y task may =
+      record {
+        seat = seat;
+        task = task;
+        left = may.left;
+        other = may.other;
+        room = below_even (words t BUSY / 2)
+            (is_odd t may.left) (kept.holds.journals.numbered.runs_end t);
+      }
 
-  pub own_state_possible : (t y : ℕ) → t < shape.tasks → MayOwnWord s (traces s) t (words t STATE) y → MayOwnState (core_of shape words homes traces) s t (record { 0 = y })
+  pub own_state_possible : (t y : ℕ) → t < shape.tasks → MayOwnWord s (traces s) t (words t STATE) y
+      → MayOwnState (core_of shape words homes traces) s t (record { 0 = y })
   own_state_possible t y task may =
-      own_state_may words traces s kept.current shape homes kept.holds t (record { 0 = y }) seat task may.current may.stays (elim may.allowed [
+      own_state_may words traces s kept.current shape homes kept.holds t
+      (record { 0 = y }) seat task may.current may.stays (elim may.allowed [
         | inl runs ↦ inl runs
         | inr rest ↦ elim rest [
           | inl sleeps ↦ inr (inl sleeps)
           | inr dies ↦ subst (λ (x : State). IsOwnState (core_of shape words homes traces) s t x) (sym dies.0)
-              (dead_allowed shape words homes traces s kept.holds kept.ended t (task_locked t dies.1) may.current dies.2)
+              (dead_allowed shape words homes traces s kept.holds kept.ended t
+              (task_locked t dies.1) may.current dies.2)
         ]
       ])
 
-  pub claim_possible : (t y : ℕ) → t < shape.tasks → MayClaimWord s (traces s) t (words t STATE) y → MayClaim (core_of shape words homes traces) s t
-  claim_possible t y task may = record { seat = seat; task = task; locked = task_locked t may.locked; saw_off = may.off }
+  pub claim_possible : (t y : ℕ) → t < shape.tasks → MayClaimWord s (traces s) t (words t STATE) y
+      → MayClaim (core_of shape words homes traces) s t
+  claim_possible t y task may =
+      record { seat = seat; task = task; locked = task_locked t may.locked; saw_off = may.off }
 
-  pub release_possible : (t y : ℕ) → t < shape.tasks → MayReleaseWord s (traces s) t (words t STATE) y → MayRelease (core_of shape words homes traces) s t
+  pub release_possible : (t y : ℕ) → t < shape.tasks → MayReleaseWord s (traces s) t (words t STATE) y
+      → MayRelease (core_of shape words homes traces) s t
   release_possible t y task may = elim may.release [
     | inl new ↦ let out = value_of (task_held (traces s) t) new.0 in
         release_new_may words traces s kept.numbers shape homes kept.holds t out.0 seat task out.1 new.1
@@ -182,19 +207,24 @@ module _ (shape : Shape) (words : ℕ → ℕ → ℕ) (homes : Homes) (traces :
       by_match c here =
           let out = value_of (task_held (traces s) t) here.locked in
           let queue = value_of (queue_held (traces s) c) here.queue in
-          release_queued_may words traces s kept.queued shape homes c t out.0 queue.0 kept.holds seat task out.1 queue.1 (here_read t c here.locked here.read) here.matched here.queued here.other
+          release_queued_may words traces s kept.queued shape homes c t out.0 queue.0 kept.holds seat task out.1
+          queue.1 (here_read t c here.locked here.read) here.matched here.queued here.other
 
       by_put : (c : ℕ) → IsPutHere s (traces s) c t → MayRelease (core_of shape words homes traces) s t
       by_put c here =
           let queue = value_of (queue_held (traces s) c) here.queue in
-          release_put_may shape words homes traces s kept.holds kept.put_there c t queue.0 seat task queue.1 here.there here.added here.other
+          release_put_may shape words homes traces s kept.holds kept.put_there c t queue.0 seat task queue.1
+          here.there here.added here.other
 
-  pub store_cpu_possible : (t y : ℕ) → t < shape.tasks → MayCpuWord s (traces s) shape t (words t CPU) y → MayStoreCpu (core_of shape words homes traces) s t y
+  pub store_cpu_possible : (t y : ℕ) → t < shape.tasks → MayCpuWord s (traces s) shape t (words t CPU) y
+      → MayStoreCpu (core_of shape words homes traces) s t y
   store_cpu_possible t y task may = elim may.placeable [
     | inl new ↦ let out = value_of (task_held (traces s) t) new.0 in
-        store_cpu_new_may words traces s kept.numbers shape homes kept.holds t y out.0 seat task may.processor out.1 new.1
+        store_cpu_new_may words traces s kept.numbers shape homes kept.holds t y out.0 seat task
+        may.processor out.1 new.1
     | inr rest ↦ elim rest [
-      | inl claimed ↦ store_cpu_may shape words homes traces s kept.holds seat t y task may.processor claimed.0 claimed.1
+      | inl claimed ↦ store_cpu_may shape words homes traces s kept.holds seat t y task may.processor
+          claimed.0 claimed.1
       | inr moves ↦ record {
         seat = seat;
         task = task;

@@ -25,22 +25,27 @@ use Rattle.word_steps.specs.Words.{LOCK, STATE, RQ, holder}
 use Rattle.word_steps.specs.declared.val.Val.TheVariants as val
 
 -- A seat that saw a task off its queue has read the number of its changes.
-renewed : (saw : ℕ → Bool) (number : ℕ → Option ℕ) (n : ℕ) (o : Option ℕ) → ((t : ℕ) → saw t ≡ true → IsSome (number t)) → (t : ℕ) → put saw n false t ≡ true → IsSome (put number n o t)
+renewed : (saw : ℕ → Bool) (number : ℕ → Option ℕ) (n : ℕ) (o : Option ℕ)
+    → ((t : ℕ) → saw t ≡ true → IsSome (number t)) → (t : ℕ) → put saw n false t ≡ true → IsSome (put number n o t)
 renewed saw number n o known t e = elim (cases_eq t n) [
   | inl q ↦ absurd (grind (arith, sym (put_there saw n false t q) ∙ e))
-  | inr apart ↦ subst (λ (z : Option ℕ). IsSome z) (sym (put_other number n o t apart)) (known t (sym (put_other saw n false t apart) ∙ e))
+  | inr apart ↦ subst (λ (z : Option ℕ). IsSome z) (sym (put_other number n o t apart))
+      (known t (sym (put_other saw n false t apart) ∙ e))
 ]
 
-unread : (saw : ℕ → Bool) (number : ℕ → Option ℕ) (n : ℕ) → ((t : ℕ) → saw t ≡ true → IsSome (number t)) → (t : ℕ) → put saw n false t ≡ true → IsSome (number t)
+unread : (saw : ℕ → Bool) (number : ℕ → Option ℕ) (n : ℕ) → ((t : ℕ) → saw t ≡ true → IsSome (number t)) → (t : ℕ)
+    → put saw n false t ≡ true → IsSome (number t)
 unread saw number n known t e = elim (cases_eq t n) [
   | inl q ↦ absurd (grind (arith, sym (put_there saw n false t q) ∙ e))
   | inr apart ↦ known t (sym (put_other saw n false t apart) ∙ e)
 ]
 
-read : (b : Bool) (saw : ℕ → Bool) (number : ℕ → Option ℕ) (n m : ℕ) → ((t : ℕ) → saw t ≡ true → IsSome (number t)) → (t : ℕ) → put_if b n true saw t ≡ true → IsSome (put number n (Some m) t)
+read : (b : Bool) (saw : ℕ → Bool) (number : ℕ → Option ℕ) (n m : ℕ) → ((t : ℕ) → saw t ≡ true → IsSome (number t))
+    → (t : ℕ) → put_if b n true saw t ≡ true → IsSome (put number n (Some m) t)
 read b saw number n m known t e = elim (cases_eq t n) [
   | inl q ↦ subst (λ (z : Option ℕ). IsSome z) (sym (put_there number n (Some m) t q)) refl
-  | inr apart ↦ subst (λ (z : Option ℕ). IsSome z) (sym (put_other number n (Some m) t apart)) (known t (elsewhere b apart e))
+  | inr apart ↦ subst (λ (z : Option ℕ). IsSome z) (sym (put_other number n (Some m) t apart))
+      (known t (elsewhere b apart e))
 ]
   where
     elsewhere : (b : Bool) → t ≢ n → put_if b n true saw t ≡ true → saw t ≡ true
@@ -65,29 +70,34 @@ off_read (StoredOwn n state ∷ rs) t e = unread (saw_off rs) (number_read rs) n
 off_read (Claimed n m ∷ rs) t e = unread (saw_off rs) (number_read rs) n (off_read rs) t e
 off_read (Released n ∷ rs) t e = unread (saw_off rs) (number_read rs) n (off_read rs) t e
 off_read (LoadedState n mask state ∷ rs) t e = off_read rs t e
-off_read (LoadedRq n on m ∷ rs) t e = read ((on == 0) && is_unstored rs n) (saw_off rs) (number_read rs) n m (off_read rs) t e
+off_read (LoadedRq n on m ∷ rs) t e =
+    read ((on == 0) && is_unstored rs n) (saw_off rs) (number_read rs) n m (off_read rs) t e
 off_read (LoadedBusy n busy m ∷ rs) t e = off_read rs t e
 off_read (LoadedCpu n c ∷ rs) t e = off_read rs t e
 off_read (StoredCpu n c ∷ rs) t e = unread (saw_off rs) (number_read rs) n (off_read rs) t e
 off_read (Bumped k v ∷ rs) t e = off_read rs t e
 off_read (LoadedCond k v ∷ rs) t e = off_read rs t e
 
-module _ (shape : Shape) (words : ℕ → ℕ → ℕ) (homes : Homes) (traces : ℕ → List Rec) (s : ℕ) (kept : Kept shape words homes traces) (seat : s < shape.cpus + shape.agents) where
+module _ (shape : Shape) (words : ℕ → ℕ → ℕ) (homes : Homes) (traces : ℕ → List Rec) (s : ℕ)
+    (kept : Kept shape words homes traces) (seat : s < shape.cpus + shape.agents) where
   -- the number that a seat has of a task which it may claim is that of its queue word
   pub claim_number : (t y : ℕ) → MayClaimWord s (traces s) t (words t STATE) y → words t RQ / 4 ≡ number_of (traces s) t
   claim_number t y may =
       let number = value_of (number_read (traces s) t) (off_read (traces s) t may.off) in
-      kept.off s t number.0 (kept.holds.locks.tasks.out_held s t may.locked) may.off number.1 ∙ sym (ap (λ (o : Option ℕ). unwrap_or o 0) number.1)
+      kept.off s t number.0 (kept.holds.locks.tasks.out_held s t may.locked) may.off number.1 ∙ sym
+      (ap (λ (o : Option ℕ). unwrap_or o 0) number.1)
 
   pub give_task_possible : (t : ℕ) (given : TaskVal) → t < shape.tasks → MayGiveTaskVal s (traces s) shape t given
       → MayGiveTask (core_of shape words homes traces) s t given false false
   give_task_possible t given task may =
-      give_task_may shape words homes traces s kept.holds seat t may.taken given task may.held may.kept may.wake_cpu may.dest settled (λ new. begun new)
+      give_task_may shape words homes traces s kept.holds seat t may.taken given task may.held may.kept
+      may.wake_cpu may.dest settled (λ new. begun new)
     where
       settled : IsSettled (core_of shape words homes traces) t
       settled = elim may.settled [
         | inl unstored ↦ settled_unstored shape words homes traces s kept.holds seat t may.taken may.held unstored
-        | inr still ↦ settled_given shape words homes traces s kept.moving t may.taken kept.holds seat may.held still.0 still.1
+        | inr still ↦ settled_given shape words homes traces s kept.moving t may.taken kept.holds seat may.held
+            still.0 still.1
       ]
 
       locked : holder (words t LOCK) ≡ Some s
@@ -95,27 +105,36 @@ module _ (shape : Shape) (words : ℕ → ℕ → ℕ) (homes : Homes) (traces :
 
       begun : words t RQ / 4 ≡ 0 → (core_of shape words homes traces).state t ≡ fresh
       begun new = elim may.begun [
-        | inl unstored ↦ fresh_unstored shape words homes traces s kept.holds seat t may.taken task may.held unstored new
+        | inl unstored ↦ fresh_unstored shape words homes traces s kept.holds seat t may.taken task may.held
+            unstored new
         | inr started ↦ elim started [
           | inl read ↦ let grown = kept.grown s t (suc read.0) read.1 in absurd (omega (arith, grown, new))
           | inr rest ↦ elim rest [
             | inl matched ↦ absurd (kept.matched s t locked matched new)
-            | inr mine ↦ absurd (grind (arith, kept.holds.places.new.idle t new, kept.holds.busy.runner.current_busy s t mine))
+            | inr mine ↦ absurd (grind
+                (arith, kept.holds.places.new.idle t new, kept.holds.busy.runner.current_busy s t mine))
           ]
         ]
       ]
 
-  pub give_works_possible : (c : ℕ) (given : List WorkItem) → c < shape.cpus → MayGiveWorksVal s (traces s) c given → MayGiveWorks (core_of shape words homes traces) s c given
-  give_works_possible c given processor may = give_works_may shape words homes traces s kept.holds seat c given processor may
+  pub give_works_possible : (c : ℕ) (given : List WorkItem) → c < shape.cpus → MayGiveWorksVal s (traces s) c given
+      → MayGiveWorks (core_of shape words homes traces) s c given
+  give_works_possible c given processor may =
+      give_works_may shape words homes traces s kept.holds seat c given processor may
 
-  pub give_wait_possible : (k : ℕ) (given : List WaitEntry) → k < shape.conds → MayGiveWaitVal s (traces s) shape k given → MayGiveWait (core_of shape words homes traces) s k given
+  pub give_wait_possible : (k : ℕ) (given : List WaitEntry) → k < shape.conds
+      → MayGiveWaitVal s (traces s) shape k given → MayGiveWait (core_of shape words homes traces) s k given
   give_wait_possible k given condition may =
-      give_wait_may shape words homes traces s kept.holds seat k may.taken given condition may.held may.once may.tasks may.put_in may.taken_out
+      give_wait_may shape words homes traces s kept.holds seat k may.taken given condition may.held may.once
+      may.tasks may.put_in may.taken_out
 
-  pub take_body_possible : (t : ℕ) → t < shape.tasks → MayTakeBody s (traces s) t → MayBodyOut (core_of shape words homes traces) s t
+  pub take_body_possible : (t : ℕ) → t < shape.tasks → MayTakeBody s (traces s) t
+      → MayBodyOut (core_of shape words homes traces) s t
   take_body_possible t task may = body_out_may shape words homes traces s kept.holds seat t task may.current may.home
 
-  pub return_body_possible : (t : ℕ) (ended : Bool) → t < shape.tasks → MayReturnBody s (traces s) t ended → MayBodyHome (core_of shape words homes traces) s t ended
+  pub return_body_possible : (t : ℕ) (ended : Bool) → t < shape.tasks → MayReturnBody s (traces s) t ended
+      → MayBodyHome (core_of shape words homes traces) s t ended
   return_body_possible t ended task may =
       let known = value_of (ended_known (traces s) t) (kept.known s t may.out) in
-      body_home_may shape words homes traces s kept.holds kept.ended t known.0 ended seat task may.out known.1 (λ e. may.stays (known.1 ∙ ap Some e))
+      body_home_may shape words homes traces s kept.holds kept.ended t known.0 ended seat task may.out known.1
+      (λ e. may.stays (known.1 ∙ ap Some e))
