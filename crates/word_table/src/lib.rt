@@ -2,6 +2,7 @@
 //! kinds of step stand in the crate above, each with its law.
 #![tactic(auto)]
 
+mod carrying;
 mod kind;
 mod lock;
 mod plays;
@@ -9,9 +10,11 @@ mod rule;
 mod slot;
 mod steps;
 mod token;
+mod values;
 mod view;
 mod words;
 
+pub use carrying::{body_home, body_out, give, take};
 pub use kind::Kind;
 pub use lock::{Lock, QueueLock, TaskLock, WaitLock, WorksLock};
 pub use slot::Kept;
