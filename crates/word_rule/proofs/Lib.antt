@@ -1,0 +1,14 @@
+pub mod BodiesKept
+pub mod BodyLaws
+pub mod GiveQueue
+pub mod GrownKept
+pub mod LoadLaws
+pub mod LockLaws
+pub mod OffKept
+pub mod Possible
+pub mod PossibleGives
+pub mod QueueLaws
+pub mod Quiet
+pub mod RunsKept
+pub mod StandingKept
+pub mod StoreLaws

@@ -2,6 +2,7 @@
 use Rattle.std.specs.Prelude.{ℕ, List}
 use Rattle.core_invariant.specs.Invariant.{Holds}
 use Rattle.handoff_data.specs.declared.shape.Shape.{Shape}
+use Rattle.word_rule.specs.Bodies.{BodiesKnown}
 use Rattle.word_rule.specs.Standing.{StandingHolds, RunsHold, OffHolds, GrownHolds}
 use Rattle.word_steps.specs.Beside.{MovingHolds, CurrentHolds, NumbersHold, MatchedHolds, QueuedHolds, PutHolds, EndedHolds, CountsZero, StatesFit}
 use Rattle.word_steps.specs.Decode.{Homes, core_of}
@@ -23,3 +24,4 @@ pub record Kept (shape : Shape) (words : ℕ → ℕ → ℕ) (homes : Homes) (t
   pub runs : RunsHold words traces
   pub off : OffHolds words traces
   pub grown : GrownHolds words traces
+  pub known : BodiesKnown traces

@@ -1,3 +1,4 @@
+pub mod Bodies
 pub mod Kept
 pub mod May
 pub mod Sorts

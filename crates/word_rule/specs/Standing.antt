@@ -1,5 +1,5 @@
 -- What a seat that holds a queue's lock knows of the tasks on that queue.
-use Rattle.std.specs.Prelude.{◌≡◌, ◌≢◌, ℕ, ◌+◌, ◌-◌, ◌%◌, ◌/◌, ◌≤◌, ◌==◌, ◌&&◌, nat_lt, Bool, true, false, List, [], ◌∷◌, Option, Some, if◌then◌else◌, is_some}
+use Rattle.std.specs.Prelude.{◌≡◌, ◌≢◌, ℕ, ◌+◌, ◌-◌, ◌%◌, ◌/◌, ◌≤◌, ◌==◌, ◌&&◌, ◌||◌, nat_lt, Bool, true, false, List, [], ◌∷◌, Option, Some, if◌then◌else◌, is_some}
 use mathlib.Core.Bool.{not}
 use Rattle.core_data.specs.Queue.{times_in}
 use Rattle.core_data.specs.Table.{put}
@@ -27,10 +27,10 @@ standing [] = λ c t. 0
 standing (r ∷ rs) = standing_after r (standing rs)
 
 -- the seat knows that a task may run which stands in the queue: it waited there as the lock was taken, or the seat put
--- it there as new, or stored TASK_RUNNING once it was there, or read that state of its own current task
+-- it there as new or in a move, or stored TASK_RUNNING once it was there, or read that state of its own current task
 abbrev pub may_run_after : ℕ → Rec → Option ℕ → Bool → Bool → (ℕ → ℕ → Bool) → (ℕ → ℕ → Bool) → ℕ → ℕ → Bool
 may_run_after s (Took c (val.Queue v)) current stays own were h = put h c (λ t. nat_lt 0 (times_in v.waiting t))
-may_run_after s (Queued t c on m) current stays own were h = put_both h c t (m == 0)
+may_run_after s (Queued t c on m) current stays own were h = put_both h c t ((m == 0) || (on == 2))
 may_run_after s (Dequeued t c m) current stays own were h = put_column h t false
 may_run_after s (Moved t c m) current stays own were h = put_column h t false
 may_run_after s (StoredOwn t state) current stays own were h = put_column_if (not (state.0 == 0)) t false h
