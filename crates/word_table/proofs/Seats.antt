@@ -105,52 +105,52 @@ module _ {B : Type 0} (lasting : B → List ℕ) (ended_of : B → Bool) (key : 
   deals id k n s r at =
       let e = r.parts id (view_of (fresh k (suc n))) at in let f = e.0.0 in let b : ℕ = length s.views in let own : ℕ → ℕ = put r.owner k b in
       reseated r (set s.views id (view_of (fresh (suc k) n)) ++ view_of (fresh k 1) ∷ []) own
-          (λ j u there. ⊎_elim
-              (λ old. ⊎_elim
-                  (λ t. subst (IsAt r own j) t.1
-                      (later seats r.trace r.hand r.owner j b k (suc k) n (omega arith) (subst (λ (z : ℕ). Each (Fits seats r.trace r.hand r.owner z) (fresh (suc k) n)) (sym t.0) e.0.1), inl refl))
-                  (λ t. let o = r.parts j u t.1 in (
-                    each_map (Fits seats r.trace r.hand r.owner j) (Fits seats r.trace r.hand own j) u.parts
-                        (λ p g. record {
-                          near = g.near;
-                          owned = put_other r.owner k b p.number (λ same. t.0 (sym g.owned ∙ ap r.owner same ∙ f.owned)) ∙ g.owned;
-                          trace_is = g.trace_is;
-                          hand_is = g.hand_is;
-                        })
-                        o.0,
-                    o.1,
-                  ))
-                  (at_set s.views id j (view_of (fresh (suc k) n)) u old))
-              (λ new. subst (IsAt r own j) new.1
-                  ((record { near = f.near; owned = put_there r.owner k b k refl ∙ sym (length-set s.views id (view_of (fresh (suc k) n))) ∙ sym new.0; trace_is = f.trace_is; hand_is = f.hand_is }, tt), inl refl))
-              (snoc_at (set s.views id (view_of (fresh (suc k) n))) (view_of (fresh k 1)) u j there))
+      (λ j u there. ⊎_elim
+      (λ old. ⊎_elim
+      (λ t. subst (IsAt r own j) t.1
+      (later seats r.trace r.hand r.owner j b k (suc k) n (omega arith) (subst (λ (z : ℕ). Each (Fits seats r.trace r.hand r.owner z) (fresh (suc k) n)) (sym t.0) e.0.1), inl refl))
+      (λ t. let o = r.parts j u t.1 in (
+        each_map (Fits seats r.trace r.hand r.owner j) (Fits seats r.trace r.hand own j) u.parts
+            (λ p g. record {
+              near = g.near;
+              owned = put_other r.owner k b p.number (λ same. t.0 (sym g.owned ∙ ap r.owner same ∙ f.owned)) ∙ g.owned;
+              trace_is = g.trace_is;
+              hand_is = g.hand_is;
+            })
+            o.0,
+        o.1,
+      ))
+      (at_set s.views id j (view_of (fresh (suc k) n)) u old))
+      (λ new. subst (IsAt r own j) new.1
+      ((record { near = f.near; owned = put_there r.owner k b k refl ∙ sym (length-set s.views id (view_of (fresh (suc k) n))) ∙ sym new.0; trace_is = f.trace_is; hand_is = f.hand_is }, tt), inl refl))
+      (snoc_at (set s.views id (view_of (fresh (suc k) n))) (view_of (fresh k 1)) u j there))
 
   gathers : (id other : ℕ) (v w : View) → v.known ≡ known_of lasting key → Joins R id v other w (joined v w) spent
   gathers id other v w is s r at apart there =
       let own : ℕ → ℕ = moved_to id other r.owner in let there' : get_elem? s.views other ≡ some w = sym (set_else s.views id other (joined v w) apart) ∙ there in
       let F : (ℕ → ℕ) → ℕ → Part → Type 0 = λ o j. Fits seats r.trace r.hand o j in
       reseated r (set (set s.views id (joined v w)) other spent) own
-          (λ j u here. ⊎_elim
-              (λ t. subst (IsAt r own j) t.1 (tt, inr refl))
-              (λ t. ⊎_elim
-                  (λ z. subst (IsAt r own j) z.1 (
-                    each_append (F own j) w.parts v.parts
-                        (each_map (F r.owner other) (F own j) w.parts
-                            (λ p g. record { near = g.near; owned = from_other id other r.owner p.number g.owned ∙ sym z.0; trace_is = g.trace_is; hand_is = g.hand_is })
-                            (r.parts other w there').0)
-                        (each_map (F r.owner id) (F own j) v.parts
-                            (λ p g. record { near = g.near; owned = from_else id other r.owner p.number (λ e. apart (sym e ∙ g.owned)) ∙ (g.owned ∙ sym z.0); trace_is = g.trace_is; hand_is = g.hand_is })
-                            (r.parts id v at).0),
-                    inl is,
-                  ))
-                  (λ z. let o = r.parts j u z.1 in (
-                    each_map (F r.owner j) (F own j) u.parts
-                        (λ p g. record { near = g.near; owned = from_else id other r.owner p.number (λ e. t.0 (sym g.owned ∙ e)) ∙ g.owned; trace_is = g.trace_is; hand_is = g.hand_is })
-                        o.0,
-                    o.1,
-                  ))
-                  (at_set s.views id j (joined v w) u t.1))
-              (at_set (set s.views id (joined v w)) other j spent u here))
+      (λ j u here. ⊎_elim
+      (λ t. subst (IsAt r own j) t.1 (tt, inr refl))
+      (λ t. ⊎_elim
+      (λ z. subst (IsAt r own j) z.1 (
+        each_append (F own j) w.parts v.parts
+            (each_map (F r.owner other) (F own j) w.parts
+            (λ p g. record { near = g.near; owned = from_other id other r.owner p.number g.owned ∙ sym z.0; trace_is = g.trace_is; hand_is = g.hand_is })
+            (r.parts other w there').0)
+            (each_map (F r.owner id) (F own j) v.parts
+            (λ p g. record { near = g.near; owned = from_else id other r.owner p.number (λ e. apart (sym e ∙ g.owned)) ∙ (g.owned ∙ sym z.0); trace_is = g.trace_is; hand_is = g.hand_is })
+            (r.parts id v at).0),
+        inl is,
+      ))
+      (λ z. let o = r.parts j u z.1 in (
+        each_map (F r.owner j) (F own j) u.parts
+            (λ p g. record { near = g.near; owned = from_else id other r.owner p.number (λ e. t.0 (sym g.owned ∙ e)) ∙ g.owned; trace_is = g.trace_is; hand_is = g.hand_is })
+            o.0,
+        o.1,
+      ))
+      (at_set s.views id j (joined v w) u t.1))
+      (at_set (set s.views id (joined v w)) other j spent u here))
 
   pub deals_at : (id k n c : ℕ) (v : View) → c ≡ suc n → v ≡ view_of (fresh k c) → Splits R id v (but_first v) (first_alone v)
   deals_at id k n c v e is = subst (λ (z : View). Splits R id z (but_first z) (first_alone z)) (sym (is ∙ λ j. view_of (fresh k (e j)))) (deals id k n)

@@ -1,5 +1,5 @@
 -- How a table begins: its words, its slots, and its tokens.
-use Rattle.std.specs.Prelude.{◌≡◌, ◌<◌, ℕ, ◌+◌, ◌*◌, ◌==◌, nat_lt, List, [], map, length, if◌then◌else◌}
+use Rattle.std.specs.Prelude.{◌≡◌, ◌<◌, ℕ, ◌+◌, ◌*◌, ◌==◌, nat_lt, List, [], ◌∷◌, map, length, if◌then◌else◌}
 use Rattle.std.specs.List.{range_with_len}
 use mathlib.Core.Option.{none, some}
 use mathlib.Core.Option as maybe
@@ -27,9 +27,9 @@ module _ {B : Type 0} where
   body_slot none = Empty
   body_slot (some b) = Body b
 
-  module _ (shape : Shape) (mask : CpuMask) where
-    abbrev pub task_slot : ℕ → Slot B
-    task_slot n = if nat_lt n shape.tasks then Held (val.Task (first_val mask)) else Empty
+  module _ (shape : Shape) where
+    abbrev pub task_slot : CpuMask → ℕ → Slot B
+    task_slot mask n = if nat_lt n shape.tasks then Held (val.Task (first_val mask)) else Empty
 
     abbrev pub queue_slot : ℕ → Slot B
     queue_slot n = if nat_lt n shape.cpus then Held (val.Queue no_tasks) else Empty
@@ -40,24 +40,20 @@ module _ {B : Type 0} where
     abbrev pub wait_slot : ℕ → Slot B
     wait_slot n = if nat_lt n shape.conds then Held (val.Wait []) else Empty
 
-    -- what lies in the slots of n, one of which may be a body
-    pub record IsRow (n : ℕ) (body : maybe.Option B) (slots : List (Slot B)) : Type 0 where
-      pub task : get_elem? slots (slot_at n 0) ≡ some (task_slot n)
-      pub body_is : get_elem? slots (slot_at n 1) ≡ some (body_slot body)
-      pub queue : get_elem? slots (slot_at n 2) ≡ some (queue_slot n)
-      pub works : get_elem? slots (slot_at n 3) ≡ some (works_slot n)
-      pub list : get_elem? slots (slot_at n 4) ≡ some Empty
-      pub wait : get_elem? slots (slot_at n 5) ≡ some (wait_slot n)
+  module _ (shape : Shape) (mask : CpuMask) where
+    -- the slots of n, where this lies in its body's
+    abbrev pub row : ℕ → Slot B → List (Slot B)
+    row n body = task_slot shape mask n ∷ body ∷ queue_slot shape n ∷ works_slot shape n ∷ Empty ∷ wait_slot shape n ∷ []
 
-    -- the slots of the numbers below m are laid
-    pub record AreRows (m : ℕ) (bodies : List B) (slots : List (Slot B)) : Type 0 where
-      pub long : length slots ≡ SLOTS * m
-      pub each : (n : ℕ) → n < m → IsRow n (get_elem? bodies n) slots
+    -- the slots of the numbers below m are laid, with the bodies from the first on
+    abbrev pub AreRows : ℕ → List B → List (Slot B) → Type 0
+    AreRows m bodies slots =
+        (n k : ℕ) → n < m → k < SLOTS → get_elem? slots (slot_at n k) ≡ get_elem? (row n (body_slot (get_elem? bodies n))) k
 
     -- all slots are laid, with the room in the last
     pub record IsLaid (bodies : List B) (slots : List (Slot B)) : Type 0 where
       pub long : length slots ≡ SLOTS * rows_of shape + 1
-      pub each : (n : ℕ) → n < rows_of shape → IsRow n (get_elem? bodies n) slots
+      pub rows : AreRows (rows_of shape) bodies slots
       pub room : IsRoomed shape.tasks (some (get_elem? slots (SLOTS * rows_of shape)))
 
 -- the token of a new table for the seat s, and those of n seats in their order

@@ -3,6 +3,8 @@
 #![tactic(auto)]
 
 mod kind;
+mod layout;
+mod life;
 mod lock;
 mod plays;
 mod rule;
