@@ -1,2 +1,3 @@
 pub mod Laying
+pub mod Opening
 pub mod Seats
