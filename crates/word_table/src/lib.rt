@@ -4,6 +4,8 @@
 
 mod carrying;
 mod kind;
+mod layout;
+mod life;
 mod lock;
 mod plays;
 mod rule;
