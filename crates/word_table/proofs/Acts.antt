@@ -90,6 +90,7 @@ module _ {B : Type 0} (lasting : B → List ℕ) (ended_of : B → Bool) (key : 
     owner = r.owner;
     keeper = keeper';
     ended = ended';
+    bare = λ q far. put_other r.trace k tr' q (λ e. omega (arith, e, far, me.near)) ∙ r.bare q far;
     wide = length-set s.words i x ∙ r.wide;
     deep = as_long ∙ r.deep;
     room = subst (IsRoomed key.shape.tasks) (sym same_room) r.room;

@@ -207,8 +207,8 @@ module _ {B : Type 0} where
   body_there (some (some (Body b))) e = (b, refl)
   body_there (some (some (Room r))) e = let no : false ≡ true = e in cc
 
-  pub home_there : (sort : Sort) (hs : List (maybe.Option (Slot B))) (ended : ℕ → Bool) (n : ℕ) (v : Val) → home_of sort (homes_of hs ended) n ≡ Some v → get_elem? hs (slot_at n (slot_of sort)) ≡ some (some (Held v))
-  home_there OfTask hs ended n v e = val_there (get_elem? hs (slot_at n 0)) v (task_val (val_in (get_elem? hs (slot_at n 0))) v e)
-  home_there OfQueue hs ended n v e = val_there (get_elem? hs (slot_at n 2)) v (queue_val (val_in (get_elem? hs (slot_at n 2))) v e)
-  home_there OfWorks hs ended n v e = val_there (get_elem? hs (slot_at n 3)) v (works_val (val_in (get_elem? hs (slot_at n 3))) v e)
-  home_there OfWait hs ended n v e = val_there (get_elem? hs (slot_at n 5)) v (wait_val (val_in (get_elem? hs (slot_at n 5))) v e)
+  pub value_there : (sort : Sort) (hs : List (maybe.Option (Slot B))) (ended : ℕ → Bool) (n : ℕ) (v : Val) → home_of sort (homes_of hs ended) n ≡ Some v → get_elem? hs (slot_at n (slot_of sort)) ≡ some (some (Held v))
+  value_there OfTask hs ended n v e = val_there (get_elem? hs (slot_at n 0)) v (task_val (val_in (get_elem? hs (slot_at n 0))) v e)
+  value_there OfQueue hs ended n v e = val_there (get_elem? hs (slot_at n 2)) v (queue_val (val_in (get_elem? hs (slot_at n 2))) v e)
+  value_there OfWorks hs ended n v e = val_there (get_elem? hs (slot_at n 3)) v (works_val (val_in (get_elem? hs (slot_at n 3))) v e)
+  value_there OfWait hs ended n v e = val_there (get_elem? hs (slot_at n 5)) v (wait_val (val_in (get_elem? hs (slot_at n 5))) v e)

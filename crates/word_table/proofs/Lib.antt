@@ -1,8 +1,11 @@
-pub mod Slotted
-pub mod Decoded
 pub mod Acts
-pub mod Laws
-pub mod Rows
+pub mod Carries
+pub mod Decoded
+pub mod Laying
 pub mod Moves
 pub mod Opened
+pub mod Opening
+pub mod Rows
+pub mod Seats
+pub mod Slotted
 pub mod Ways

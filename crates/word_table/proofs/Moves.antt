@@ -11,8 +11,12 @@ use Rattle.atomic_table.proofs.Lists.{set_again, exchanged}
 use Rattle.core_data.specs.Table.{put, put_at}
 use Rattle.core_stores.proofs.Columns.{put_there, put_other, put_id}
 use Rattle.handoff_data.specs.declared.shape.Shape.{Shape}
+use Rattle.word_rule.proofs.BodyLaws.{take_body_law, return_body_law}
+use Rattle.word_rule.proofs.LockLaws.{home_there, take_law, give_law}
+use Rattle.word_rule.proofs.Taken.{take_told}
 use Rattle.word_rule.specs.Kept.{Kept}
 use Rattle.word_rule.specs.May.{MayGive, MayTakeBody, MayReturnBody}
+use Rattle.word_rule.specs.Told.{TakeTold}
 use Rattle.word_rule.specs.Sorts.{Sort, OfTask, OfQueue, OfWorks, OfWait, lock_of, count_of, held_of, IsOf, with_home}
 use Rattle.word_steps.specs.Decode.{Homes}
 use Rattle.word_steps.specs.Records.{Rec, Took, Gave, OutBody, HomeBody}
@@ -30,12 +34,11 @@ use Rattle.word_table.specs.declared.slot.Slot.{Slot}
 use Rattle.word_table.specs.declared.slot.Slot.TheVariants.{Empty, Held, Body}
 use Rattle.word_table.specs.declared.view.View.{View}
 use Rattle.word_table.proofs.Acts.{St, R, seats, mine, steady, ups, downs}
-use Rattle.word_table.proofs.Decoded.{without_shown, home_shown, body_shown, still_shown, home_there, body_there}
-use Rattle.word_table.proofs.Laws.{FreeLaw, TakeLaw, GiveLaw, TakeBodyLaw, ReturnBodyLaw}
+use Rattle.word_table.proofs.Decoded.{without_shown, home_shown, body_shown, still_shown, value_there, body_there}
 use Rattle.word_table.proofs.Rows.{count_rows, tasks_rows}
 use Rattle.word_table.proofs.Slotted.{sort_is, held_is, low_slot, quiet_out, took_out, took_else, gave_back, gave_else, left_out, left_else, came_back, came_else}
 
-lock_low : (sort : Sort) → lock_of sort < STRIDE
+pub lock_low : (sort : Sort) → lock_of sort < STRIDE
 lock_low OfTask = omega arith
 lock_low OfQueue = omega arith
 lock_low OfWorks = omega arith
@@ -152,15 +155,15 @@ module _ {B : Type 0} (lasting : B → List ℕ) (ended_of : B → Bool) (key : 
       subst (λ (z : List ℕ × Homes × (ℕ → List Rec)). Kept key.shape (words_of z.0) z.1 z.2) (λ l. (sym (set-get_or s.words i 0) l, sym (still_shown s.homes r.ended j h fits a b) l, sym (put_id r.trace k tr is) l)) r.inv
 
   -- an empty slot is put down
-  pub may_lay : (slots id k i j : ℕ) (known : Known) (tr : List Rec) → j < SLOTS * rows_of key.shape
-      → Allows (R lasting ended_of key) slots id (holding known k tr j Empty) i (λ x. x) (lain (step slots i 0 0 none) (holding known k tr j Empty))
-  may_lay slots id k i j known tr lt s r deep at _ = let m = mine lasting ended_of key s r id k known tr (suc j) at in let room : j < length s.homes = (let d = r.deep in omega (arith, d, lt)) in
+  pub may_lay : (slots id k i n c : ℕ) (known : Known) (tr : List Rec) → n < rows_of key.shape → c < SLOTS
+      → Allows (R lasting ended_of key) slots id (holding known k tr (slot_at n c) Empty) i (λ x. x) (lain (step slots i 0 0 none) (holding known k tr (slot_at n c) Empty))
+  may_lay slots id k i n c known tr lt low s r deep at _ = let j : ℕ = slot_at n c in let m = mine lasting ended_of key s r id k known tr (suc j) at in let room : j < length s.homes = in_homes s r n c lt low in
       let was = r.slots j k m.near (r.hands j k m.near (sym m.hand_is)) in
       let gone : get_elem? s.homes j ≡ some none = ⊎_elim (λ z. z.1) (λ z. absurd (z.0 (sym m.hand_is))) was.lies in (
         one known (part k tr 0),
         gives,
         tt,
-        downs lasting ended_of key s r id k known tr tr j i (get_or s.words i 0) Empty r.ended at room lt (λ o ne. refl) (λ out. refl) (λ u b e d. let no : Empty ≡ Body b = d in cc) (λ u ne. refl)
+        downs lasting ended_of key s r id k known tr tr j i (get_or s.words i 0) Empty r.ended at room (before_room n c lt low) (λ o ne. refl) (λ out. refl) (λ u b e d. let no : Empty ≡ Body b = d in cc) (λ u ne. refl)
             (still_kept s r k i j (some Empty) tr m.trace_is room (sym (ap val_in gone)) (sym (ap has_body gone))),
         refl,
       )
@@ -188,88 +191,86 @@ module _ {B : Type 0} (lasting : B → List ℕ) (ended_of : B → Bool) (key : 
 
   -- The locks
 
-  module _ (free_law : FreeLaw) (take_law : TakeLaw) where
-    pub may_take : (slots id k : ℕ) (sort : Sort) (n : ℕ) (known : Known) (tr : List Rec) → n < count_of sort key.shape
-        → Allows (R lasting ended_of key) slots id (sat known k tr) (word_at n (lock_of sort)) (λ x. either (eqb x 0) (suc k) x) (took sort (step slots (word_at n (lock_of sort)) 0 (suc k) none) (sat known k tr))
-    may_take slots id k sort n known tr lt s r deep at _ = let m = mine lasting ended_of key s r id k known tr 0 at in let i : ℕ = word_at n (lock_of sort) in let x : ℕ = get_or s.words i 0 in let j : ℕ = slot_at n (slot_of sort) in
-        let says = took sort (step slots i 0 (suc k) none) (sat known k tr) in let homes = homes_of s.homes r.ended in
-        let row : n < rows_of key.shape = (let h = count_rows sort key.shape in omega (arith, lt, h)) in let room : j < length s.homes = in_homes s r n (slot_of sort) row (low_slot sort) in
-        exchanged x 0 (suc k) (Goes s i id (sat known k tr) says)
-        (λ hit. let free : words_of s.words n (lock_of sort) ≡ 0 = word_seen s.words n (lock_of sort) (lock_low sort) ∙ hit in
-        let there = free_law sort key.shape (words_of s.words) homes r.trace n r.inv lt free in let v : Val = there.0 in let lies = home_there sort s.homes r.ended n v there.1 in (
-          one known (part k (Took n v ∷ tr) (suc j)),
-          takes j (Held v),
-          lies,
-          ups lasting ended_of key s r id k known tr (Took n v ∷ tr) j i (suc k) at room (before_room n (slot_of sort) row (low_slot sort)) (took_else sort n v there.2 tr) (took_out sort n v there.2 tr)
-              (λ q near other out. at_home s r j q (Held v) lies (λ e. let no : Empty ≡ Held v = e in cc) near out)
-              (subst (λ (z : (ℕ → ℕ → ℕ) × Homes × List Rec). Kept key.shape z.0 z.1 (put r.trace k (Took n v ∷ z.2)))
-              (λ h. (sym (words_of-set s.words n (lock_of sort) (suc k) (lock_low sort) (in_words s r n (lock_of sort) row (lock_low sort))) h, sym (without_shown s.homes r.ended sort n room) h, sym m.trace_is h))
-              (take_law sort key.shape (words_of s.words) homes r.trace k n v r.inv m.near lt free there.1)),
-          λ u same. let e : n ≡ u = omega (arith, same) in ((λ _. (v, there.2, ap (λ (z : ℕ). lift (slot_at z (slot_of sort)) (Held v) (push (Took z v) (sat known k tr))) e)), λ miss. absurd (miss hit)),
-        ))
-        (λ miss. stands s r i id (sat known k tr) says at (λ u same. ((λ hit. absurd (miss hit)), λ _. refl)))
+  pub may_take : (slots id k : ℕ) (sort : Sort) (n : ℕ) (known : Known) (tr : List Rec) → n < count_of sort key.shape
+      → Allows (R lasting ended_of key) slots id (sat known k tr) (word_at n (lock_of sort)) (λ x. either (eqb x 0) (suc k) x) (took sort (step slots (word_at n (lock_of sort)) 0 (suc k) none) (sat known k tr))
+  may_take slots id k sort n known tr lt s r deep at _ = let m = mine lasting ended_of key s r id k known tr 0 at in let i : ℕ = word_at n (lock_of sort) in let x : ℕ = get_or s.words i 0 in let j : ℕ = slot_at n (slot_of sort) in
+      let says = took sort (step slots i 0 (suc k) none) (sat known k tr) in let homes = homes_of s.homes r.ended in
+      let row : n < rows_of key.shape = (let h = count_rows sort key.shape in omega (arith, lt, h)) in let room : j < length s.homes = in_homes s r n (slot_of sort) row (low_slot sort) in
+      exchanged x 0 (suc k) (Goes s i id (sat known k tr) says)
+      (λ hit. let free : words_of s.words n (lock_of sort) ≡ 0 = word_seen s.words n (lock_of sort) (lock_low sort) ∙ hit in
+      let there = home_there sort key.shape (words_of s.words) homes r.trace n r.inv lt free in let v : Val = there.0 in let lies = value_there sort s.homes r.ended n v there.1 in
+      let tells : (u : ℕ) → n ≡ u → TakeTold known.shape k tr sort u v =
+      λ u e. subst (λ (z : Known × List Rec × ℕ). TakeTold z.0.shape k z.1 sort z.2 v) (λ h. (sym m.known_is h, sym m.trace_is h, e h)) (take_told key.shape (words_of s.words) homes r.trace k r.inv sort n v there.1) in (
+        one known (part k (Took n v ∷ tr) (suc j)),
+        takes j (Held v),
+        lies,
+        ups lasting ended_of key s r id k known tr (Took n v ∷ tr) j i (suc k) at room (before_room n (slot_of sort) row (low_slot sort)) (took_else sort n v there.2 tr) (took_out sort n v there.2 tr)
+            (λ q near other out. at_home s r j q (Held v) lies (λ e. let no : Empty ≡ Held v = e in cc) near out)
+            (subst (λ (z : (ℕ → ℕ → ℕ) × Homes × List Rec). Kept key.shape z.0 z.1 (put r.trace k (Took n v ∷ z.2)))
+            (λ h. (sym (words_of-set s.words n (lock_of sort) (suc k) (lock_low sort) (in_words s r n (lock_of sort) row (lock_low sort))) h, sym (without_shown s.homes r.ended sort n room) h, sym m.trace_is h))
+            (take_law sort key.shape (words_of s.words) homes r.trace k n v r.inv m.near lt free there.1)),
+        λ u same. let e : n ≡ u = omega (arith, same) in ((λ _. (v, there.2, tells u e, ap (λ (z : ℕ). lift (slot_at z (slot_of sort)) (Held v) (push (Took z v) (sat known k tr))) e)), λ miss. absurd (miss hit)),
+      ))
+      (λ miss. stands s r i id (sat known k tr) says at (λ u same. ((λ hit. absurd (miss hit)), λ _. refl)))
 
-  module _ (give_law : GiveLaw) where
-    pub may_give : (slots id k : ℕ) (sort : Sort) (n : ℕ) (known : Known) (tr : List Rec) (v w : Val) → n < count_of sort key.shape → held_of sort tr n ≡ Some v → MayGive k tr key.shape sort n w
-        → Allows (R lasting ended_of key) slots id (holding known k tr (slot_at n (slot_of sort)) (Held w)) (word_at n (lock_of sort)) (λ _. 0) (λ _. gave sort (step slots (word_at n (lock_of sort)) 0 0 none) (holding known k tr (slot_at n (slot_of sort)) (Held w)) 0)
-    may_give slots id k sort n known tr v w lt has may s r deep at _ = let j : ℕ = slot_at n (slot_of sort) in let i : ℕ = word_at n (lock_of sort) in let m = mine lasting ended_of key s r id k known tr (suc j) at in
-        let homes = homes_of s.homes r.ended in let row : n < rows_of key.shape = (let h = count_rows sort key.shape in omega (arith, lt, h)) in let room : j < length s.homes = in_homes s r n (slot_of sort) row (low_slot sort) in
-        let is = sort_is sort w (given_is k tr key.shape sort n w may) in let of = held_is sort tr n v has in
-        let shown : homes_of (set s.homes j (some (Held w))) r.ended ≡ with_home n w homes =
-        ap (λ (z : Sort). homes_of (set s.homes (slot_at n (slot_of z)) (some (Held w))) r.ended) is ∙ home_shown s.homes r.ended n w (subst (λ (z : Sort). slot_at n (slot_of z) < length s.homes) is room) in (
-          one known (part k (Gave n v w ∷ tr) 0),
-          gives,
-          tt,
-          downs lasting ended_of key s r id k known tr (Gave n v w ∷ tr) j i 0 (Held w) r.ended at room (before_room n (slot_of sort) row (low_slot sort)) (gave_else sort n v of w tr)
-              (λ out. let no : false ≡ true = sym (gave_back sort n v of w tr) ∙ out in cc) (λ u b e d. let no : Held w ≡ Body b = d in cc) (λ u ne. refl)
-              (subst (λ (z : (ℕ → ℕ → ℕ) × Homes × List Rec). Kept key.shape z.0 z.1 (put r.trace k (Gave n v w ∷ z.2)))
-              (λ h. (sym (words_of-set s.words n (lock_of sort) 0 (lock_low sort) (in_words s r n (lock_of sort) row (lock_low sort))) h, sym shown h, sym m.trace_is h))
-              (give_law sort key.shape (words_of s.words) homes r.trace k n v w r.inv m.near lt (ap (λ (z : List Rec). held_of sort z n) (sym m.trace_is) ∙ has) (subst (λ (z : List Rec). MayGive k z key.shape sort n w) m.trace_is may))),
-          λ u v' w' same has' holds. let e : n ≡ u = omega (arith, same) in
-              let a : Some v ≡ Some v' = sym has ∙ (ap (λ (z : ℕ). held_of sort tr z) e ∙ has') in let b : v ≡ v' = cc in
-              let x : Slot B = Held w in let y : Slot B = Held w' in let c : x ≡ y = ap (λ (z : List (ℕ × Slot B)). slot_in z) holds in let d : w ≡ w' = cc in
-              λ h. lay (push (Gave (e h) (b h) (d h)) (holding known k tr j (Held w))),
-        )
+  pub may_give : (slots id k : ℕ) (sort : Sort) (n : ℕ) (known : Known) (tr : List Rec) (v w : Val) → n < count_of sort key.shape → held_of sort tr n ≡ Some v → MayGive k tr key.shape sort n w
+      → Allows (R lasting ended_of key) slots id (holding known k tr (slot_at n (slot_of sort)) (Held w)) (word_at n (lock_of sort)) (λ _. 0) (λ _. gave sort (step slots (word_at n (lock_of sort)) 0 0 none) (holding known k tr (slot_at n (slot_of sort)) (Held w)) 0)
+  may_give slots id k sort n known tr v w lt has may s r deep at _ = let j : ℕ = slot_at n (slot_of sort) in let i : ℕ = word_at n (lock_of sort) in let m = mine lasting ended_of key s r id k known tr (suc j) at in
+      let homes = homes_of s.homes r.ended in let row : n < rows_of key.shape = (let h = count_rows sort key.shape in omega (arith, lt, h)) in let room : j < length s.homes = in_homes s r n (slot_of sort) row (low_slot sort) in
+      let is = sort_is sort w (given_is k tr key.shape sort n w may) in let of = held_is sort tr n v has in
+      let shown : homes_of (set s.homes j (some (Held w))) r.ended ≡ with_home n w homes =
+      ap (λ (z : Sort). homes_of (set s.homes (slot_at n (slot_of z)) (some (Held w))) r.ended) is ∙ home_shown s.homes r.ended n w (subst (λ (z : Sort). slot_at n (slot_of z) < length s.homes) is room) in (
+        one known (part k (Gave n v w ∷ tr) 0),
+        gives,
+        tt,
+        downs lasting ended_of key s r id k known tr (Gave n v w ∷ tr) j i 0 (Held w) r.ended at room (before_room n (slot_of sort) row (low_slot sort)) (gave_else sort n v of w tr)
+            (λ out. let no : false ≡ true = sym (gave_back sort n v of w tr) ∙ out in cc) (λ u b e d. let no : Held w ≡ Body b = d in cc) (λ u ne. refl)
+            (subst (λ (z : (ℕ → ℕ → ℕ) × Homes × List Rec). Kept key.shape z.0 z.1 (put r.trace k (Gave n v w ∷ z.2)))
+            (λ h. (sym (words_of-set s.words n (lock_of sort) 0 (lock_low sort) (in_words s r n (lock_of sort) row (lock_low sort))) h, sym shown h, sym m.trace_is h))
+            (give_law sort key.shape (words_of s.words) homes r.trace k n v w r.inv m.near lt (ap (λ (z : List Rec). held_of sort z n) (sym m.trace_is) ∙ has) (subst (λ (z : List Rec). MayGive k z key.shape sort n w) m.trace_is may))),
+        λ u v' w' same has' holds. let e : n ≡ u = omega (arith, same) in
+            let a : Some v ≡ Some v' = sym has ∙ (ap (λ (z : ℕ). held_of sort tr z) e ∙ has') in let b : v ≡ v' = cc in
+            let x : Slot B = Held w in let y : Slot B = Held w' in let c : x ≡ y = ap (λ (z : List (ℕ × Slot B)). slot_in z) holds in let d : w ≡ w' = cc in
+            λ h. lay (push (Gave (e h) (b h) (d h)) (holding known k tr j (Held w))),
+      )
 
   -- Bodies
 
-  module _ (take_body_law : TakeBodyLaw) where
-    pub may_leave : (slots id k t : ℕ) (known : Known) (tr : List Rec) → t < key.shape.tasks → MayTakeBody k tr t
-        → Allows (R lasting ended_of key) slots id (sat known k tr) (word_at t BODY) (λ x. x) (left lasting ended_of (step slots (word_at t BODY) 0 0 none) (sat known k tr))
-    may_leave slots id k t known tr lt may s r deep at _ = let m = mine lasting ended_of key s r id k known tr 0 at in let i : ℕ = word_at t BODY in let j : ℕ = slot_at t BODY_SLOT in
-        let homes = homes_of s.homes r.ended in let row : t < rows_of key.shape = (let h = tasks_rows key.shape in omega (arith, lt, h)) in let room : j < length s.homes = in_homes s r t BODY_SLOT row (omega arith) in
-        let law = take_body_law key.shape (words_of s.words) homes r.trace k t r.inv m.near lt (subst (λ (z : List Rec). MayTakeBody k z t) m.trace_is may) in
-        let there = body_there (get_elem? s.homes j) law.0 in let b : B = there.0 in let is = r.bodies t b there.1 in (
-          one known (part k (OutBody t (ended_of b) ∷ tr) (suc j)),
-          takes j (Body b),
-          there.1,
-          ups lasting ended_of key s r id k known tr (OutBody t (ended_of b) ∷ tr) j i (get_or s.words i 0) at room (before_room t BODY_SLOT row (omega arith)) (left_else t (ended_of b) tr may.home) (left_out t (ended_of b) tr)
-              (λ q near other out. at_home s r j q (Body b) there.1 (λ e. let no : Empty ≡ Body b = e in cc) near out)
-              (subst (λ (z : List ℕ × Homes × List Rec × Bool). Kept key.shape (words_of z.0) z.1 (put r.trace k (OutBody t z.3 ∷ z.2)))
-              (λ h. (sym (set-get_or s.words i 0) h, sym (body_shown s.homes r.ended t none room) h, sym m.trace_is h, sym is.ends h)) law.1),
-          λ u same. let e : t ≡ u = omega (arith, same) in (
-            b,
-            ap (λ (z : ℕ). lift (slot_at z BODY_SLOT) (Body b) (push (OutBody z (ended_of b)) (sat known k tr))) e,
-            is.lasts ∙ ap (λ (z : Known). slice_index_or z.lasting t []) (sym m.known_is) ∙ ap (λ (z : ℕ). slice_index_or known.lasting z []) e,
-          ),
-        )
+  pub may_leave : (slots id k t : ℕ) (known : Known) (tr : List Rec) → t < key.shape.tasks → MayTakeBody k tr t
+      → Allows (R lasting ended_of key) slots id (sat known k tr) (word_at t BODY) (λ x. x) (left lasting ended_of (step slots (word_at t BODY) 0 0 none) (sat known k tr))
+  may_leave slots id k t known tr lt may s r deep at _ = let m = mine lasting ended_of key s r id k known tr 0 at in let i : ℕ = word_at t BODY in let j : ℕ = slot_at t BODY_SLOT in
+      let homes = homes_of s.homes r.ended in let row : t < rows_of key.shape = (let h = tasks_rows key.shape in omega (arith, lt, h)) in let room : j < length s.homes = in_homes s r t BODY_SLOT row (omega arith) in
+      let law = take_body_law key.shape (words_of s.words) homes r.trace k t r.inv m.near lt (subst (λ (z : List Rec). MayTakeBody k z t) m.trace_is may) in
+      let there = body_there (get_elem? s.homes j) law.0 in let b : B = there.0 in let is = r.bodies t b there.1 in (
+        one known (part k (OutBody t (ended_of b) ∷ tr) (suc j)),
+        takes j (Body b),
+        there.1,
+        ups lasting ended_of key s r id k known tr (OutBody t (ended_of b) ∷ tr) j i (get_or s.words i 0) at room (before_room t BODY_SLOT row (omega arith)) (left_else t (ended_of b) tr may.home) (left_out t (ended_of b) tr)
+            (λ q near other out. at_home s r j q (Body b) there.1 (λ e. let no : Empty ≡ Body b = e in cc) near out)
+            (subst (λ (z : List ℕ × Homes × List Rec × Bool). Kept key.shape (words_of z.0) z.1 (put r.trace k (OutBody t z.3 ∷ z.2)))
+            (λ h. (sym (set-get_or s.words i 0) h, sym (body_shown s.homes r.ended t none room) h, sym m.trace_is h, sym is.ends h)) law.1),
+        λ u same. let e : t ≡ u = omega (arith, same) in (
+          b,
+          ap (λ (z : ℕ). lift (slot_at z BODY_SLOT) (Body b) (push (OutBody z (ended_of b)) (sat known k tr))) e,
+          is.lasts ∙ ap (λ (z : Known). slice_index_or z.lasting t []) (sym m.known_is) ∙ ap (λ (z : ℕ). slice_index_or known.lasting z []) e,
+        ),
+      )
 
-  module _ (return_body_law : ReturnBodyLaw) where
-    pub may_come : (slots id k t : ℕ) (known : Known) (tr : List Rec) (b : B) → t < key.shape.tasks → MayReturnBody k tr t (ended_of b) → lasting b ≡ slice_index_or (lastings lasting key) t []
-        → Allows (R lasting ended_of key) slots id (holding known k tr (slot_at t BODY_SLOT) (Body b)) (word_at t BODY) (λ x. x) (came ended_of (step slots (word_at t BODY) 0 0 none) (holding known k tr (slot_at t BODY_SLOT) (Body b)))
-    may_come slots id k t known tr b lt may lasts s r deep at _ = let i : ℕ = word_at t BODY in let j : ℕ = slot_at t BODY_SLOT in let m = mine lasting ended_of key s r id k known tr (suc j) at in
-        let homes = homes_of s.homes r.ended in let row : t < rows_of key.shape = (let h = tasks_rows key.shape in omega (arith, lt, h)) in let room : j < length s.homes = in_homes s r t BODY_SLOT row (omega arith) in
-        let law = return_body_law key.shape (words_of s.words) homes r.trace k t (ended_of b) r.inv m.near lt (subst (λ (z : List Rec). MayReturnBody k z t (ended_of b)) m.trace_is may) in
-        let ended' : ℕ → Bool = put r.ended t (ended_of b) in (
-          one known (part k (HomeBody t (ended_of b) ∷ tr) 0),
-          gives,
-          tt,
-          downs lasting ended_of key s r id k known tr (HomeBody t (ended_of b) ∷ tr) j i (get_or s.words i 0) (Body b) ended' at room (before_room t BODY_SLOT row (omega arith)) (came_else t (ended_of b) tr may.out)
-              (λ out. let no : false ≡ true = sym (came_back t (ended_of b) tr) ∙ out in cc)
-              (λ u c e d. let e' : t ≡ u = omega (arith, e) in let d' : b ≡ c = cc in subst (λ (z : ℕ × B). IsBody lasting key ended_of ended' z.0 z.1) (λ h. (e' h, d' h)) record { lasts = lasts; ends = sym (put_there r.ended t (ended_of b) t refl) })
-              (λ u ne. sym (put_other r.ended t (ended_of b) u (λ e. ne (omega (arith, e)))))
-              (subst (λ (z : List ℕ × Homes × List Rec). Kept key.shape (words_of z.0) z.1 (put r.trace k (HomeBody t (ended_of b) ∷ z.2)))
-              (λ h. (sym (set-get_or s.words i 0) h, sym (body_shown s.homes ended' t (some (Body b)) room) h, sym m.trace_is h)) law.1),
-          λ u c same holds. let e : t ≡ u = omega (arith, same) in let d : Body b ≡ Body c = ap (λ (z : List (ℕ × Slot B)). slot_in z) holds in let d' : b ≡ c = cc in
-              λ h. lay (push (HomeBody (e h) (ended_of (d' h))) (holding known k tr j (Body b))),
-        )
+  pub may_come : (slots id k t : ℕ) (known : Known) (tr : List Rec) (b : B) → t < key.shape.tasks → MayReturnBody k tr t (ended_of b) → lasting b ≡ slice_index_or (lastings lasting key) t []
+      → Allows (R lasting ended_of key) slots id (holding known k tr (slot_at t BODY_SLOT) (Body b)) (word_at t BODY) (λ x. x) (came ended_of (step slots (word_at t BODY) 0 0 none) (holding known k tr (slot_at t BODY_SLOT) (Body b)))
+  may_come slots id k t known tr b lt may lasts s r deep at _ = let i : ℕ = word_at t BODY in let j : ℕ = slot_at t BODY_SLOT in let m = mine lasting ended_of key s r id k known tr (suc j) at in
+      let homes = homes_of s.homes r.ended in let row : t < rows_of key.shape = (let h = tasks_rows key.shape in omega (arith, lt, h)) in let room : j < length s.homes = in_homes s r t BODY_SLOT row (omega arith) in
+      let law = return_body_law key.shape (words_of s.words) homes r.trace k t (ended_of b) r.inv m.near lt (subst (λ (z : List Rec). MayReturnBody k z t (ended_of b)) m.trace_is may) in
+      let ended' : ℕ → Bool = put r.ended t (ended_of b) in (
+        one known (part k (HomeBody t (ended_of b) ∷ tr) 0),
+        gives,
+        tt,
+        downs lasting ended_of key s r id k known tr (HomeBody t (ended_of b) ∷ tr) j i (get_or s.words i 0) (Body b) ended' at room (before_room t BODY_SLOT row (omega arith)) (came_else t (ended_of b) tr may.out)
+            (λ out. let no : false ≡ true = sym (came_back t (ended_of b) tr) ∙ out in cc)
+            (λ u c e d. let e' : t ≡ u = omega (arith, e) in let d' : b ≡ c = cc in subst (λ (z : ℕ × B). IsBody lasting key ended_of ended' z.0 z.1) (λ h. (e' h, d' h)) record { lasts = lasts; ends = sym (put_there r.ended t (ended_of b) t refl) })
+            (λ u ne. sym (put_other r.ended t (ended_of b) u (λ e. ne (omega (arith, e)))))
+            (subst (λ (z : List ℕ × Homes × List Rec). Kept key.shape (words_of z.0) z.1 (put r.trace k (HomeBody t (ended_of b) ∷ z.2)))
+            (λ h. (sym (set-get_or s.words i 0) h, sym (body_shown s.homes ended' t (some (Body b)) room) h, sym m.trace_is h)) law.1),
+        λ u c same holds. let e : t ≡ u = omega (arith, same) in let d : Body b ≡ Body c = ap (λ (z : List (ℕ × Slot B)). slot_in z) holds in let d' : b ≡ c = cc in
+            λ h. lay (push (HomeBody (e h) (ended_of (d' h))) (holding known k tr j (Body b))),
+      )

@@ -1,3 +1,5 @@
+pub mod Begin
+pub mod End
 pub mod Layout
 pub mod Outs
 pub mod Parts

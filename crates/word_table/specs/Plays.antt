@@ -3,6 +3,7 @@ use Rattle.std.specs.Prelude.{◌≡◌, ◌≢◌, ℕ, suc, ◌+◌, ◌%◌, 
 use Rattle.atomic_table.specs.Table.{Me, Step, rest}
 use Rattle.handoff_data.specs.declared.shape.Shape.{Shape}
 use Rattle.word_rule.specs.Sorts.{Sort, lock_of, held_of, IsOf}
+use Rattle.word_rule.specs.Told.{TakeTold}
 use Rattle.word_steps.specs.Records.{Rec, Took, Gave, OutBody, HomeBody}
 use Rattle.word_steps.specs.Words.{BODY}
 use Rattle.word_steps.specs.declared.val.Val.{Val}
@@ -75,7 +76,7 @@ module _ {B : Type 0} where
   abbrev pub took : Sort → Step (Slot B) → Sat B → ℕ → Sat B → Type 0
   took sort st m x m' =
       (n : ℕ) → st.word ≡ word_at n (lock_of sort)
-      → (x ≡ 0 → (v : Val) × IsOf sort v × (m' ≡ lift (slot_at n (slot_of sort)) (Held v) (push (Took n v) m))) × (x ≢ 0 → m' ≡ m)
+      → (x ≡ 0 → (v : Val) × IsOf sort v × TakeTold m.0.known.shape (seat_in m.0.parts) (trace_in m.0.parts) sort n v × (m' ≡ lift (slot_at n (slot_of sort)) (Held v) (push (Took n v) m))) × (x ≢ 0 → m' ≡ m)
 
   abbrev pub gave : Sort → Step (Slot B) → Sat B → ℕ → Sat B → Type 0
   gave sort st m x m' =

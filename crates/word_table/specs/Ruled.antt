@@ -118,6 +118,8 @@ module _ {B : Type 0} (lasting : B → List ℕ) where
       pub keeper : ℕ → ℕ
       -- which bodies have ended
       pub ended : ℕ → Bool
+      -- numbers past the seats did nothing
+      pub bare : (q : ℕ) → key.shape.cpus + key.shape.agents ≤ q → trace q ≡ []
       pub wide : length s.words ≡ STRIDE * rows_of key.shape
       pub deep : length s.homes ≡ SLOTS * rows_of key.shape + 1
       pub room : IsRoomed key.shape.tasks (get_elem? s.homes (SLOTS * rows_of key.shape))

@@ -15,6 +15,10 @@ trace_of (v ∷ vs) = trace_in v.parts
 abbrev pub no_shape : Shape
 no_shape = record { cpus = 0; caches = 0; tasks = 0; conds = 0; agents = 0 }
 
+-- the view of a seat that was joined into another
+abbrev pub spent : View
+spent = record { parts = []; known = record { shape = no_shape; lasting = [] } }
+
 abbrev pub known_in : List View → Known
 known_in [] = record { shape = no_shape; lasting = [] }
 known_in (v ∷ vs) = v.known

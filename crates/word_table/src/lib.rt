@@ -2,16 +2,21 @@
 //! kinds of step stand in the crate above, each with its law.
 #![tactic(auto)]
 
+mod carrying;
 mod kind;
+mod layout;
+mod life;
 mod lock;
 mod plays;
 mod rule;
 mod slot;
 mod steps;
 mod token;
+mod values;
 mod view;
 mod words;
 
+pub use carrying::{body_home, body_out, give, take};
 pub use kind::Kind;
 pub use lock::{Lock, QueueLock, TaskLock, WaitLock, WorksLock};
 pub use slot::Kept;

@@ -2,13 +2,15 @@
 ghost use Rattle.word_rule.specs.Sorts.{lock_of};
 ghost use Rattle.word_steps.specs.Words.{BODY};
 ghost use Rattle.word_table.specs.Layout.{slot_of, BODY_SLOT};
-ghost use Rattle.word_table.specs.Plays.{loaded, added, stored, tried, took, lain, lifted, gave, left, came};
+ghost use Rattle.word_table.specs.Plays.{loaded, added, stored, tried, took, lain, lifted, gave, left, came, entered};
+ghost use Rattle.word_table.specs.Ruled.{but_first, first_alone, joined};
+ghost use Rattle.word_table.specs.Shown.{spent};
 
 use crate::kind::Kind;
 use crate::lock::Lock;
 use crate::slot::{Kept, Slot};
 use crate::view::View;
-use atomic_table::Play;
+use atomic_table::{Join, Play, Split};
 use std::marker::PhantomData;
 
 pub struct Loads<K> {
@@ -94,4 +96,29 @@ pub struct Come;
 
 impl<B: Kept> Play<Slot<B>, View> for Come {
     ghost then = { came B.ended };
+}
+
+/// Splits the first part off a seat's view.
+pub struct Deal;
+
+impl Split<View> for Deal {
+    ghost left = { but_first };
+
+    ghost right = { first_alone };
+}
+
+/// Joins the parts of two seats.
+pub struct Gather;
+
+impl Join<View> for Gather {
+    ghost both = { joined };
+
+    ghost spent = { spent };
+}
+
+/// A seat with no part.
+pub struct Enter;
+
+impl<B> Play<Slot<B>, View> for Enter {
+    ghost then = { entered };
 }
