@@ -14,5 +14,9 @@ impl<B: Kept> Model for Wk<B> {
 
     ghost Value = { WordsView };
 
+    ghost use Rattle.handoff_data.specs.Shape.{IsShape};
+
     ghost view = { λ w. w.words };
+
+    ghost invariant = { λ w. IsShape w.words.shape };
 }

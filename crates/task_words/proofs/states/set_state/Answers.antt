@@ -1,23 +1,20 @@
-use Rattle.std.proofs.Common.{rules, ◌≡◌, ℕ, ◌<◌, ◌^◌, ◌∷◌, Some, unwrap_or, ◌+◌, ◌-◌, ◌*◌, ◌≤◌, length, ◌/◌, ◌%◌, Bool, true, false, nat_eq, nat_lt, List, [], ◌++◌, slice_index_or, slice_set, bit_and, bit_or, Fits, w8, w32, w64, Bor, MutBor}
-use Rattle.core_kinds.specs.Steps.{running}
-use Rattle.handoff_data.specs.declared.entry.Entry.TheVariants as entry
-use Rattle.task_words.specs.Views.{IsOf, IsSame, IsSameSeat, logged}
-use Rattle.task_words.specs.States.{IsOwnStore, IsWakeMask, tested}
-use Rattle.word_rule.specs.May.{MayClaimWord, MayReleaseWord, MayCpuWord, number_of}
-use Rattle.word_steps.specs.Folds.{current_task}
-use Rattle.word_table.specs.Views.{IsOf as IsTokenOf}
-use Rattle.word_table.specs.Views.{IsSame as IsSameToken}
-use Rattle.word_steps.specs.Records.{StoredOwn, Claimed, Released, StoredCpu, LoadedState}
+use Rattle.std.proofs.Common.{◌≡◌, ◌∙◌, ℕ, sym, subst, ap}
+use Rattle.std.specs.Prelude.{Option, Some, unwrap_or}
 use Rattle.task_words.proofs.states.set_state.Goals as goal
+use Rattle.task_words.specs.Views.{PassView}
+use Rattle.word_rule.specs.May.{MayOwnWord}
+use Rattle.word_steps.specs.Folds.{current_task}
 
--- src/states.rt:30:9
 pub unreachable-requires : goal.unreachable-requires
-unreachable-requires g c = ?
+unreachable-requires g c =
+    c.in_default.not-Some c.requires.may.0
+    (c.pass.invariant.current ∙ subst (λ (p : PassView). current_task p.seat p.trace ≡ Some c.requires.may.0) (sym c.pass.view_is) (c.requires.may.1 0).current)
 
--- src/states.rt:32:5
-pub store-requires-clause-row : goal.store-requires-clause-row
-store-requires-clause-row g c κs within = ?
-
--- src/states.rt:32:5
 pub store-requires-clause-may : goal.store-requires-clause-may
-store-requires-clause-may g c κs within = ?
+store-requires-clause-may g c κs within =
+    let named : current_task c.pass.inside.token.seat c.pass.inside.token.trace ≡ Some c.requires.may.0 =
+      subst (λ (p : PassView). current_task p.seat p.trace ≡ Some c.requires.may.0) (sym c.pass.view_is) (c.requires.may.1 0).current in
+    let same : c.requires.may.0 ≡ c.in-Some.t =
+      ap (λ (o : Option ℕ). unwrap_or o 0) (sym named ∙ sym c.pass.invariant.current ∙ c.in-Some.is) in
+    subst (λ (z : PassView × ℕ). (x : ℕ) → MayOwnWord z.0.seat z.0.trace z.1 x c.args.state.0)
+    (λ i. (sym c.pass.view_is i, same i)) c.requires.may.1
