@@ -9,6 +9,8 @@ pub(crate) const STRIDE: usize = 64;
 
 pub(crate) const SLOTS: usize = 6;
 
+/// The column of a task's body, of its word as of its slot.
+pub(crate) const BODY: usize = 1;
 /// The column of a task's state.
 pub(crate) const STATE: usize = 2;
 /// The column of a processor's epoch, which is odd while it is active.
