@@ -1,3 +1,4 @@
 pub mod Laying
 pub mod Opening
 pub mod Seats
+pub mod Tokens
