@@ -2,6 +2,7 @@
 //! kinds of step stand in the crate above, each with its law.
 #![tactic(auto)]
 
+mod close;
 mod kind;
 mod layout;
 mod life;
@@ -13,6 +14,7 @@ mod token;
 mod view;
 mod words;
 
+pub use close::Closed;
 pub use kind::Kind;
 pub use lock::{Lock, QueueLock, TaskLock, WaitLock, WorksLock};
 pub use slot::Kept;
