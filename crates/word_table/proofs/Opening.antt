@@ -40,12 +40,12 @@ chosen : {C D : Type 0} (F : C → D) (b : Bool) (x y : C) → F (if b then x el
 chosen F true x y = refl
 chosen F false x y = refl
 
-read_at : {A : Type 0} (l : List A) (i : ℕ) (a d : A) → get_elem? l i ≡ some a → get_or l i d ≡ a
+pub read_at : {A : Type 0} (l : List A) (i : ℕ) (a d : A) → get_elem? l i ≡ some a → get_or l i d ≡ a
 read_at [] i a d e = absurd (some-ne-none a (sym e))
 read_at (x ∷ xs) zero a d e = some-injective x a e
 read_at (x ∷ xs) (suc i) a d e = read_at xs i a d e
 
-within : {A : Type 0} (l : List A) (i : ℕ) (a : A) → get_elem? l i ≡ some a → i < length l
+pub within : {A : Type 0} (l : List A) (i : ℕ) (a : A) → get_elem? l i ≡ some a → i < length l
 within [] i a e = absurd (some-ne-none a (sym e))
 within (x ∷ xs) zero a e = omega arith
 within (x ∷ xs) (suc i) a e = let h = within xs i a e in omega arith

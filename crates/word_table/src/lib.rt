@@ -3,6 +3,7 @@
 #![tactic(auto)]
 
 mod carrying;
+mod close;
 mod kind;
 mod layout;
 mod life;
@@ -17,6 +18,7 @@ mod view;
 mod words;
 
 pub use carrying::{body_home, body_out, give, take};
+pub use close::Closed;
 pub use kind::Kind;
 pub use lock::{Lock, QueueLock, TaskLock, WaitLock, WorksLock};
 pub use slot::Kept;
