@@ -5,7 +5,7 @@ use Rattle.std.proofs.lemmas.List.FromFn.{length-range_with_len, get_or-range_wi
 use Rattle.atomic_table.specs.Seated.{TableId}
 use Rattle.handoff_data.specs.declared.shape.Shape.{Shape}
 use Rattle.word_table.specs.Begin.{new_token, first_tokens}
-use Rattle.word_table.specs.End.{HasEachSeat}
+use Rattle.word_table.specs.End.{HasEachSeat, IsIdle}
 use Rattle.word_table.specs.Views.{TokenView, IsFor}
 
 module _ (name : TableId) (shape : Shape) (lasting : List (List ℕ)) where
@@ -30,3 +30,20 @@ module _ (name : TableId) (shape : Shape) (lasting : List (List ℕ)) where
   firsts_each n = subst (HasEachSeat n) (sym (seats_are (range_with_len 0 n))) record {
     each = λ s lt. (s, omega (arith, length-range_with_len 0 n), get_or-range_with_len 0 n s s lt ∙ zero-add s);
   }
+
+  news_idle : (seats : List ℕ) → All IsIdle (map (new_token name shape lasting) seats)
+  news_idle [] k d lt = absurd (omega arith)
+  news_idle (s ∷ seats) zero d lt = record {
+    tasks = λ t. refl;
+    queues = λ c. refl;
+    works = λ c. refl;
+    waits = λ k. refl;
+    body = refl;
+    current = refl;
+    clear = refl;
+  }
+  news_idle (s ∷ seats) (suc k) d lt = news_idle seats k d (omega arith)
+
+  -- each is idle
+  pub firsts_idle : (n : ℕ) → All IsIdle (first_tokens name shape lasting n)
+  firsts_idle n = news_idle (range_with_len 0 n)

@@ -26,6 +26,7 @@ use handoff_data::State;
 use std::alloc::Global;
 
 /// What a table leaves: by task its body and its state, and by condition its counter.
+#[derive(Drop)]
 pub struct Closed<B> {
     pub bodies: Vec<B>,
     pub states: Vec<State>,

@@ -10,6 +10,8 @@ mod life;
 mod lock;
 mod plays;
 mod rule;
+#[cfg(test)]
+mod shape_tests;
 mod slot;
 mod steps;
 mod token;
