@@ -12,6 +12,8 @@ mod plays;
 mod rule;
 mod slot;
 mod steps;
+#[cfg(test)]
+mod thread_tests;
 mod token;
 mod values;
 mod view;
