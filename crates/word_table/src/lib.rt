@@ -14,6 +14,8 @@ mod rule;
 mod shape_tests;
 mod slot;
 mod steps;
+#[cfg(test)]
+mod thread_tests;
 mod token;
 mod values;
 mod view;
