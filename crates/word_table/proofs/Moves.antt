@@ -194,8 +194,9 @@ module _ {B : Type 0} (lasting : B → List ℕ) (ended_of : B → Bool) (key : 
   pub may_take : (slots id k : ℕ) (sort : Sort) (n : ℕ) (known : Known) (tr : List Rec) → n < count_of sort key.shape
       → Allows (R lasting ended_of key) slots id (sat known k tr) (word_at n (lock_of sort)) (λ x. either (eqb x 0) (suc k) x) (took sort (step slots (word_at n (lock_of sort)) 0 (suc k) none) (sat known k tr))
   may_take slots id k sort n known tr lt s r deep at _ = let m = mine lasting ended_of key s r id k known tr 0 at in let i : ℕ = word_at n (lock_of sort) in let x : ℕ = get_or s.words i 0 in let j : ℕ = slot_at n (slot_of sort) in
-      let says = took sort (step slots i 0 (suc k) none) (sat known k tr) in let homes = homes_of s.homes r.ended in
+      let homes = homes_of s.homes r.ended in
       let row : n < rows_of key.shape = (let h = count_rows sort key.shape in omega (arith, lt, h)) in let room : j < length s.homes = in_homes s r n (slot_of sort) row (low_slot sort) in
+      let says = took sort (step slots i 0 (suc k) none) (sat known k tr) in
       exchanged x 0 (suc k) (Goes s i id (sat known k tr) says)
       (λ hit. let free : words_of s.words n (lock_of sort) ≡ 0 = word_seen s.words n (lock_of sort) (lock_low sort) ∙ hit in
       let there = home_there sort key.shape (words_of s.words) homes r.trace n r.inv lt free in let v : Val = there.0 in let lies = value_there sort s.homes r.ended n v there.1 in

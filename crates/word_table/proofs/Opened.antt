@@ -11,7 +11,7 @@ use Rattle.word_steps.specs.Words.{STRIDE}
 use Rattle.word_steps.specs.declared.val.Val.{Val}
 use Rattle.word_table.specs.Layout.{rows_of, word_at}
 use Rattle.word_table.specs.Parts.{Known}
-use Rattle.word_table.specs.Plays.{one, part, sat, holding, push, Sat}
+use Rattle.word_table.specs.Plays.{one, part, trace_in, seat_in, sat, holding, push, lift, lay, Sat}
 use Rattle.word_table.specs.Shown.{trace_of, known_in, token_view, IsToken}
 use Rattle.word_table.specs.Views.{TokenView, IsSame}
 use Rattle.word_table.specs.declared.slot.Slot.{Slot}
@@ -49,14 +49,25 @@ module _ {B : Type 0} where
   pub opened : (i : Inside) (p : TokenView) (views : List View) (m : Sat B) → IsToken i → token_view i ≡ p → views ≡ i.badge.views → views ≡ m.0 ∷ [] → m.1 ≡ [] → m ≡ sat (known_by p) p.seat p.trace
   opened i p views m is seen same at free = let e : m.0 ≡ one (known_by p) (part p.seat p.trace 0) = ap (first_of m.0) (sym at ∙ (same ∙ views_are i p is seen)) in λ j. (e j, free j)
 
-  pub closing : (i : Inside) (p : TokenView) (views' : List View) (name' : TableId) (m' : Sat B) (trace' : List Rec) → token_view i ≡ p → name' ≡ p.of → views' ≡ m'.0 ∷ [] → m' ≡ sat (known_by p) p.seat trace'
-      → Closing i p views' name' trace'
-  closing i p views' name' m' trace' seen name at is =
-      let e : views' ≡ made (known_by p) p.seat trace' = at ∙ ap (λ (z : Sat B). z.0 ∷ []) is in let same : i.seat ≡ p.seat = ap (λ (z : TokenView). z.seat) seen in record {
-        is = e ∙ λ j. made (sym (ap known_in e) j) (sym same j) (sym (ap trace_of e) j);
-        same = record { table = name; same_shape = ap (λ (z : List View). (known_in z).shape) e; same_lasting = ap (λ (z : List View). (known_in z).lasting) e; same_seat = same };
+  -- .. by the names of the table: of the badge, of the seat after and before, and of the badge that was opened
+  pub closing : (i : Inside) (p : TokenView) (views' : List View) (name' after before badge : TableId) (m' : Sat B) (trace' : List Rec) → token_view i ≡ p → name' ≡ after → after ≡ before → before ≡ badge → badge ≡ i.badge.table_id
+      → views' ≡ m'.0 ∷ [] → m' ≡ sat (known_by p) p.seat trace' → Closing i p views' name' trace'
+  closing i p views' name' after before badge m' trace' seen closed kept opens same at is =
+      let e : views' ≡ made (known_by p) p.seat trace' = at ∙ ap (λ (z : Sat B). z.0 ∷ []) is in let number : i.seat ≡ p.seat = ap (λ (z : TokenView). z.seat) seen in record {
+        is = e ∙ λ j. made (sym (ap known_in e) j) (sym number j) (sym (ap trace_of e) j);
+        same = record {
+          table = closed ∙ (kept ∙ (opens ∙ (same ∙ ap (λ (z : TokenView). z.of) seen)));
+          same_shape = ap (λ (z : List View). (known_in z).shape) e;
+          same_lasting = ap (λ (z : List View). (known_in z).lasting) e;
+          same_seat = number;
+        };
         trace_is = ap trace_of e;
       }
+
+  -- the seat with the record of its step
+  pub noted_from : (note : ℕ → List Rec → ℕ → ℕ → ℕ → Rec) (m m' : Sat B) (known : Known) (s : ℕ) (trace : List Rec) (n y x : ℕ) → m ≡ sat known s trace → m' ≡ push (note (seat_in m.0.parts) (trace_in m.0.parts) n y x) m
+      → m' ≡ sat known s (note s trace n y x ∷ trace)
+  noted_from note m m' known s trace n y x rest now = now ∙ λ h. push (note (seat_in (rest h).0.parts) (trace_in (rest h).0.parts) n y x) (rest h)
 
   -- the trace after one try
   pub tried_trace : (x old : ℕ) (m m' : Sat B) (F : ℕ → Type 0) (r : ℕ → Rec) (known : Known) (s : ℕ) (trace : List Rec) → m ≡ sat known s trace → (x ≡ old → F x × (m' ≡ push (r x) (sat known s trace))) × (x ≢ old → m' ≡ m)
@@ -76,6 +87,23 @@ module _ {B : Type 0} where
 
   pub in_hand : (m : Sat B) (known : Known) (s j : ℕ) (trace : List Rec) (y : Slot B) → m ≡ holding known s trace j y → m.1 ≡ (j, y) ∷ rest m.1
   in_hand m known s j trace y is = ap (λ (z : Sat B). z.1) is ∙ λ h. (j, y) ∷ rest (sym is h).1
+
+  -- the slot i = j comes into the hand of a seat at rest, without a record and with one
+  pub lifted_from : (m m' : Sat B) (known : Known) (s : ℕ) (trace : List Rec) (i j : ℕ) (x : Slot B) → m ≡ sat known s trace → m' ≡ lift j x m → i ≡ j → m' ≡ holding known s trace i x
+  lifted_from m m' known s trace i j x rest now same = now ∙ λ h. lift (sym same h) x (rest h)
+
+  pub took_from : (m m' : Sat B) (known : Known) (s : ℕ) (trace : List Rec) (i j : ℕ) (x : Slot B) (r : Rec) → m ≡ sat known s trace → m' ≡ lift j x (push r m) → i ≡ j → m' ≡ holding known s (r ∷ trace) i x
+  took_from m m' known s trace i j x r rest now same = now ∙ λ h. lift (sym same h) x (push r (rest h))
+
+  pub hand_at : (m : Sat B) (known : Known) (s : ℕ) (trace : List Rec) (i j : ℕ) (x : Slot B) → m ≡ holding known s trace i x → i ≡ j → m ≡ holding known s trace j x
+  hand_at m known s trace i j x is same = is ∙ λ h. holding known s trace (same h) x
+
+  -- the slot goes from the hand of a seat that was at rest as m, with the record before and with it
+  pub laid_from : (m m' m'' : Sat B) (known : Known) (s : ℕ) (trace : List Rec) (i : ℕ) (x : Slot B) (r : Rec) → m ≡ sat known s trace → m' ≡ holding known s (r ∷ trace) i x → m'' ≡ lay m' → m'' ≡ push r m
+  laid_from m m' m'' known s trace i x r rest had now = now ∙ (λ h. lay (had h)) ∙ λ h. push r (sym rest h)
+
+  pub gave_from : (m m' m'' : Sat B) (known : Known) (s : ℕ) (trace : List Rec) (i : ℕ) (x : Slot B) (r : Rec) → m ≡ sat known s trace → m' ≡ holding known s trace i x → m'' ≡ lay (push r m') → m'' ≡ push r m
+  gave_from m m' m'' known s trace i x r rest had now = now ∙ (λ h. lay (push r (had h))) ∙ λ h. push r (sym rest h)
 
   pub held_same : (v w : Val) → ◌≡◌ {A = Slot B} (Held v) (Held w) → v ≡ w
   held_same v w e = cc

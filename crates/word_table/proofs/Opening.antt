@@ -1,6 +1,6 @@
 -- The rule holds at the start.
 use Rattle.std.proofs.Common.{◌≡◌, ℕ, zero, suc, ◌+◌, ◌*◌, ◌%◌, ◌<◌, ◌≤◌, Bool, true, false, get_or, length, map, refl, sym, ap, ◌∙◌, subst, List, [], ◌∷◌, ◌⊎◌, inl, inr, lt-ltb, le-ltb, arith}
-use Rattle.std.specs.Prelude.{◌↔◌, slice_index_or, nat_lt, if◌then◌else◌, Vec}
+use Rattle.std.specs.Prelude.{◌↔◌, nat_lt, if◌then◌else◌, Vec}
 use Rattle.std.specs.Global.{Global}
 use Rattle.std.specs.List.{All}
 use Rattle.std.proofs.lemmas.Bool.{cases_eq, cases_lt}
@@ -23,10 +23,10 @@ use Rattle.word_steps.specs.Opening.{first_words, first_homes, first_val}
 use Rattle.word_steps.specs.Words.{STRIDE, words_of}
 use Rattle.word_steps.specs.declared.val.Val.TheVariants as val
 use Rattle.word_table.proofs.Laying.{past}
-use Rattle.word_table.specs.Begin.{body_slot, row, AreRows, IsLaid}
+use Rattle.word_table.specs.Begin.{body_slot, row, IsLaid}
 use Rattle.word_table.specs.Layout.{SLOTS, rows_of, slot_at}
 use Rattle.word_table.specs.Outs.{by_column, has_out}
-use Rattle.word_table.specs.Ruled.{Each, Fits, IsRoomed, task_of, queue_of, works_of, wait_of, val_in, has_body, homes_of, lastings, known_of, IsBody, Ruled, fresh, first_view}
+use Rattle.word_table.specs.Ruled.{Each, Fits, IsRoomed, task_of, queue_of, works_of, wait_of, val_in, has_body, homes_of, known_of, Ruled, fresh, first_view}
 use Rattle.word_table.specs.declared.slot.Key.{Key}
 use Rattle.word_table.specs.declared.slot.Slot.{Slot}
 use Rattle.word_table.specs.declared.slot.Slot.TheVariants.{Empty, Held, Body, Room}
@@ -40,12 +40,12 @@ chosen : {C D : Type 0} (F : C → D) (b : Bool) (x y : C) → F (if b then x el
 chosen F true x y = refl
 chosen F false x y = refl
 
-read_at : {A : Type 0} (l : List A) (i : ℕ) (a d : A) → get_elem? l i ≡ some a → get_or l i d ≡ a
+pub read_at : {A : Type 0} (l : List A) (i : ℕ) (a d : A) → get_elem? l i ≡ some a → get_or l i d ≡ a
 read_at [] i a d e = absurd (some-ne-none a (sym e))
 read_at (x ∷ xs) zero a d e = some-injective x a e
 read_at (x ∷ xs) (suc i) a d e = read_at xs i a d e
 
-within : {A : Type 0} (l : List A) (i : ℕ) (a : A) → get_elem? l i ≡ some a → i < length l
+pub within : {A : Type 0} (l : List A) (i : ℕ) (a : A) → get_elem? l i ≡ some a → i < length l
 within [] i a e = absurd (some-ne-none a (sym e))
 within (x ∷ xs) zero a e = omega arith
 within (x ∷ xs) (suc i) a e = let h = within xs i a e in omega arith

@@ -1,6 +1,5 @@
 -- How seats are dealt and gathered.
 use Rattle.std.proofs.Common.{◌≡◌, ◌≢◌, ℕ, zero, suc, ◌+◌, ◌<◌, set, length, length-set, refl, sym, ap, ◌∙◌, subst, List, [], ◌∷◌, ◌++◌, ◌⊎◌, inl, inr, ⊎_elim, Bool, arith}
-use mathlib.Core.Logic.{dite}
 use mathlib.Core.Option.{none, some, some-injective, some-ne-none}
 use native.Mathlib.Decide.{ℕ_discrete}
 use lib.ListN.{get_elem?}
@@ -9,7 +8,7 @@ use Rattle.atomic_table.proofs.Lists.{at_set, set_else}
 use Rattle.core_data.specs.Table.{put}
 use Rattle.core_stores.proofs.Columns.{put_there, put_other}
 use Rattle.word_steps.specs.Records.{Rec}
-use Rattle.word_table.specs.Parts.{Part, Known}
+use Rattle.word_table.specs.Parts.{Part}
 use Rattle.word_table.specs.Plays.{entered}
 use Rattle.word_table.specs.Ruled.{Each, Fits, known_of, Ruled, fresh, first_view, but_first, first_alone, joined}
 use Rattle.word_table.specs.Shown.{spent}

@@ -1,5 +1,5 @@
 -- How a table ends.
-use Rattle.std.specs.Prelude.{◌≡◌, ◌<◌, ◌≤◌, ℕ, Vec, ◌==◌, Bool, List, [], ◌∷◌, Some, None, if◌then◌else◌}
+use Rattle.std.specs.Prelude.{◌≡◌, ◌<◌, ◌≤◌, ℕ, Vec, ◌==◌, ◌%◌, ◌/◌, ◌&&◌, nat_lt, Bool, List, [], ◌∷◌, Some, None, if◌then◌else◌}
 use Rattle.std.specs.List.{Contains, slice_get}
 use Rattle.std.specs.Global.{Global}
 use Rattle.std.specs.Vec.{vec_capacity}
@@ -10,6 +10,7 @@ use Rattle.word_steps.specs.Decode.{Homes}
 use Rattle.word_steps.specs.Folds.{task_held, queue_held, works_held, wait_held, body_held, current_task, task_to_clear}
 use Rattle.word_steps.specs.Records.{Rec}
 use Rattle.word_steps.specs.Words.{STATE, COND}
+use Rattle.word_table.specs.Layout.{SLOTS, BODY_SLOT}
 use Rattle.word_table.specs.Parts.{Part}
 use Rattle.word_table.specs.Views.{TokenView}
 
@@ -39,6 +40,10 @@ traces_of (token ∷ tokens) s = if token.seat == s then token.trace else traces
 
 abbrev pub part_of : TokenView → Part
 part_of token = record { number = token.seat; trace = token.trace; hand = 0 }
+
+-- the slot is that of the body of one of so many tasks
+abbrev pub is_body : ℕ → ℕ → Bool
+is_body tasks slot = (slot % SLOTS == BODY_SLOT) && nat_lt (slot / SLOTS) tasks
 
 -- what is left: the last words and values keep the rule with all traces, each state and condition is the last word, and
 -- each body has ended or not as the rule has it

@@ -3,20 +3,26 @@
 #![tactic(auto)]
 
 mod carrying;
+mod close;
 mod kind;
 mod layout;
 mod life;
 mod lock;
 mod plays;
 mod rule;
+#[cfg(test)]
+mod shape_tests;
 mod slot;
 mod steps;
+#[cfg(test)]
+mod thread_tests;
 mod token;
 mod values;
 mod view;
 mod words;
 
 pub use carrying::{body_home, body_out, give, take};
+pub use close::Closed;
 pub use kind::Kind;
 pub use lock::{Lock, QueueLock, TaskLock, WaitLock, WorksLock};
 pub use slot::Kept;

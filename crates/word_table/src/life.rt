@@ -10,7 +10,7 @@ ghost use Rattle.word_table.specs.Begin.{task_slot, queue_slot, works_slot, wait
 ghost use Rattle.word_table.specs.End.{HasEachSeat};
 ghost use Rattle.word_table.specs.Layout.{SLOTS, rows_of};
 ghost use Rattle.word_table.specs.Plays.{sat};
-ghost use Rattle.word_table.specs.Ruled.{fresh, known_of};
+ghost use Rattle.word_table.specs.Ruled.{fresh, known_of, lastings};
 ghost use Rattle.word_table.specs.Views.{IsOf};
 
 use crate::layout::{ACTIVE, SLOTS, STATE, STRIDE, rows_of};
@@ -144,4 +144,80 @@ fn lay_slots<B: Kept>(
     }
     slots.push_reserved(Slot::Room(room));
     Ok(slots)
+}
+
+fn token_of<B: Kept>(seat: Seat<Slot<B>, View>, number: u32) -> Token
+    requires seat { seat.me ≡ sat seat.me.0.known number [] }
+    ensures { result ≡ new_token seat.table_id seat.me.0.known.shape seat.me.0.known.lasting number }
+{
+    Token {
+        badge: seat.into_badge(),
+        seat: number,
+    }
+}
+
+// A token for each seat, in order.
+fn deal<B: Kept>(
+    alloc: Global,
+    board: &Board<B>,
+    seat: Seat<Slot<B>, View>,
+    seats: u32,
+) -> Result<Vec<Token>, NoMemory>
+    requires id { seat.table_id ≡ board.now.shared.table_id }
+    requires words { 0 < board.now.shared.table_id.words }
+    requires seats { 0 < seats }
+    requires first { seat.me ≡ (record { parts = fresh 0 seats; known = known_of B.lasting board.now.shared.key }, []) }
+    ensures { IfOk result (λ v. v.items ≡ first_tokens board.now.shared.table_id board.now.shared.key.shape (lastings B.lasting board.now.shared.key) seats) }
+{
+    let mut seat = seat;
+    let mut tokens = Vec::with_capacity(alloc, seats as usize)?;
+    for number in 0..seats - 1 {
+        let other = board.shared.split_seat::<Deal>(&mut seat);
+        tokens.push_reserved(token_of(other, number));
+    }
+    tokens.push_reserved(token_of(seat, seats - 1));
+    Ok(tokens)
+}
+
+impl<B: Kept> Words<B> {
+    /// A new table of this shape, with these bodies of its tasks, and the tokens of its seats in their order. Each task
+    /// is TASK_NEW and may run on each processor; each processor is active; each lock is free, with its value home. All
+    /// memory of the table is taken here.
+    pub fn new(
+        alloc: Global,
+        shape: &Shape,
+        bodies: Vec<B>,
+    ) -> Result<(Words<B>, Vec<Token>), NoMemory>
+        requires shape { IsShape shape.now }
+        requires tasks { length bodies.items ≡ shape.now.tasks }
+        requires begun { All (λ b. B.ended b ≡ false) bodies.items }
+        ensures shape { IfOk result (λ r. r.0.shape ≡ shape.now) }
+        ensures lasting { IfOk result (λ r. r.0.lasting ≡ map B.lasting bodies.items) }
+        ensures tokens { IfOk result (λ r. r.1.items ≡ first_tokens r.0.name r.0.shape r.0.lasting (shape.now.cpus + shape.now.agents)) }
+        ensures of { IfOk result (λ r. All (IsOf r.0) r.1.items) }
+        ensures each { IfOk result (λ r. HasEachSeat (shape.now.cpus + shape.now.agents) (map (λ t. t.seat) r.1.items)) }
+    {
+        let rows = rows_of(shape);
+        let mask = CpuMask::all(shape.cpus);
+        let key = Key {
+            shape: *shape,
+            bodies: Snapshot::of(&bodies),
+        };
+        let states = Vec::with_capacity(alloc, shape.tasks as usize)?;
+        let conds = Vec::with_capacity(alloc, shape.conds as usize)?;
+        let words = first_words(alloc, shape, rows)?;
+        let slots = lay_slots(alloc, shape, mask, rows, bodies)?;
+        let (table, seat) = match Table::new(alloc, words.as_slice(), slots, &key) {
+            Ok(made) => made,
+            Err(Refused { slots: _ }) => return Err(NoMemory),
+        };
+        let tokens = deal(alloc, &table, seat, shape.cpus + shape.agents)?;
+        let words = Words {
+            table,
+            shape: *shape,
+            states,
+            conds,
+        };
+        Ok((words, tokens))
+    }
 }

@@ -5,6 +5,7 @@ ghost use Rattle.word_table.specs.Layout.{rows_of};
 ghost use Rattle.word_table.specs.Views.{IsOf, IsSame};
 
 use crate::kind::Kind;
+use crate::layout::STRIDE;
 use crate::plays::{Adds, Loads, Stores, Tries};
 use crate::slot::{Kept, Slot};
 use crate::token::Token;
@@ -12,9 +13,6 @@ use crate::view::View;
 use crate::words::Words;
 use atomic_table::{Badge, Seat};
 use std::mem;
-
-// The words of one number lie side by side.
-const STRIDE: usize = 64;
 
 /// Loads the word of `n` in the column, with no seat. It tells nothing.
 pub fn peek<B: Kept>(words: &Words<B>, n: u32, column: usize) -> u64

@@ -11,6 +11,7 @@ ghost use Rattle.word_table.specs.Layout.{word_at, slot_at, slot_of, BODY_SLOT};
 ghost use Rattle.word_table.specs.Plays.{IsRest, trace_in, push, lift};
 ghost use Rattle.word_table.specs.declared.slot.Slot.TheVariants.{Held};
 
+use crate::layout::{BODY, SLOTS, STRIDE};
 use crate::lock::Lock;
 use crate::plays::{Come, Give, Lay, Leave, Lift, LiftBody, Take};
 use crate::slot::{Kept, Slot};
@@ -20,13 +21,6 @@ use atomic_table::Seat;
 use crossbeam_utils::Backoff;
 use std::sync::Wait;
 use word_steps::Val;
-
-// The words of one number lie side by side, and so do its slots.
-const STRIDE: usize = 64;
-
-const SLOTS: usize = 6;
-
-const BODY_COLUMN: usize = 1;
 
 // The word of a lock.
 fn word_of<L: Lock>(n: u32) -> usize
@@ -142,12 +136,12 @@ pub(crate) fn take_body<B: Kept>(
     ensures seat { seat.new.me ≡ push (OutBody t (B.ended result)) seat.old.me }
     ensures lasting { B.lasting result ≡ slice_index_or seat.old.me.0.known.lasting t [] }
 {
-    let word = STRIDE * t as usize + BODY_COLUMN;
+    let word = STRIDE * t as usize + BODY;
     words.table.shared.load::<Leave>(seat, word);
     let slot = words
         .table
         .shared
-        .exchange(seat, SLOTS * t as usize + BODY_COLUMN, Slot::Empty);
+        .exchange(seat, SLOTS * t as usize + BODY, Slot::Empty);
     let Slot::Body(body) = slot else {
         unreachable!()
     };
@@ -171,13 +165,13 @@ pub(crate) fn put_body<B: Kept>(
     ensures id { seat.new.table_id ≡ seat.old.table_id }
     ensures seat { seat.new.me ≡ push (HomeBody t (B.ended body)) seat.old.me }
 {
-    let word = STRIDE * t as usize + BODY_COLUMN;
+    let word = STRIDE * t as usize + BODY;
     words.table.shared.load::<LiftBody>(seat, word);
     drop(
         words
             .table
             .shared
-            .exchange(seat, SLOTS * t as usize + BODY_COLUMN, Slot::Body(body)),
+            .exchange(seat, SLOTS * t as usize + BODY, Slot::Body(body)),
     );
     words.table.shared.load::<Come>(seat, word);
 }

@@ -1,4 +1,4 @@
-use Rattle.std.proofs.Common.{◌≡◌, ◌≤◌, ◌<◌, ◌*◌, ◌+◌, ◌++◌, ◌∷◌, [], ℕ, length, rules, arith, sym, ap, ◌∙◌, length-append, subst}
+use Rattle.std.proofs.Common.{◌≡◌, ◌*◌, ◌∷◌, [], ℕ, length, rules, arith, sym, ap, ◌∙◌, length-append, subst}
 use Rattle.word_table.specs.Begin.{AreRows}
 use Rattle.word_table.specs.Layout.{SLOTS, rows_of}
 use Rattle.word_table.proofs.Laying.{body_laid, bare_laid, all_laid}

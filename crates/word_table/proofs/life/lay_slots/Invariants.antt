@@ -1,4 +1,4 @@
-use Rattle.std.proofs.Common.{◌≡◌, ◌≤◌, ◌*◌, [], length}
+use Rattle.std.proofs.Common.{◌≡◌, ◌≤◌, ◌*◌, length}
 use Rattle.std.specs.Vec.{vec_len, vec_capacity}
 use Rattle.word_table.specs.Begin.{AreRows}
 use Rattle.word_table.specs.Layout.{SLOTS}

@@ -26,21 +26,21 @@ invariant_of-token g c = let p = c.args.token.now in let s = c.into_seat-seat in
     let is = opened c.token.inside p c.replace.result.views s.result.me c.token.invariant c.token.view_is (ap (λ b. b.views) c.replace.ensures.value) s.ensures.2 s.ensures.3 in
     let t = tried_trace c.compare_exchange-found.result c.args.old s.result.me c.compare_exchange-found.new.seat.me (K.told p.shape) (λ z. K.note p.seat p.trace c.args.n c.args.new z) (known_by p) p.seat p.trace is
     (subst (λ m. (c.compare_exchange-found.result ≡ c.args.old → K.told m.0.known.shape c.compare_exchange-found.result × (c.compare_exchange-found.new.seat.me ≡ push (K.note (seat_in m.0.parts) (trace_in m.0.parts) c.args.n c.args.new c.compare_exchange-found.result) m)) × (c.compare_exchange-found.result ≢ c.args.old → c.compare_exchange-found.new.seat.me ≡ s.result.me)) is (c.compare_exchange-found.ensures.2 c.args.n (ap (λ z. 64 * c.args.n + z) c.column.ensures))) in
-    (closing c.token.inside p c.into_badge.result.views c.into_badge.result.table_id c.compare_exchange-found.new.seat.me t.0 c.token.view_is (c.into_badge.ensures.0 ∙ (c.compare_exchange-found.ensures.0 ∙ (s.ensures.0 ∙ (ap (λ b. b.table_id) c.replace.ensures.value ∙ ap (λ z. z.of) c.token.view_is)))) c.into_badge.ensures.2 t.1).is
+    (closing c.token.inside p c.into_badge.result.views c.into_badge.result.table_id _ _ _ c.compare_exchange-found.new.seat.me t.0 c.token.view_is c.into_badge.ensures.0 c.compare_exchange-found.ensures.0 s.ensures.0 (ap (λ b. b.table_id) c.replace.ensures.value) c.into_badge.ensures.2 t.1).is
 
 pub returns-clause-same : goal.returns-clause-same
 returns-clause-same g c = let p = c.args.token.now in let s = c.into_seat-seat in let K = g.K.Kind in
     let is = opened c.token.inside p c.replace.result.views s.result.me c.token.invariant c.token.view_is (ap (λ b. b.views) c.replace.ensures.value) s.ensures.2 s.ensures.3 in
     let t = tried_trace c.compare_exchange-found.result c.args.old s.result.me c.compare_exchange-found.new.seat.me (K.told p.shape) (λ z. K.note p.seat p.trace c.args.n c.args.new z) (known_by p) p.seat p.trace is
     (subst (λ m. (c.compare_exchange-found.result ≡ c.args.old → K.told m.0.known.shape c.compare_exchange-found.result × (c.compare_exchange-found.new.seat.me ≡ push (K.note (seat_in m.0.parts) (trace_in m.0.parts) c.args.n c.args.new c.compare_exchange-found.result) m)) × (c.compare_exchange-found.result ≢ c.args.old → c.compare_exchange-found.new.seat.me ≡ s.result.me)) is (c.compare_exchange-found.ensures.2 c.args.n (ap (λ z. 64 * c.args.n + z) c.column.ensures))) in
-    (closing c.token.inside p c.into_badge.result.views c.into_badge.result.table_id c.compare_exchange-found.new.seat.me t.0 c.token.view_is (c.into_badge.ensures.0 ∙ (c.compare_exchange-found.ensures.0 ∙ (s.ensures.0 ∙ (ap (λ b. b.table_id) c.replace.ensures.value ∙ ap (λ z. z.of) c.token.view_is)))) c.into_badge.ensures.2 t.1).same
+    (closing c.token.inside p c.into_badge.result.views c.into_badge.result.table_id _ _ _ c.compare_exchange-found.new.seat.me t.0 c.token.view_is c.into_badge.ensures.0 c.compare_exchange-found.ensures.0 s.ensures.0 (ap (λ b. b.table_id) c.replace.ensures.value) c.into_badge.ensures.2 t.1).same
 
 pub returns-clause-hit : goal.returns-clause-hit
 returns-clause-hit g c = let p = c.args.token.now in let s = c.into_seat-seat in let K = g.K.Kind in
     let is = opened c.token.inside p c.replace.result.views s.result.me c.token.invariant c.token.view_is (ap (λ b. b.views) c.replace.ensures.value) s.ensures.2 s.ensures.3 in
     let t = tried_trace c.compare_exchange-found.result c.args.old s.result.me c.compare_exchange-found.new.seat.me (K.told p.shape) (λ z. K.note p.seat p.trace c.args.n c.args.new z) (known_by p) p.seat p.trace is
     (subst (λ m. (c.compare_exchange-found.result ≡ c.args.old → K.told m.0.known.shape c.compare_exchange-found.result × (c.compare_exchange-found.new.seat.me ≡ push (K.note (seat_in m.0.parts) (trace_in m.0.parts) c.args.n c.args.new c.compare_exchange-found.result) m)) × (c.compare_exchange-found.result ≢ c.args.old → c.compare_exchange-found.new.seat.me ≡ s.result.me)) is (c.compare_exchange-found.ensures.2 c.args.n (ap (λ z. 64 * c.args.n + z) c.column.ensures))) in
-    λ h. (closing c.token.inside p c.into_badge.result.views c.into_badge.result.table_id c.compare_exchange-found.new.seat.me t.0 c.token.view_is (c.into_badge.ensures.0 ∙ (c.compare_exchange-found.ensures.0 ∙ (s.ensures.0 ∙ (ap (λ b. b.table_id) c.replace.ensures.value ∙ ap (λ z. z.of) c.token.view_is)))) c.into_badge.ensures.2 t.1).trace_is ∙ t.2 h
+    λ h. (closing c.token.inside p c.into_badge.result.views c.into_badge.result.table_id _ _ _ c.compare_exchange-found.new.seat.me t.0 c.token.view_is c.into_badge.ensures.0 c.compare_exchange-found.ensures.0 s.ensures.0 (ap (λ b. b.table_id) c.replace.ensures.value) c.into_badge.ensures.2 t.1).trace_is ∙ t.2 h
 
 pub returns-clause-told : goal.returns-clause-told
 returns-clause-told g c = let p = c.args.token.now in let s = c.into_seat-seat in let K = g.K.Kind in
@@ -54,4 +54,4 @@ returns-clause-miss g c = let p = c.args.token.now in let s = c.into_seat-seat i
     let is = opened c.token.inside p c.replace.result.views s.result.me c.token.invariant c.token.view_is (ap (λ b. b.views) c.replace.ensures.value) s.ensures.2 s.ensures.3 in
     let t = tried_trace c.compare_exchange-found.result c.args.old s.result.me c.compare_exchange-found.new.seat.me (K.told p.shape) (λ z. K.note p.seat p.trace c.args.n c.args.new z) (known_by p) p.seat p.trace is
     (subst (λ m. (c.compare_exchange-found.result ≡ c.args.old → K.told m.0.known.shape c.compare_exchange-found.result × (c.compare_exchange-found.new.seat.me ≡ push (K.note (seat_in m.0.parts) (trace_in m.0.parts) c.args.n c.args.new c.compare_exchange-found.result) m)) × (c.compare_exchange-found.result ≢ c.args.old → c.compare_exchange-found.new.seat.me ≡ s.result.me)) is (c.compare_exchange-found.ensures.2 c.args.n (ap (λ z. 64 * c.args.n + z) c.column.ensures))) in
-    λ h. (closing c.token.inside p c.into_badge.result.views c.into_badge.result.table_id c.compare_exchange-found.new.seat.me t.0 c.token.view_is (c.into_badge.ensures.0 ∙ (c.compare_exchange-found.ensures.0 ∙ (s.ensures.0 ∙ (ap (λ b. b.table_id) c.replace.ensures.value ∙ ap (λ z. z.of) c.token.view_is)))) c.into_badge.ensures.2 t.1).trace_is ∙ t.4 h
+    λ h. (closing c.token.inside p c.into_badge.result.views c.into_badge.result.table_id _ _ _ c.compare_exchange-found.new.seat.me t.0 c.token.view_is c.into_badge.ensures.0 c.compare_exchange-found.ensures.0 s.ensures.0 (ap (λ b. b.table_id) c.replace.ensures.value) c.into_badge.ensures.2 t.1).trace_is ∙ t.4 h

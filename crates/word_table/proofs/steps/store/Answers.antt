@@ -1,7 +1,6 @@
-use Rattle.std.proofs.Common.{rules, arith, ap, ◌∙◌, ◌+◌, ◌*◌, ◌<◌, ◌≡◌, ◌∷◌}
+use Rattle.std.proofs.Common.{rules, arith, ap, ◌∙◌, ◌+◌, ◌*◌, ◌<◌, ◌∷◌}
 use Rattle.word_table.specs.Layout.{rows_of}
-use Rattle.word_table.specs.Plays.{sat, push, seat_in, trace_in}
-use Rattle.word_table.proofs.Opened.{in_table, known_by, opened, closing}
+use Rattle.word_table.proofs.Opened.{in_table, known_by, opened, closing, noted_from}
 use Rattle.word_table.proofs.Ways.{store_may}
 use Rattle.word_table.proofs.steps.store.Goals as goal
 
@@ -17,23 +16,23 @@ store-requires g c = let p = c.args.token.now in let s = c.into_seat-seat in let
 pub into_badge-requires : goal.into_badge-requires
 into_badge-requires g c = let p = c.args.token.now in let s = c.into_seat-seat in let K = g.K.Kind in
     let is = opened c.token.inside p c.replace.result.views s.result.me c.token.invariant c.token.view_is (ap (λ b. b.views) c.replace.ensures.value) s.ensures.2 s.ensures.3 in
-    let now : c.store.new.seat.me ≡ sat (known_by p) p.seat (K.note p.seat p.trace c.args.n c.args.new c.args.new ∷ p.trace) = c.store.ensures.2 c.args.n (ap (λ z. 64 * c.args.n + z) c.column.ensures) ∙ ap (λ m. push (K.note (seat_in m.0.parts) (trace_in m.0.parts) c.args.n c.args.new c.args.new) m) is in
+    let now = noted_from K.note s.result.me c.store.new.seat.me (known_by p) p.seat p.trace c.args.n c.args.new c.args.new is (c.store.ensures.2 c.args.n (ap (λ z. 64 * c.args.n + z) c.column.ensures)) in
     ap (λ m. m.1) now
 
 pub invariant_of-token : goal.invariant_of-token
 invariant_of-token g c = let p = c.args.token.now in let s = c.into_seat-seat in let K = g.K.Kind in
     let is = opened c.token.inside p c.replace.result.views s.result.me c.token.invariant c.token.view_is (ap (λ b. b.views) c.replace.ensures.value) s.ensures.2 s.ensures.3 in
-    let now : c.store.new.seat.me ≡ sat (known_by p) p.seat (K.note p.seat p.trace c.args.n c.args.new c.args.new ∷ p.trace) = c.store.ensures.2 c.args.n (ap (λ z. 64 * c.args.n + z) c.column.ensures) ∙ ap (λ m. push (K.note (seat_in m.0.parts) (trace_in m.0.parts) c.args.n c.args.new c.args.new) m) is in
-    (closing c.token.inside p c.into_badge.result.views c.into_badge.result.table_id c.store.new.seat.me (K.note p.seat p.trace c.args.n c.args.new c.args.new ∷ p.trace) c.token.view_is (c.into_badge.ensures.0 ∙ (c.store.ensures.0 ∙ (s.ensures.0 ∙ (ap (λ b. b.table_id) c.replace.ensures.value ∙ ap (λ z. z.of) c.token.view_is)))) c.into_badge.ensures.2 now).is
+    let now = noted_from K.note s.result.me c.store.new.seat.me (known_by p) p.seat p.trace c.args.n c.args.new c.args.new is (c.store.ensures.2 c.args.n (ap (λ z. 64 * c.args.n + z) c.column.ensures)) in
+    (closing c.token.inside p c.into_badge.result.views c.into_badge.result.table_id _ _ _ c.store.new.seat.me (K.note p.seat p.trace c.args.n c.args.new c.args.new ∷ p.trace) c.token.view_is c.into_badge.ensures.0 c.store.ensures.0 s.ensures.0 (ap (λ b. b.table_id) c.replace.ensures.value) c.into_badge.ensures.2 now).is
 
 pub returns-clause-same : goal.returns-clause-same
 returns-clause-same g c = let p = c.args.token.now in let s = c.into_seat-seat in let K = g.K.Kind in
     let is = opened c.token.inside p c.replace.result.views s.result.me c.token.invariant c.token.view_is (ap (λ b. b.views) c.replace.ensures.value) s.ensures.2 s.ensures.3 in
-    let now : c.store.new.seat.me ≡ sat (known_by p) p.seat (K.note p.seat p.trace c.args.n c.args.new c.args.new ∷ p.trace) = c.store.ensures.2 c.args.n (ap (λ z. 64 * c.args.n + z) c.column.ensures) ∙ ap (λ m. push (K.note (seat_in m.0.parts) (trace_in m.0.parts) c.args.n c.args.new c.args.new) m) is in
-    (closing c.token.inside p c.into_badge.result.views c.into_badge.result.table_id c.store.new.seat.me (K.note p.seat p.trace c.args.n c.args.new c.args.new ∷ p.trace) c.token.view_is (c.into_badge.ensures.0 ∙ (c.store.ensures.0 ∙ (s.ensures.0 ∙ (ap (λ b. b.table_id) c.replace.ensures.value ∙ ap (λ z. z.of) c.token.view_is)))) c.into_badge.ensures.2 now).same
+    let now = noted_from K.note s.result.me c.store.new.seat.me (known_by p) p.seat p.trace c.args.n c.args.new c.args.new is (c.store.ensures.2 c.args.n (ap (λ z. 64 * c.args.n + z) c.column.ensures)) in
+    (closing c.token.inside p c.into_badge.result.views c.into_badge.result.table_id _ _ _ c.store.new.seat.me (K.note p.seat p.trace c.args.n c.args.new c.args.new ∷ p.trace) c.token.view_is c.into_badge.ensures.0 c.store.ensures.0 s.ensures.0 (ap (λ b. b.table_id) c.replace.ensures.value) c.into_badge.ensures.2 now).same
 
 pub returns-clause-trace : goal.returns-clause-trace
 returns-clause-trace g c = let p = c.args.token.now in let s = c.into_seat-seat in let K = g.K.Kind in
     let is = opened c.token.inside p c.replace.result.views s.result.me c.token.invariant c.token.view_is (ap (λ b. b.views) c.replace.ensures.value) s.ensures.2 s.ensures.3 in
-    let now : c.store.new.seat.me ≡ sat (known_by p) p.seat (K.note p.seat p.trace c.args.n c.args.new c.args.new ∷ p.trace) = c.store.ensures.2 c.args.n (ap (λ z. 64 * c.args.n + z) c.column.ensures) ∙ ap (λ m. push (K.note (seat_in m.0.parts) (trace_in m.0.parts) c.args.n c.args.new c.args.new) m) is in
-    (closing c.token.inside p c.into_badge.result.views c.into_badge.result.table_id c.store.new.seat.me (K.note p.seat p.trace c.args.n c.args.new c.args.new ∷ p.trace) c.token.view_is (c.into_badge.ensures.0 ∙ (c.store.ensures.0 ∙ (s.ensures.0 ∙ (ap (λ b. b.table_id) c.replace.ensures.value ∙ ap (λ z. z.of) c.token.view_is)))) c.into_badge.ensures.2 now).trace_is
+    let now = noted_from K.note s.result.me c.store.new.seat.me (known_by p) p.seat p.trace c.args.n c.args.new c.args.new is (c.store.ensures.2 c.args.n (ap (λ z. 64 * c.args.n + z) c.column.ensures)) in
+    (closing c.token.inside p c.into_badge.result.views c.into_badge.result.table_id _ _ _ c.store.new.seat.me (K.note p.seat p.trace c.args.n c.args.new c.args.new ∷ p.trace) c.token.view_is c.into_badge.ensures.0 c.store.ensures.0 s.ensures.0 (ap (λ b. b.table_id) c.replace.ensures.value) c.into_badge.ensures.2 now).trace_is
