@@ -15,7 +15,7 @@ use Rattle.core_kinds.specs.Waking.{MayStoreCpu, MayOwnState, MayClaim}
 use Rattle.core_stores.proofs.Columns.{put_there, put_other}
 use Rattle.handoff_data.specs.declared.shape.Shape.{Shape}
 use Rattle.handoff_data.specs.declared.state.State.{State}
-use Rattle.word_rule.specs.Standing.{RunsHold, MayRunThere, may_run}
+use Rattle.word_rule.specs.Standing.{RunsHold, MayRunThere, may_run, is_runnable}
 use Rattle.word_steps.proofs.CurrentKept.{same_task, unless}
 use Rattle.word_steps.proofs.MovingKept.{one_seat}
 use Rattle.word_steps.proofs.Puts.{word_here, word_apart, word_beside, fold_here, fold_else}
@@ -515,25 +515,31 @@ module _ (words : ℕ → ℕ → ℕ) (traces : ℕ → List Rec) (s : ℕ) (ho
         where
           knows : Bool
           knows = is_some_of (current_task s (traces s)) n &&
-              (stays_queued (traces s) && (is_some (queue_held (traces s) s) && (words n STATE == 0)))
+              (stays_queued (traces s) && (is_some (queue_held (traces s) s) && is_runnable (record { 0 = words n STATE })))
 
           as_was : (j c t : ℕ) → MayRunThere words traces j c t
               → MayRunThere words (put traces s (LoadedState n mask (record { 0 = words n STATE }) ∷ traces s)) j c t
           as_was j c t old = carried words (LoadedState n mask
               (record { 0 = words n STATE })) j c t old refl refl old.runnable (λ is. old.own s is)
 
-          by_tests : (a b c : Bool) (x : ℕ) → (a && (b && (c && (x == 0)))) ≡ true → (a ≡ true) × (b ≡ true) × (x ≡ 0)
-          by_tests a b c x e = (grind (arith, nat_tests, e), grind (arith, nat_tests, e), grind (arith, nat_tests, e))
+          by_tests : (a b c d : Bool) → (a && (b && (c && d))) ≡ true → (a ≡ true) × (b ≡ true) × (d ≡ true)
+          by_tests a b c d e = (grind (arith, e), grind (arith, e), grind (arith, e))
+
+          runs : (x : ℕ) → ((x == 0) || (x == 0x800)) ≡ true → (x ≡ 0) ⊎ (x ≡ 0x800)
+          runs x e = elim (cases_eq x 0) [
+            | inl is ↦ inl is
+            | inr ne ↦ inr (grind (arith, nat_tests, e, ne))
+          ]
 
           now : knows ≡ true → MayRunThere words traces s s n
           now e =
               let tests = by_tests (is_some_of (current_task s (traces s)) n) (stays_queued (traces s))
-              (is_some (queue_held (traces s) s)) (words n STATE) e in
+              (is_some (queue_held (traces s) s)) (is_runnable (record { 0 = words n STATE })) e in
               let own = some_is (current_task s (traces s)) n tests.0 in
               record {
                 queued = current s n own tests.1;
                 here = core.busy.runner.current_here s n own;
-                runnable = inl tests.2;
+                runnable = runs (words n STATE) tests.2;
                 own = λ k is. sym (core.busy.runner.current_here k n is) ∙ core.busy.runner.current_here s n own;
               }
 

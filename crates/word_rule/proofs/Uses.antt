@@ -9,7 +9,7 @@ use Rattle.core_gives.specs.Queues.{is_some_of}
 use Rattle.handoff_data.specs.declared.shape.Shape.{Shape}
 use Rattle.handoff_data.specs.declared.state.State.{State}
 use Rattle.word_rule.specs.May.{MayGiveQueueVal}
-use Rattle.word_rule.specs.Standing.{may_run}
+use Rattle.word_rule.specs.Standing.{may_run, is_runnable}
 use Rattle.word_rule.specs.Told.{TakenQueue}
 use Rattle.word_steps.specs.Folds.{current_task, stays_queued, queue_held, body_held, has_added, task_to_clear, put_both}
 use Rattle.word_steps.specs.Records.{Rec, Took, Queued, Dequeued, Moved, SetBusy, Released, LoadedState, LoadedRq, LoadedBusy}
@@ -239,7 +239,7 @@ module _ (shape : Shape) (s : ℕ) (v : Queue) (rs : List Rec) (told : TakenQueu
 
       reads : Bool
       reads = is_some_of (current_task s rs) t &&
-          (stays_queued rs && (is_some (put (queue_held rs) s (Some v) s) && (state.0 == 0)))
+          (stays_queued rs && (is_some (put (queue_held rs) s (Some v) s) && is_runnable state))
 
       before : (u : ℕ) → times_in given.waiting u ≢ 0
           → may_run s (LoadedState t None state ∷ Took s (val.Queue v) ∷ rs) s u ≡ true

@@ -5,6 +5,7 @@ use Rattle.core_data.specs.Queue.{times_in}
 use Rattle.core_data.specs.Table.{put}
 use Rattle.core_gives.specs.Queues.{times, is_at, is_some_of}
 use Rattle.core_kinds.specs.Steps.{IsRunnable}
+use Rattle.handoff_data.specs.declared.state.State.{State}
 use Rattle.word_steps.specs.Folds.{put_column_if, put_column, put_both, has_put, current_task, stays_queued, queue_held, saw_off, number_read}
 use Rattle.word_steps.specs.Records.{Rec, Took, Queued, Dequeued, Moved, StoredOwn, Released, LoadedState}
 use Rattle.word_steps.specs.Words.{LOCK, STATE, RQ, CPU, QUEUE_LOCK, holder}
@@ -26,8 +27,13 @@ abbrev pub standing : List Rec → ℕ → ℕ → ℕ
 standing [] = λ c t. 0
 standing (r ∷ rs) = standing_after r (standing rs)
 
+-- TASK_RUNNING or TASK_NEW
+abbrev pub is_runnable : State → Bool
+is_runnable state = (state.0 == 0) || (state.0 == 0x800)
+
 -- the seat knows that a task may run which stands in the queue: it waited there as the lock was taken, or the seat put
--- it there as new or in a move, or stored TASK_RUNNING once it was there, or read that state of its own current task
+-- it there as new or in a move, or stored TASK_RUNNING once it was there, or read that its own current
+-- task may run
 abbrev pub may_run_after : ℕ → Rec → Option ℕ → Bool → Bool → (ℕ → ℕ → Bool) → (ℕ → ℕ → Bool) → ℕ → ℕ → Bool
 may_run_after s (Took c (val.Queue v)) current stays own were h = put h c (λ t. nat_lt 0 (times_in v.waiting t))
 may_run_after s (Queued t c on m) current stays own were h = put_both h c t ((m == 0) || (on == 2))
@@ -35,7 +41,7 @@ may_run_after s (Dequeued t c m) current stays own were h = put_column h t false
 may_run_after s (Moved t c m) current stays own were h = put_column h t false
 may_run_after s (StoredOwn t state) current stays own were h = put_column_if (not (state.0 == 0)) t false h
 may_run_after s (Released t) current stays own were h = λ c u. if (u == t) && were c u then true else h c u
-may_run_after s (LoadedState t mask state) current stays own were h = if is_some_of current t && (stays && (own && (state.0 == 0))) then put_both h s t true else h
+may_run_after s (LoadedState t mask state) current stays own were h = if is_some_of current t && (stays && (own && is_runnable state)) then put_both h s t true else h
 may_run_after s r current stays own were h = h
 
 abbrev pub may_run : ℕ → List Rec → ℕ → ℕ → Bool
