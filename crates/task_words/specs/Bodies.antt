@@ -1,0 +1,13 @@
+-- When a seat may take the body of its current task out, and put it home.
+use Rattle.std.specs.Prelude.{◌≡◌, ℕ, Bool, List, Some}
+use Rattle.word_rule.specs.May.{MayTakeBody, MayReturnBody}
+use Rattle.word_steps.specs.Folds.{current_task}
+use Rattle.word_steps.specs.Records.{Rec}
+
+-- there is a current task, and its body is home
+abbrev pub IsBodyHome : ℕ → List Rec → Type 0
+IsBodyHome s trace = (t : ℕ) × MayTakeBody s trace t
+
+-- the body of the current task is out, which may come home as one that has ended or not
+abbrev pub IsBodyOut : ℕ → List Rec → Bool → Type 0
+IsBodyOut s trace ended = (t : ℕ) × (current_task s trace ≡ Some t) × MayReturnBody s trace t ended

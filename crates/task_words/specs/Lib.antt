@@ -1,0 +1,4 @@
+pub mod Bodies
+pub mod Shown
+pub mod States
+pub mod Views

@@ -1,0 +1,21 @@
+-- How a pass is seen.
+use Rattle.std.specs.Prelude.{◌≡◌, ◌+◌, ◌*◌, ◌<◌, ℕ, Some, length}
+use Rattle.task_words.specs.Views.{PassView}
+use Rattle.task_words.specs.declared.pass.Pass.TheInside.{Inside}
+use Rattle.word_steps.specs.Folds.{current_task}
+
+abbrev pub pass_view : Inside → PassView
+pass_view p = record {
+  of = p.token.of;
+  shape = p.token.shape;
+  lasting = p.token.lasting;
+  seat = p.token.seat;
+  trace = p.token.trace;
+  turn = p.turn;
+}
+
+-- it knows its current task, which is of the shape, and has room for four entries a task and sixteen
+pub record IsPass (p : Inside) : Type 0 where
+  pub current : p.current ≡ current_task p.token.seat p.token.trace
+  pub within : (t : ℕ) → p.current ≡ Some t → t < p.token.shape.tasks
+  pub room : length p.turn.entries + p.turn.spare ≡ 4 * p.token.shape.tasks + 16

@@ -1,0 +1,24 @@
+//! The shared words of a machine of tasks, and the single steps of its seats on them: each kind of step of the core as a
+//! call of running threads.
+#![tactic(auto)]
+
+mod bodies;
+mod conds;
+mod guards;
+mod loads;
+mod locks;
+mod pass;
+mod runs;
+mod states;
+mod wk;
+
+pub use bodies::{body_home, body_out};
+pub use conds::{bump_cond, load_cond};
+pub use guards::{QueueGuard, TaskGuard, WaitGuard, WorksGuard};
+pub use loads::{BusyWord, load_busy, load_cpu, load_rq, load_state};
+pub use locks::{lock_queue, lock_task, lock_wait, lock_works};
+pub use pass::{Pass, Turn};
+pub use runs::{clear_busy, dequeue_task, move_task, queue_task, set_busy};
+pub use states::{match_state, set_running, set_state, store_cpu, store_running, store_waking};
+pub use wk::Wk;
+pub use word_table::Kept;

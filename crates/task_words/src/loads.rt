@@ -1,0 +1,69 @@
+//! Loads.
+ghost use Rattle.std.specs.Prelude.{◌≡◌, ◌<◌, ◌∷◌, None};
+ghost use Rattle.task_words.specs.Views.{IsOf, IsSame};
+ghost use Rattle.word_steps.specs.Records.{LoadedState, LoadedRq, LoadedBusy, LoadedCpu};
+
+use crate::pass::Pass;
+use crate::wk::Wk;
+use core_data::Rq;
+use handoff_data::{CpuNo, State, TaskNo};
+use word_kinds::{LoadBusy, LoadCpu, LoadRq, LoadState};
+use word_table::{Kept, load};
+
+/// What a busy word says.
+#[derive(Clone, Copy, Debug, PartialEq, Eq)]
+pub struct BusyWord {
+    /// Whether the task is busy.
+    pub on: bool,
+    /// How often the word was changed.
+    pub n: u64,
+}
+
+/// The state of a task, as Linux's `READ_ONCE(p->__state)`.
+pub fn load_state<B: Kept>(wk: &Wk<B>, pass: &mut Pass, t: TaskNo) -> State
+    requires of { IsOf wk.now pass.old }
+    requires task { t < wk.now.shape.tasks }
+    ensures same { IsSame pass.old pass.new }
+    ensures trace { pass.new.trace ≡ LoadedState t None result ∷ pass.old.trace }
+{
+    State(load::<B, LoadState>(&wk.words, &mut pass.token, t) as u16)
+}
+
+/// The queue word of a task: whether it is queued, and how often that was changed.
+pub fn load_rq<B: Kept>(wk: &Wk<B>, pass: &mut Pass, t: TaskNo) -> Rq
+    requires of { IsOf wk.now pass.old }
+    requires task { t < wk.now.shape.tasks }
+    ensures same { IsSame pass.old pass.new }
+    ensures trace { pass.new.trace ≡ LoadedRq t result.on result.m ∷ pass.old.trace }
+{
+    let word = load::<B, LoadRq>(&wk.words, &mut pass.token, t);
+    Rq {
+        on: (word % 4) as u8,
+        m: word / 4,
+    }
+}
+
+/// The busy word of a task, as Linux's `p->on_cpu`.
+pub fn load_busy<B: Kept>(wk: &Wk<B>, pass: &mut Pass, t: TaskNo) -> BusyWord
+    requires of { IsOf wk.now pass.old }
+    requires task { t < wk.now.shape.tasks }
+    ensures same { IsSame pass.old pass.new }
+    ensures trace { pass.new.trace ≡ LoadedBusy t result.on result.n ∷ pass.old.trace }
+{
+    let word = load::<B, LoadBusy>(&wk.words, &mut pass.token, t);
+    BusyWord {
+        on: word % 2 == 1,
+        n: word / 2,
+    }
+}
+
+/// The processor of a task, as Linux's `task_cpu`.
+pub fn load_cpu<B: Kept>(wk: &Wk<B>, pass: &mut Pass, t: TaskNo) -> CpuNo
+    requires of { IsOf wk.now pass.old }
+    requires task { t < wk.now.shape.tasks }
+    ensures same { IsSame pass.old pass.new }
+    ensures trace { pass.new.trace ≡ LoadedCpu t result ∷ pass.old.trace }
+    ensures processor { result < wk.now.shape.cpus }
+{
+    load::<B, LoadCpu>(&wk.words, &mut pass.token, t) as CpuNo
+}

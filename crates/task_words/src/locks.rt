@@ -1,0 +1,140 @@
+//! Locks, each with the value under it.
+ghost use Rattle.std.specs.Prelude.{◌≡◌, ◌<◌, ◌∷◌, None, unwrap_or};
+ghost use Rattle.task_words.specs.Views.{IsOf, IsSame};
+ghost use Rattle.word_rule.specs.May.{MayGiveTaskVal, MayGiveQueueVal, MayGiveWorksVal, MayGiveWaitVal};
+ghost use Rattle.word_rule.specs.Told.{TakenTask, TakenQueue, TakenWait};
+ghost use Rattle.word_steps.specs.Folds.{task_held, queue_held, works_held, wait_held};
+ghost use Rattle.word_steps.specs.Records.{Took, Gave};
+ghost use Rattle.word_steps.specs.declared.val.Val.TheVariants as val;
+
+use crate::guards::{QueueGuard, TaskGuard, WaitGuard, WorksGuard};
+use crate::pass::Pass;
+use crate::wk::Wk;
+use handoff_data::{CondNo, CpuNo, TaskNo};
+use std::sync::Wait;
+use word_steps::Val;
+use word_table::{Kept, QueueLock, TaskLock, WaitLock, WorksLock, give, take};
+
+/// Takes the lock of a task, as Linux's `raw_spin_lock(&p->pi_lock)`, and waits until it is free.
+pub fn lock_task<B: Kept, R: Wait>(rt: &R, wk: &Wk<B>, pass: &mut Pass, t: TaskNo) -> TaskGuard
+    requires of { IsOf wk.now pass.old }
+    requires task { t < wk.now.shape.tasks }
+    requires free { task_held pass.old.trace t ≡ None }
+    ensures task { result.task ≡ t }
+    ensures same { IsSame pass.old pass.new }
+    ensures trace { pass.new.trace ≡ Took t (val.Task result.val) ∷ pass.old.trace }
+    ensures taken { TakenTask pass.old.shape result.val }
+{
+    let Val::Task(val) = take::<B, TaskLock, R>(rt, &wk.words, &mut pass.token, t) else {
+        unreachable!()
+    };
+    TaskGuard { val, task: t }
+}
+
+/// Takes the lock of a processor's queue, as Linux's `raw_spin_rq_lock`, and waits until it is free.
+pub fn lock_queue<B: Kept, R: Wait>(rt: &R, wk: &Wk<B>, pass: &mut Pass, c: CpuNo) -> QueueGuard
+    requires of { IsOf wk.now pass.old }
+    requires processor { c < wk.now.shape.cpus }
+    requires free { queue_held pass.old.trace c ≡ None }
+    ensures processor { result.cpu ≡ c }
+    ensures same { IsSame pass.old pass.new }
+    ensures trace { pass.new.trace ≡ Took c (val.Queue result.val) ∷ pass.old.trace }
+    ensures taken { TakenQueue pass.old.shape pass.old.seat pass.old.trace c result.val }
+{
+    let Val::Queue(val) = take::<B, QueueLock, R>(rt, &wk.words, &mut pass.token, c) else {
+        unreachable!()
+    };
+    QueueGuard { val, cpu: c }
+}
+
+/// Takes the lock of a processor's works, as Linux's `raw_spin_lock(&stopper->lock)`, and waits until it is free.
+pub fn lock_works<B: Kept, R: Wait>(rt: &R, wk: &Wk<B>, pass: &mut Pass, c: CpuNo) -> WorksGuard
+    requires of { IsOf wk.now pass.old }
+    requires processor { c < wk.now.shape.cpus }
+    requires free { works_held pass.old.trace c ≡ None }
+    ensures processor { result.cpu ≡ c }
+    ensures same { IsSame pass.old pass.new }
+    ensures trace { pass.new.trace ≡ Took c (val.Works result.val) ∷ pass.old.trace }
+{
+    let Val::Works(val) = take::<B, WorksLock, R>(rt, &wk.words, &mut pass.token, c) else {
+        unreachable!()
+    };
+    WorksGuard { val, cpu: c }
+}
+
+/// Takes the lock of a condition's wait queue, as Linux's `spin_lock(&wq_head->lock)`, and waits until it is free.
+pub fn lock_wait<B: Kept, R: Wait>(rt: &R, wk: &Wk<B>, pass: &mut Pass, k: CondNo) -> WaitGuard
+    requires of { IsOf wk.now pass.old }
+    requires condition { k < wk.now.shape.conds }
+    requires free { wait_held pass.old.trace k ≡ None }
+    ensures condition { result.cond ≡ k }
+    ensures same { IsSame pass.old pass.new }
+    ensures trace { pass.new.trace ≡ Took k (val.Wait result.val) ∷ pass.old.trace }
+    ensures taken { TakenWait pass.old.shape result.val }
+{
+    let Val::Wait(val) = take::<B, WaitLock, R>(rt, &wk.words, &mut pass.token, k) else {
+        unreachable!()
+    };
+    WaitGuard { val, cond: k }
+}
+
+impl TaskGuard {
+    /// Gives the lock, with the value as it now is.
+    pub fn give<B: Kept>(self, wk: &Wk<B>, pass: &mut Pass)
+        requires of { IsOf wk.now pass.old }
+        requires task { self.task < wk.now.shape.tasks }
+        requires may { MayGiveTaskVal pass.old.seat pass.old.trace wk.now.shape self.task self.val }
+        ensures same { IsSame pass.old pass.new }
+        ensures trace { pass.new.trace ≡ Gave self.task (val.Task (unwrap_or (task_held pass.old.trace self.task) self.val)) (val.Task self.val) ∷ pass.old.trace }
+    {
+        let TaskGuard { val, task } = self;
+        give::<B, TaskLock>(&wk.words, &mut pass.token, task, Val::Task(val));
+    }
+}
+
+impl QueueGuard {
+    /// Gives the lock, with the value as it now is. Where the queue is the seat's own and has no `cur`, the seat has no
+    /// current task from then on.
+    pub fn give<B: Kept>(self, wk: &Wk<B>, pass: &mut Pass)
+        requires of { IsOf wk.now pass.old }
+        requires processor { self.cpu < wk.now.shape.cpus }
+        requires may { MayGiveQueueVal pass.old.seat pass.old.trace wk.now.shape self.cpu self.val }
+        ensures same { IsSame pass.old pass.new }
+        ensures trace { pass.new.trace ≡ Gave self.cpu (val.Queue (unwrap_or (queue_held pass.old.trace self.cpu) self.val)) (val.Queue self.val) ∷ pass.old.trace }
+    {
+        let QueueGuard { val, cpu } = self;
+        let gives_up = pass.token.seat() == cpu && val.cur.is_none();
+        give::<B, QueueLock>(&wk.words, &mut pass.token, cpu, Val::Queue(val));
+        if gives_up {
+            pass.current = None;
+        }
+    }
+}
+
+impl WorksGuard {
+    /// Gives the lock, with the works as they were taken.
+    pub fn give<B: Kept>(self, wk: &Wk<B>, pass: &mut Pass)
+        requires of { IsOf wk.now pass.old }
+        requires processor { self.cpu < wk.now.shape.cpus }
+        requires may { MayGiveWorksVal pass.old.seat pass.old.trace self.cpu self.val }
+        ensures same { IsSame pass.old pass.new }
+        ensures trace { pass.new.trace ≡ Gave self.cpu (val.Works (unwrap_or (works_held pass.old.trace self.cpu) self.val)) (val.Works self.val) ∷ pass.old.trace }
+    {
+        let WorksGuard { val, cpu } = self;
+        give::<B, WorksLock>(&wk.words, &mut pass.token, cpu, Val::Works(val));
+    }
+}
+
+impl WaitGuard {
+    /// Gives the lock, with the entries as they now are.
+    pub fn give<B: Kept>(self, wk: &Wk<B>, pass: &mut Pass)
+        requires of { IsOf wk.now pass.old }
+        requires condition { self.cond < wk.now.shape.conds }
+        requires may { MayGiveWaitVal pass.old.seat pass.old.trace wk.now.shape self.cond self.val }
+        ensures same { IsSame pass.old pass.new }
+        ensures trace { pass.new.trace ≡ Gave self.cond (val.Wait (unwrap_or (wait_held pass.old.trace self.cond) self.val)) (val.Wait self.val) ∷ pass.old.trace }
+    {
+        let WaitGuard { val, cond } = self;
+        give::<B, WaitLock>(&wk.words, &mut pass.token, cond, Val::Wait(val));
+    }
+}

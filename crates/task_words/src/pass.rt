@@ -1,0 +1,103 @@
+//! The token of a seat, with the entries of its turn.
+ghost use Rattle.std.specs.Prelude.{◌≡◌, ◌+◌, ◌*◌, ◌++◌, ◌∷◌, ◌<◌, [], length, slice_get};
+ghost use Rattle.handoff_data.specs.declared.entry.Entry.{Entry};
+ghost use Rattle.task_words.specs.Views.{logged};
+ghost use Rattle.word_steps.specs.Folds.{current_task};
+
+use handoff_data::{Entry, SeatNo, TaskNo};
+use std::marker::Model;
+use word_table::Token;
+
+/// The entries that a pass's calls have made since the turn was last cleared, oldest first.
+#[derive(Drop)]
+pub struct Turn {
+    pub(crate) entries: Vec<Entry>,
+}
+
+impl Model for Turn {
+    ghost use Rattle.task_words.specs.Views.{TurnView};
+
+    ghost Value = { TurnView };
+
+    ghost use Rattle.std.specs.Prelude.{◌-◌};
+    ghost use Rattle.std.specs.Vec.{vec_capacity, vec_len};
+
+    ghost view = { λ t. record { entries = t.entries.items; spare = vec_capacity t.entries - vec_len t.entries } };
+}
+
+impl Turn {
+    /// Entry `i` of the turn; none where there are not so many.
+    pub fn get(&self, i: usize) -> Option<Entry>
+        ensures { result ≡ slice_get self.now.entries i }
+    {
+        self.entries.get(i).copied()
+    }
+}
+
+/// The token of one seat: who has it makes that seat's steps. Contracts see the table, the seat's number, all that the
+/// seat did, newest first, and the turn.
+#[derive(Drop)]
+pub struct Pass {
+    pub(crate) token: Token,
+    // Its current task, as its trace has it.
+    pub(crate) current: Option<TaskNo>,
+    pub(crate) turn: Turn,
+}
+
+impl Model for Pass {
+    ghost use Rattle.task_words.specs.Views.{PassView};
+
+    ghost Value = { PassView };
+
+    ghost use Rattle.task_words.specs.Shown.{pass_view, IsPass};
+
+    ghost view = { pass_view };
+
+    ghost invariant = { IsPass };
+}
+
+impl Pass {
+    /// The seat's number.
+    pub fn seat(&self) -> SeatNo
+        ensures { result ≡ self.now.seat }
+    {
+        self.token.seat()
+    }
+
+    /// The task that the seat runs, if it runs one.
+    pub fn current(&self) -> Option<TaskNo>
+        ensures { result ≡ current_task self.now.seat self.now.trace }
+    {
+        self.current
+    }
+
+    /// How many more entries the turn has room for.
+    pub fn spare(&self) -> usize
+        ensures { result ≡ self.now.turn.spare }
+    {
+        self.turn.entries.capacity() - self.turn.entries.len()
+    }
+
+    /// The entries of the turn.
+    pub fn turn(&self) -> &Turn
+        ensures { result.now ≡ self.now.turn }
+    {
+        &self.turn
+    }
+
+    /// Forgets the entries of the turn, whose room is then free: for four entries a task and sixteen. What the seat did
+    /// stays.
+    pub fn clear_turn(&mut self)
+        ensures { self.new ≡ record self.old { turn = record { entries = []; spare = 4 * self.old.shape.tasks + 16 } } }
+    {
+        self.turn.entries.clear();
+    }
+
+    // One entry more.
+    pub(crate) fn log(&mut self, entry: Entry)
+        requires spare { 0 < self.old.turn.spare }
+        ensures { self.new ≡ record self.old { turn = logged entry self.old.turn } }
+    {
+        self.turn.entries.push_reserved(entry);
+    }
+}

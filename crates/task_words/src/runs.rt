@@ -1,0 +1,210 @@
+//! Queue words and busy words, each with its next number. Calls that would pass the last number wait for good.
+ghost use Rattle.std.specs.Prelude.{◌≡◌, ℕ, ◌+◌, ◌/◌, ◌%◌, ◌^◌, ◌<◌, ◌∷◌, Some};
+ghost use Rattle.core_kinds.specs.Running.{queue_entry, dequeue_entry, is_dead};
+ghost use Rattle.handoff_data.specs.declared.entry.Entry.TheVariants as entry;
+ghost use Rattle.task_words.specs.Views.{IsOf, IsSameSeat, logged};
+ghost use Rattle.word_rule.specs.May.{MayQueueWord, MayDequeueWord, MayMoveWord, MaySetBusyWord, MayClearBusyWord, next_rq, next_busy};
+ghost use Rattle.word_steps.specs.Folds.{seen_state, last_reads};
+ghost use Rattle.word_table.specs.Views.{IsOf as IsTokenOf, IsSame as IsSameToken};
+ghost use Rattle.word_steps.specs.Records.{Queued, Dequeued, Moved, SetBusy, ClearedBusy};
+
+use crate::guards::QueueGuard;
+use crate::pass::Pass;
+use crate::wk::Wk;
+use core_data::Rq;
+use crossbeam_utils::Backoff;
+use handoff_data::{CpuNo, Entry, TaskNo};
+use std::sync::Wait;
+use word_kinds::{DequeueTask, MoveTask, QueueTask};
+use word_table::{Kept, Kind, Token, exchange, fetch_add, peek};
+
+// A queue word and a busy word are changed while their number is below it.
+const END: u64 = 1 << 60;
+
+// One more change of the queue word of t, to `on`. It answers the word that it found.
+fn change_rq<B: Kept, K: Kind, R: Wait>(
+    rt: &R,
+    wk: &Wk<B>,
+    token: &mut Token,
+    t: TaskNo,
+    on: u64,
+) -> u64
+    requires of { IsTokenOf wk.now token.old }
+    requires row { t < K.bound wk.now.shape }
+    requires on { on < 4 }
+    requires may { (x : ℕ) → x / 4 < 2 ^ 60 → K.may wk.now.shape token.old.seat token.old.trace t x (next_rq x on) }
+    ensures same { IsSameToken token.old token.new }
+    ensures trace { token.new.trace ≡ K.note token.old.seat token.old.trace t (next_rq result on) result ∷ token.old.trace }
+    ensures room { result / 4 < 2 ^ 60 }
+{
+    let backoff = Backoff::new();
+    for _ in rt.forever() {
+        let found = peek(&wk.words, t, K::column());
+        if found / 4 < END {
+            let new = 4 * (found / 4 + 1) + on;
+            if exchange::<B, K>(&wk.words, token, t, found, new) == found {
+                return found;
+            }
+        }
+        backoff.snooze();
+    }
+    unreachable!()
+}
+
+/// Queues a task, as Linux's `activate_task` stores TASK_ON_RQ_QUEUED: a new one, one that the seat wakes, or one that it
+/// moves. The caller has the locks of the task and of the queue, whose processor is the task's. It answers the word that
+/// was there.
+pub fn queue_task<B: Kept, R: Wait>(
+    rt: &R,
+    wk: &Wk<B>,
+    pass: &mut Pass,
+    queue: &QueueGuard,
+    t: TaskNo,
+) -> Rq
+    requires of { IsOf wk.now pass.old }
+    requires task { t < wk.now.shape.tasks }
+    requires here { (last_reads pass.old.trace t).cpu ≡ Some queue.now.cpu }
+    requires may { (x : ℕ) → x / 4 < 2 ^ 60 → MayQueueWord pass.old.seat pass.old.trace t x (next_rq x 1) }
+    requires spare { 0 < pass.old.turn.spare }
+    ensures same { IsSameSeat pass.old pass.new }
+    ensures trace { pass.new.trace ≡ Queued t queue.now.cpu result.on result.m ∷ pass.old.trace }
+    ensures turn { pass.new.turn ≡ logged (queue_entry result.m result.on t queue.now.cpu) pass.old.turn }
+{
+    let word = change_rq::<B, QueueTask, R>(rt, wk, &mut pass.token, t, 1);
+    let (on, m, c) = ((word % 4) as u8, word / 4, queue.cpu);
+    pass.log(if m == 0 {
+        Entry::New { t, m: m + 1, c }
+    } else if on == 2 {
+        Entry::In { t, m: m + 1, c }
+    } else {
+        Entry::Enq {
+            t,
+            m: m + 1,
+            c,
+            by_list: false,
+        }
+    });
+    Rq { on, m }
+}
+
+/// Takes the seat's current task off its queue, as Linux's `deactivate_task`: it sleeps, or, where `dies`, it is dead, by
+/// the state that the seat read under its queue's lock. It answers the number of changes before.
+pub fn dequeue_task<B: Kept, R: Wait>(
+    rt: &R,
+    wk: &Wk<B>,
+    pass: &mut Pass,
+    t: TaskNo,
+    dies: bool,
+) -> u64
+    requires of { IsOf wk.now pass.old }
+    requires task { t < wk.now.shape.tasks }
+    requires may { (x : ℕ) → x / 4 < 2 ^ 60 → MayDequeueWord pass.old.seat pass.old.trace t x (next_rq x 0) }
+    requires dies { is_dead (seen_state pass.old.seat pass.old.trace) ≡ dies }
+    requires spare { 0 < pass.old.turn.spare }
+    ensures same { IsSameSeat pass.old pass.new }
+    ensures trace { pass.new.trace ≡ Dequeued t pass.old.seat result ∷ pass.old.trace }
+    ensures turn { pass.new.turn ≡ logged (dequeue_entry (seen_state pass.old.seat pass.old.trace) result t pass.old.seat) pass.old.turn }
+{
+    let m = change_rq::<B, DequeueTask, R>(rt, wk, &mut pass.token, t, 0) / 4;
+    let c = pass.token.seat();
+    pass.log(if dies {
+        Entry::Die { t, m: m + 1, c }
+    } else {
+        Entry::Sleep { t, m: m + 1, c }
+    });
+    m
+}
+
+/// Takes a waiting task out of a queue, to be moved, as Linux's `deactivate_task` with TASK_ON_RQ_MIGRATING. It answers
+/// the number of changes before.
+pub fn move_task<B: Kept, R: Wait>(
+    rt: &R,
+    wk: &Wk<B>,
+    pass: &mut Pass,
+    queue: &QueueGuard,
+    t: TaskNo,
+) -> u64
+    requires of { IsOf wk.now pass.old }
+    requires task { t < wk.now.shape.tasks }
+    requires here { (last_reads pass.old.trace t).cpu ≡ Some queue.now.cpu }
+    requires may { (x : ℕ) → x / 4 < 2 ^ 60 → MayMoveWord pass.old.seat pass.old.trace t x (next_rq x 2) }
+    requires spare { 0 < pass.old.turn.spare }
+    ensures same { IsSameSeat pass.old pass.new }
+    ensures trace { pass.new.trace ≡ Moved t queue.now.cpu result ∷ pass.old.trace }
+    ensures turn { pass.new.turn ≡ logged (entry.Out t (result + 1) queue.now.cpu) pass.old.turn }
+{
+    let m = change_rq::<B, MoveTask, R>(rt, wk, &mut pass.token, t, 2) / 4;
+    pass.log(Entry::Out {
+        t,
+        m: m + 1,
+        c: queue.cpu,
+    });
+    m
+}
+
+/// Sets the busy word of the task that is next in the seat's own queue, which then is the seat's current task, as Linux's
+/// `prepare_task` stores `on_cpu`. It answers the number of changes before.
+pub fn set_busy<B: Kept, R: Wait>(
+    rt: &R,
+    wk: &Wk<B>,
+    pass: &mut Pass,
+    queue: &QueueGuard,
+    t: TaskNo,
+) -> u64
+    requires of { IsOf wk.now pass.old }
+    requires task { t < wk.now.shape.tasks }
+    requires own { queue.now.cpu ≡ pass.old.seat }
+    requires next { queue.now.val.cur ≡ Some t }
+    requires may { (x : ℕ) → x / 2 < 2 ^ 60 → MaySetBusyWord pass.old.seat pass.old.trace t x (next_busy x) }
+    requires spare { 0 < pass.old.turn.spare }
+    ensures same { IsSameSeat pass.old pass.new }
+    ensures trace { pass.new.trace ≡ SetBusy t pass.old.seat result ∷ pass.old.trace }
+    ensures turn { pass.new.turn ≡ logged (entry.Pick t (result + 1) pass.old.seat) pass.old.turn }
+{
+    let n = change_busy(rt, wk, &mut pass.token, t);
+    pass.current = Some(t);
+    let c = pass.token.seat();
+    pass.log(Entry::Pick { t, n: n + 1, c });
+    n
+}
+
+// One more change of the busy word of t, which is set. It answers the number before.
+fn change_busy<B: Kept, R: Wait>(rt: &R, wk: &Wk<B>, token: &mut Token, t: TaskNo) -> u64
+    requires of { IsTokenOf wk.now token.old }
+    requires row { t < wk.now.shape.tasks }
+    requires may { (x : ℕ) → x / 2 < 2 ^ 60 → MaySetBusyWord token.old.seat token.old.trace t x (next_busy x) }
+    ensures same { IsSameToken token.old token.new }
+    ensures trace { token.new.trace ≡ SetBusy t token.old.seat result ∷ token.old.trace }
+    ensures room { result < 2 ^ 60 }
+{
+    let backoff = Backoff::new();
+    for _ in rt.forever() {
+        let found = peek(&wk.words, t, word_kinds::SetBusy::column());
+        let n = found / 2;
+        if n < END {
+            let new = 2 * (n + 1) + 1;
+            if exchange::<B, word_kinds::SetBusy>(&wk.words, token, t, found, new) == found {
+                return n;
+            }
+        }
+        backoff.snooze();
+    }
+    unreachable!()
+}
+
+/// Clears the busy word of the task that the seat has switched out, as Linux's `finish_task`. It answers the number of
+/// changes before.
+pub fn clear_busy<B: Kept>(wk: &Wk<B>, pass: &mut Pass, t: TaskNo) -> u64
+    requires of { IsOf wk.now pass.old }
+    requires task { t < wk.now.shape.tasks }
+    requires may { (x : ℕ) → MayClearBusyWord pass.old.seat pass.old.trace t x ((x + 1) % 2 ^ 64) }
+    requires spare { 0 < pass.old.turn.spare }
+    ensures same { IsSameSeat pass.old pass.new }
+    ensures trace { pass.new.trace ≡ ClearedBusy t result ∷ pass.old.trace }
+    ensures turn { pass.new.turn ≡ logged (entry.Finish t (result + 1) pass.old.seat) pass.old.turn }
+{
+    let n = fetch_add::<B, word_kinds::ClearBusy>(&wk.words, &mut pass.token, t) / 2;
+    let c = pass.token.seat();
+    pass.log(Entry::Finish { t, n: n + 1, c });
+    n
+}

@@ -1,0 +1,104 @@
+-- Bodies taken out and put home keep the rule; and a new table keeps it.
+use Rattle.std.proofs.Common.{◌≡◌, ℕ, ◌<◌, ◌+◌, refl, List, [], ◌∷◌}
+use Rattle.std.specs.Prelude.{◌↔◌, Bool, true, false}
+use Rattle.core_data.specs.Table.{put}
+use Rattle.handoff_data.specs.Mask.{HasCpu}
+use Rattle.handoff_data.specs.Shape.{IsShape}
+use Rattle.handoff_data.specs.declared.mask.CpuMask.{CpuMask}
+use Rattle.handoff_data.specs.declared.shape.Shape.{Shape}
+use Rattle.word_rule.proofs.BodiesKept.{known_start, body_out_known, body_home_known}
+use Rattle.word_rule.proofs.GrownKept.{grown_start}
+use Rattle.word_rule.proofs.OffKept.{off_start}
+use Rattle.word_rule.proofs.PossibleGives.{take_body_possible, return_body_possible}
+use Rattle.word_rule.proofs.Quiet.{still_kept}
+use Rattle.word_rule.proofs.RunsKept.{runs_start}
+use Rattle.word_rule.proofs.StandingKept.{standing_first}
+use Rattle.word_rule.specs.Kept.{Kept}
+use Rattle.word_rule.specs.May.{MayTakeBody, MayReturnBody}
+use Rattle.word_steps.proofs.CurrentKept.{current_start}
+use Rattle.word_steps.proofs.EndedKept.{ended_start, body_out_ended, body_home_ended}
+use Rattle.word_steps.proofs.FirstCore.{first_holds}
+use Rattle.word_steps.proofs.Keeps.{body_out_keeps, body_home_keeps}
+use Rattle.word_steps.proofs.MatchedKept.{matched_start}
+use Rattle.word_steps.proofs.MovingSteps.{moving_start, states_start}
+use Rattle.word_steps.proofs.NumbersKept.{numbers_start}
+use Rattle.word_steps.proofs.PutKept.{put_start}
+use Rattle.word_steps.proofs.QueuedKept.{queued_start}
+use Rattle.word_steps.specs.Decode.{Homes}
+use Rattle.word_steps.specs.Opening.{first_words, first_homes}
+use Rattle.word_steps.specs.Records.{Rec, OutBody, HomeBody}
+
+module _ (shape : Shape) (words : ℕ → ℕ → ℕ) (homes : Homes) (traces : ℕ → List Rec) (s t : ℕ) where
+  -- the body is home, and the record tells whether it has ended
+  pub take_body_law : Kept shape words homes traces → s < shape.cpus + shape.agents → t < shape.tasks
+      → MayTakeBody s (traces s) t
+      → (homes.body t ≡ true)
+      × Kept shape words (record homes { body = put homes.body t false })
+      (put traces s (OutBody t (homes.ended t) ∷ traces s))
+  take_body_law kept seat task may =
+      let core = take_body_possible shape words homes traces s kept seat t task may in (
+        core.home,
+        still_kept shape words homes (record homes { body = put homes.body t false }) traces s kept
+            (OutBody t (homes.ended t))
+            (record {
+              moving = λ h. refl;
+              numbers = λ h. refl;
+              matched = refl;
+              queued = λ c u e. e;
+              put_there = refl;
+              standing = refl;
+              off = λ u e. e;
+            })
+            (record { current = λ j. refl; stays = refl }) refl
+            (body_out_keeps shape words homes traces s t (homes.ended t) kept.holds core)
+            (body_out_ended homes.ended traces s kept.ended t (homes.ended t) refl)
+            (body_out_known traces s kept.known t (homes.ended t)),
+      )
+
+  -- the body isn't home, and is told whether it has ended by now
+  pub return_body_law : (ended : Bool) → Kept shape words homes traces → s < shape.cpus + shape.agents → t < shape.tasks
+      → MayReturnBody s (traces s) t ended
+      → (homes.body t ≡ false)
+      × Kept shape words (record homes { body = put homes.body t true; ended = put homes.ended t ended })
+      (put traces s (HomeBody t ended ∷ traces s))
+  return_body_law ended kept seat task may =
+      let core = return_body_possible shape words homes traces s kept seat t ended task may in (
+        kept.holds.busy.bodies.out_away s t may.out,
+        still_kept shape words homes
+            (record homes { body = put homes.body t true; ended = put homes.ended t ended }) traces s kept
+            (HomeBody t ended)
+            (record {
+              moving = λ h. refl;
+              numbers = λ h. refl;
+              matched = refl;
+              queued = λ c u e. e;
+              put_there = refl;
+              standing = refl;
+              off = λ u e. e;
+            })
+            (record { current = λ j. refl; stays = refl }) refl
+            (body_home_keeps shape words homes traces s t ended kept.holds core)
+            (body_home_ended shape words homes traces s kept.holds kept.ended t ended core)
+            (body_home_known traces s kept.known t ended),
+      )
+
+pub start_law : (shape : Shape) (mask : CpuMask) → IsShape shape → ((c : ℕ) → HasCpu mask c ↔ (c < shape.cpus))
+    → Kept shape (first_words shape) (first_homes shape mask) (λ s. [])
+start_law shape mask is_shape all =
+    record {
+      holds = first_holds shape mask is_shape all;
+      moving = moving_start shape;
+      current = current_start (first_words shape);
+      numbers = numbers_start (first_words shape);
+      matched = matched_start (first_words shape);
+      queued = queued_start (first_words shape);
+      put_there = put_start (first_words shape);
+      ended = ended_start (λ t. false);
+      counts = λ t. refl;
+      states = states_start shape;
+      standing = standing_first shape;
+      runs = runs_start (first_words shape);
+      off = off_start (first_words shape);
+      grown = grown_start (first_words shape);
+      known = known_start;
+    }

@@ -1,0 +1,177 @@
+-- Loads keep the rule. Beside it stands what is known of the word found.
+use Rattle.std.proofs.Common.{◌≡◌, ℕ, ◌<◌, ◌+◌, refl, sym, ap, subst, ◌∙◌, List, ◌∷◌}
+use Rattle.std.specs.Prelude.{◌/◌, ◌%◌, ◌^◌, Option, Some, None}
+use Rattle.core_data.specs.Table.{put, put_at}
+use Rattle.core_invariant.specs.Invariant.{Holds}
+use Rattle.core_kinds.specs.Waking.{IsMask, MayLoadState}
+use Rattle.handoff_data.specs.declared.shape.Shape.{Shape}
+use Rattle.handoff_data.specs.declared.state.State.{State}
+use Rattle.word_rule.proofs.BodiesKept.{known_still}
+use Rattle.word_rule.proofs.GrownKept.{grown_still, load_rq_grown}
+use Rattle.word_rule.proofs.OffKept.{off_still, load_rq_off}
+use Rattle.word_rule.proofs.Quiet.{IsQuiet, IsSteady, IsOutside, still_kept}
+use Rattle.word_rule.proofs.RunsKept.{runs_still, load_state_runs}
+use Rattle.word_rule.proofs.StandingKept.{standing_still}
+use Rattle.word_rule.specs.Kept.{Kept}
+use Rattle.word_rule.specs.Standing.{may_run}
+use Rattle.word_steps.proofs.CurrentKept.{current_still}
+use Rattle.word_steps.proofs.EndedKept.{ended_still}
+use Rattle.word_steps.proofs.Keeps.{load_state_keeps, load_rq_keeps, load_busy_keeps, load_cpu_keeps, load_cond_keeps}
+use Rattle.word_steps.proofs.MatchedKept.{matched_still, load_state_matched}
+use Rattle.word_steps.proofs.MovingSteps.{moving_still}
+use Rattle.word_steps.proofs.NumbersKept.{numbers_still, load_rq_numbers}
+use Rattle.word_steps.proofs.PutKept.{put_still}
+use Rattle.word_steps.proofs.Puts.{word_same}
+use Rattle.word_steps.proofs.QueuedKept.{queued_still, load_rq_queued}
+use Rattle.word_steps.specs.Decode.{Homes, core_of, core_after}
+use Rattle.word_steps.specs.Records.{Rec, LoadedState, LoadedRq, LoadedBusy, LoadedCpu, LoadedCond}
+use Rattle.word_steps.specs.Words.{STATE, RQ, BUSY, CPU, COND, is_set}
+
+module _ (shape : Shape) (words : ℕ → ℕ → ℕ) (homes : Homes) (traces : ℕ → List Rec) (s n y : ℕ)
+    (kept : Kept shape words homes traces) (seat : s < shape.cpus + shape.agents) where
+  -- a load leaves the word that it finds
+  as_found : (c : ℕ) (r : Rec) → y ≡ words n c → Kept shape words homes (put traces s (r ∷ traces s))
+      → Kept shape (put_at words n c y) homes (put traces s (r ∷ traces s))
+  as_found c r same after =
+      subst (λ (w : ℕ → ℕ → ℕ). Kept shape w homes (put traces s (r ∷ traces s)))
+      (sym (ap (put_at words n c) same ∙ word_same words n c)) after
+
+  -- one that tells nothing new of what stands beside the invariant
+  quiet_load : (c : ℕ) (r : Rec) → y ≡ words n c → IsQuiet r (traces s) → IsSteady r (traces s) → IsOutside r (traces s)
+      → may_run s (r ∷ traces s) ≡ may_run s (traces s) → Holds (core_after shape words homes traces s r)
+      → Kept shape (put_at words n c y) homes (put traces s (r ∷ traces s))
+  quiet_load c r same quiet steady outside runs holds =
+      as_found c r same (still_kept shape words homes homes traces s kept r quiet steady runs holds
+      (ended_still homes.ended traces s kept.ended r steady.current outside.ended)
+      (known_still traces s kept.known r outside.body outside.ended))
+
+  abbrev state_note : Option State → Rec
+  state_note mask = LoadedState n mask (record { 0 = words n STATE })
+
+  state_kept : (mask : Option State) → n < shape.tasks → IsMask mask
+      → Kept shape words homes (put traces s (state_note mask ∷ traces s))
+  state_kept mask task allowed =
+      let may : MayLoadState
+      (core_of shape words homes traces) s n mask = record { seat = seat; task = task; allowed = allowed } in
+      let holds = load_state_keeps shape words homes traces s n mask kept.holds may in
+      record {
+        holds = holds;
+        moving = moving_still shape words homes traces s kept.moving (state_note mask) (λ h. refl);
+        current = current_still words traces s kept.current (state_note mask) (λ j. refl) refl;
+        numbers = numbers_still words traces s kept.numbers (state_note mask) (λ h. refl);
+        matched = load_state_matched words traces s kept.matched shape homes n mask
+            (record { 0 = words n STATE }) holds;
+        queued = queued_still words traces s kept.queued (state_note mask) (λ c t e. e);
+        put_there = put_still words traces s kept.put_there (state_note mask) refl;
+        ended = ended_still homes.ended traces s kept.ended (state_note mask) (λ j. refl) refl;
+        counts = kept.counts;
+        states = kept.states;
+        standing = standing_still words traces s kept.standing (state_note mask) refl;
+        runs = load_state_runs words traces s kept.runs shape homes kept.holds n mask kept.current;
+        off = off_still words traces s kept.off (state_note mask) (λ t e. e) refl;
+        grown = grown_still words traces s kept.grown (state_note mask) refl;
+        known = known_still traces s kept.known (state_note mask) refl refl;
+      }
+
+  -- of the state, with no mask
+  pub load_state_law : n < shape.tasks → y ≡ words n STATE
+      → Kept shape (put_at words n STATE y) homes
+      (put traces s (LoadedState n None (record { 0 = words n STATE }) ∷ traces s)) × (words n STATE < 2 ^ 16)
+  load_state_law task same = (as_found STATE (state_note None) same (state_kept None task tt), kept.states n)
+
+  abbrev rq_note : Rec
+  rq_note = LoadedRq n (words n RQ % 4) (words n RQ / 4)
+
+  rq_kept : n < shape.tasks → Kept shape words homes (put traces s (rq_note ∷ traces s))
+  rq_kept task =
+      record {
+        holds = load_rq_keeps shape words homes traces s n kept.holds (record { seat = seat; task = task });
+        moving = moving_still shape words homes traces s kept.moving rq_note (λ h. refl);
+        current = current_still words traces s kept.current rq_note (λ j. refl) refl;
+        numbers = load_rq_numbers words traces s kept.numbers n (words n RQ % 4);
+        matched = matched_still words traces s kept.matched rq_note refl;
+        queued = load_rq_queued words traces s kept.queued n (words n RQ / 4);
+        put_there = put_still words traces s kept.put_there rq_note refl;
+        ended = ended_still homes.ended traces s kept.ended rq_note (λ j. refl) refl;
+        counts = kept.counts;
+        states = kept.states;
+        standing = standing_still words traces s kept.standing rq_note refl;
+        runs = runs_still words traces s kept.runs rq_note refl refl;
+        off = load_rq_off words traces s kept.off n (words n RQ % 4);
+        grown = load_rq_grown words traces s kept.grown n (words n RQ % 4);
+        known = known_still traces s kept.known rq_note refl refl;
+      }
+
+  pub load_rq_law : n < shape.tasks → y ≡ words n RQ
+      → Kept shape (put_at words n RQ y) homes
+      (put traces s (LoadedRq n (words n RQ % 4) (words n RQ / 4) ∷ traces s)) × Unit {0}
+  load_rq_law task same = (as_found RQ rq_note same (rq_kept task), tt)
+
+  pub load_busy_law : n < shape.tasks → y ≡ words n BUSY
+      → Kept shape (put_at words n BUSY y) homes
+      (put traces s (LoadedBusy n (is_set (words n BUSY)) (words n BUSY / 2) ∷ traces s)) × Unit {0}
+  load_busy_law task same = (
+    quiet_load BUSY (LoadedBusy n (is_set (words n BUSY)) (words n BUSY / 2)) same
+        (record {
+          moving = λ h. refl;
+          numbers = λ h. refl;
+          matched = refl;
+          queued = λ c t e. e;
+          put_there = refl;
+          standing = refl;
+          off = λ t e. e;
+        })
+        (record { current = λ j. refl; stays = refl }) (record { ended = refl; body = refl }) refl
+        (load_busy_keeps shape words homes traces s n kept.holds (record { seat = seat; task = task })),
+    tt,
+  )
+
+  pub load_cpu_law : n < shape.tasks → y ≡ words n CPU
+      → Kept shape (put_at words n CPU y) homes
+      (put traces s (LoadedCpu n (words n CPU) ∷ traces s)) × (words n CPU < shape.cpus)
+  load_cpu_law task same = (
+    quiet_load CPU (LoadedCpu n (words n CPU)) same
+        (record {
+          moving = λ h. refl;
+          numbers = λ h. refl;
+          matched = refl;
+          queued = λ c t e. e;
+          put_there = refl;
+          standing = refl;
+          off = λ t e. e;
+        })
+        (record { current = λ j. refl; stays = refl }) (record { ended = refl; body = refl }) refl
+        (load_cpu_keeps shape words homes traces s n kept.holds (record { seat = seat; task = task })),
+    kept.holds.shapes.cpu n task,
+  )
+
+  pub load_cond_law : n < shape.conds → y ≡ words n COND
+      → Kept shape (put_at words n COND y) homes (put traces s (LoadedCond n (words n COND) ∷ traces s)) × Unit {0}
+  load_cond_law condition same = (
+    quiet_load COND (LoadedCond n (words n COND)) same
+        (record {
+          moving = λ h. refl;
+          numbers = λ h. refl;
+          matched = refl;
+          queued = λ c t e. e;
+          put_there = refl;
+          standing = refl;
+          off = λ t e. e;
+        })
+        (record { current = λ j. refl; stays = refl }) (record { ended = refl; body = refl }) refl
+        (load_cond_keeps shape words homes traces s n kept.holds (record { seat = seat; condition = condition })),
+    tt,
+  )
+
+-- of the state, with a mask
+pub load_masked_law : (mask : State) → IsMask (Some mask)
+    → (shape : Shape) (words : ℕ → ℕ → ℕ) (homes : Homes) (traces : ℕ → List Rec) (s n y : ℕ)
+    → Kept shape words homes traces → s < shape.cpus + shape.agents → n < shape.tasks → y ≡ words n STATE
+    → Kept shape (put_at words n STATE y) homes
+    (put traces s (LoadedState n (Some mask) (record { 0 = words n STATE }) ∷ traces s)) × (words n STATE < 2 ^ 16)
+load_masked_law mask allowed shape words homes traces s n y kept seat task same = (
+  as_found shape words homes traces s n y kept seat STATE
+      (state_note shape words homes traces s n y kept seat (Some mask)) same
+      (state_kept shape words homes traces s n y kept seat (Some mask) task allowed),
+  kept.states n,
+)

@@ -1,0 +1,138 @@
+-- Stores of a task's queue word keep the rule.
+use Rattle.std.proofs.Common.{◌≡◌, ℕ, ◌<◌, ◌+◌, refl, sym, ap, subst, List, ◌∷◌, arith}
+use Rattle.std.specs.Prelude.{◌/◌, ◌%◌, Option, Some, unwrap_or}
+use Rattle.core_data.specs.Queue.{Queue}
+use Rattle.core_data.specs.Table.{put, put_at}
+use Rattle.core_kinds.specs.Running.{MayQueue, MayDequeue, MayMove}
+use Rattle.handoff_data.specs.declared.shape.Shape.{Shape}
+use Rattle.word_rule.proofs.BodiesKept.{known_still}
+use Rattle.word_rule.proofs.GrownKept.{next_grown}
+use Rattle.word_rule.proofs.OffKept.{queue_task_off, dequeue_task_off, move_task_off}
+use Rattle.word_rule.proofs.Possible.{queue_possible, dequeue_possible, move_possible}
+use Rattle.word_rule.proofs.RunsKept.{queue_task_runs, dequeue_task_runs, move_task_runs}
+use Rattle.word_rule.proofs.StandingKept.{queue_task_standing, dequeue_task_standing, move_task_standing}
+use Rattle.word_rule.specs.Kept.{Kept}
+use Rattle.word_rule.specs.May.{MayQueueWord, MayDequeueWord, MayMoveWord, cpu_read_of}
+use Rattle.word_steps.proofs.CurrentKept.{queue_task_current, dequeue_task_current, move_task_current}
+use Rattle.word_steps.proofs.EndedKept.{ended_still, counts_put}
+use Rattle.word_steps.proofs.Keeps.{queue_task_keeps, dequeue_task_keeps, move_task_keeps}
+use Rattle.word_steps.proofs.MatchedKept.{matched_beside, grows_next}
+use Rattle.word_steps.proofs.MovingKept.{states_put}
+use Rattle.word_steps.proofs.MovingSteps.{queue_task_moves, dequeue_task_moves, move_task_moves}
+use Rattle.word_steps.proofs.NumbersKept.{queue_task_numbers, dequeue_task_numbers, move_task_numbers}
+use Rattle.word_steps.proofs.PutKept.{queue_task_put, dequeue_task_put, move_task_put}
+use Rattle.word_steps.proofs.QueuedKept.{queue_task_queued, dequeue_task_queued, move_task_queued}
+use Rattle.word_steps.specs.Decode.{Homes, core_of}
+use Rattle.word_steps.specs.Folds.{last_reads}
+use Rattle.word_steps.specs.Records.{Rec, Queued, Dequeued, Moved}
+use Rattle.word_steps.specs.Words.{RQ}
+
+-- the processor that was read last
+read_of : (trace : List Rec) (t c : ℕ) → (last_reads trace t).cpu ≡ Some c → c ≡ cpu_read_of trace t
+read_of trace t c read = sym (ap (λ (o : Option ℕ). unwrap_or o 0) read)
+
+module _ (shape : Shape) (words : ℕ → ℕ → ℕ) (homes : Homes) (traces : ℕ → List Rec) (s n y : ℕ)
+    (kept : Kept shape words homes traces) (seat : s < shape.cpus + shape.agents) where
+  -- what the word was
+  abbrev on : ℕ
+  on = words n RQ % 4
+
+  abbrev m : ℕ
+  m = words n RQ / 4
+
+  pub queue_law : n < shape.tasks → MayQueueWord s (traces s) n (words n RQ) y
+      → Kept shape (put_at words n RQ y) homes
+      (put traces s (Queued n (cpu_read_of (traces s) n) (words n RQ % 4) (words n RQ / 4) ∷ traces s)) × Unit {0}
+  queue_law task may = (
+    subst (λ (c : ℕ). Kept shape (put_at words n RQ y) homes (put traces s (Queued n c on m ∷ traces s)))
+        (read_of (traces s) n may.cpu may.read)
+        (kept_after may.cpu (omega (arith, may.after)) (omega (arith, may.after))
+        (queue_possible shape words homes traces s kept seat n y task may)),
+    tt,
+  )
+    where
+      kept_after : (c : ℕ) → y % 4 ≡ 1 → y / 4 ≡ words n RQ / 4 + 1 → MayQueue (core_of shape words homes traces) s c n
+          → Kept shape (put_at words n RQ y) homes (put traces s (Queued n c on m ∷ traces s))
+      kept_after c on_is next core =
+          record {
+            holds = queue_task_keeps shape words homes traces s c n y on_is next kept.holds core;
+            moving = queue_task_moves shape words homes traces s kept.moving c n y on_is core;
+            current = queue_task_current words traces s kept.current c n on m y on_is;
+            numbers = queue_task_numbers words traces s kept.numbers shape homes kept.holds c n on m y core;
+            matched = matched_beside words traces s kept.matched n RQ y (Queued n c on m) (λ e. omega (arith, e))
+                (grows_next words traces s kept.matched n y next) refl;
+            queued = queue_task_queued words traces s kept.queued c n on m y on_is;
+            put_there = queue_task_put words traces s kept.put_there shape homes kept.holds c n on m y on_is core;
+            ended = ended_still homes.ended traces s kept.ended (Queued n c on m) (λ j. refl) refl;
+            counts = counts_put words n RQ y kept.counts (λ e. omega (arith, e));
+            states = states_put words n RQ y kept.states (λ e. absurd (omega (arith, e)));
+            standing = queue_task_standing words traces s kept.standing shape homes c n on m y on_is core;
+            runs = queue_task_runs words traces s kept.runs shape homes kept.holds c n y on_is core;
+            off = queue_task_off words traces s kept.off shape homes kept.holds c n on m y core;
+            grown = next_grown words traces s kept.grown n y (Queued n c on m) next refl;
+            known = known_still traces s kept.known (Queued n c on m) refl refl;
+          }
+
+  pub dequeue_law : n < shape.tasks → MayDequeueWord s (traces s) n (words n RQ) y
+      → Kept shape (put_at words n RQ y) homes (put traces s (Dequeued n s (words n RQ / 4) ∷ traces s)) × Unit {0}
+  dequeue_law task may = (
+    kept_after (omega (arith, may.after)) (omega (arith, may.after))
+        (dequeue_possible shape words homes traces s kept seat n y task may),
+    tt,
+  )
+    where
+      kept_after : y % 4 ≡ 0 → y / 4 ≡ words n RQ / 4 + 1 → MayDequeue (core_of shape words homes traces) s s n
+          → Kept shape (put_at words n RQ y) homes (put traces s (Dequeued n s m ∷ traces s))
+      kept_after on_is next core =
+          record {
+            holds = dequeue_task_keeps shape words homes traces s s n y on_is next kept.holds core;
+            moving = dequeue_task_moves shape words homes traces s kept.moving s n y on_is core;
+            current = dequeue_task_current words traces s kept.current shape homes kept.holds s n m y core;
+            numbers = dequeue_task_numbers words traces s kept.numbers shape homes kept.holds s n m y core;
+            matched = matched_beside words traces s kept.matched n RQ y (Dequeued n s m) (λ e. omega (arith, e))
+                (grows_next words traces s kept.matched n y next) refl;
+            queued = dequeue_task_queued words traces s kept.queued shape homes s n m y core;
+            put_there = dequeue_task_put words traces s kept.put_there shape homes kept.holds s n m y core;
+            ended = ended_still homes.ended traces s kept.ended (Dequeued n s m) (λ j. refl) refl;
+            counts = counts_put words n RQ y kept.counts (λ e. omega (arith, e));
+            states = states_put words n RQ y kept.states (λ e. absurd (omega (arith, e)));
+            standing = dequeue_task_standing words traces s kept.standing shape homes s n m y on_is core;
+            runs = dequeue_task_runs words traces s kept.runs shape homes s n m y core;
+            off = dequeue_task_off words traces s kept.off shape homes kept.holds s n m y core;
+            grown = next_grown words traces s kept.grown n y (Dequeued n s m) next refl;
+            known = known_still traces s kept.known (Dequeued n s m) refl refl;
+          }
+
+  pub move_law : n < shape.tasks → MayMoveWord s (traces s) n (words n RQ) y
+      → Kept shape (put_at words n RQ y) homes
+      (put traces s (Moved n (cpu_read_of (traces s) n) (words n RQ / 4) ∷ traces s)) × Unit {0}
+  move_law task may = (
+    subst (λ (c : ℕ). Kept shape (put_at words n RQ y) homes (put traces s (Moved n c m ∷ traces s)))
+        (read_of (traces s) n may.cpu may.read)
+        (kept_after may.cpu may.taken (omega (arith, may.after)) (omega (arith, may.after))
+        (move_possible shape words homes traces s kept seat n y task may)),
+    tt,
+  )
+    where
+      kept_after : (c : ℕ) (q : Queue) → y % 4 ≡ 2 → y / 4 ≡ words n RQ / 4 + 1
+          → MayMove (core_of shape words homes traces) s c n q
+          → Kept shape (put_at words n RQ y) homes (put traces s (Moved n c m ∷ traces s))
+      kept_after c q on_is next core =
+          record {
+            holds = move_task_keeps shape words homes traces s c n y q on_is next kept.holds core;
+            moving = move_task_moves shape words homes traces s kept.moving c n y q on_is core;
+            current = move_task_current words traces s kept.current shape homes kept.holds c n m y q core;
+            numbers = move_task_numbers words traces s kept.numbers shape homes kept.holds c n m y q core;
+            matched = matched_beside words traces s kept.matched n RQ y (Moved n c m) (λ e. omega (arith, e))
+                (grows_next words traces s kept.matched n y next) refl;
+            queued = move_task_queued words traces s kept.queued shape homes c n m y q core;
+            put_there = move_task_put words traces s kept.put_there shape homes kept.holds c n m y q core;
+            ended = ended_still homes.ended traces s kept.ended (Moved n c m) (λ j. refl) refl;
+            counts = counts_put words n RQ y kept.counts (λ e. omega (arith, e));
+            states = states_put words n RQ y kept.states (λ e. absurd (omega (arith, e)));
+            standing = move_task_standing words traces s kept.standing shape homes c n m y q on_is core;
+            runs = move_task_runs words traces s kept.runs shape homes c n m y q core;
+            off = move_task_off words traces s kept.off shape homes kept.holds c n m y q core;
+            grown = next_grown words traces s kept.grown n y (Moved n c m) next refl;
+            known = known_still traces s kept.known (Moved n c m) refl refl;
+          }

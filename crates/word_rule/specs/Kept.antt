@@ -1,0 +1,27 @@
+-- What words, values at home and traces keep between any two steps.
+use Rattle.std.specs.Prelude.{ℕ, List}
+use Rattle.core_invariant.specs.Invariant.{Holds}
+use Rattle.handoff_data.specs.declared.shape.Shape.{Shape}
+use Rattle.word_rule.specs.Bodies.{BodiesKnown}
+use Rattle.word_rule.specs.Standing.{StandingHolds, RunsHold, OffHolds, GrownHolds}
+use Rattle.word_steps.specs.Beside.{MovingHolds, CurrentHolds, NumbersHold, MatchedHolds, QueuedHolds, PutHolds, EndedHolds, CountsZero, StatesFit}
+use Rattle.word_steps.specs.Decode.{Homes, core_of}
+use Rattle.word_steps.specs.Records.{Rec}
+
+-- the invariant of the core that they show, and what stands beside it
+pub record Kept (shape : Shape) (words : ℕ → ℕ → ℕ) (homes : Homes) (traces : ℕ → List Rec) : Type 0 where
+  pub holds : Holds (core_of shape words homes traces)
+  pub moving : MovingHolds words traces
+  pub current : CurrentHolds words traces
+  pub numbers : NumbersHold words traces
+  pub matched : MatchedHolds words traces
+  pub queued : QueuedHolds words traces
+  pub put_there : PutHolds words traces
+  pub ended : EndedHolds homes.ended traces
+  pub counts : CountsZero words
+  pub states : StatesFit words
+  pub standing : StandingHolds words traces
+  pub runs : RunsHold words traces
+  pub off : OffHolds words traces
+  pub grown : GrownHolds words traces
+  pub known : BodiesKnown traces

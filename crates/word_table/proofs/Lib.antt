@@ -1,0 +1,15 @@
+pub mod Acts
+pub mod Carries
+pub mod Decoded
+pub mod Emptying
+pub mod Ending
+pub mod Laying
+pub mod Moves
+pub mod Opened
+pub mod Opening
+pub mod Returned
+pub mod Rows
+pub mod Seats
+pub mod Slotted
+pub mod Tokens
+pub mod Ways

@@ -1,0 +1,56 @@
+-- How a table ends.
+use Rattle.std.specs.Prelude.{◌≡◌, ◌<◌, ◌≤◌, ℕ, Vec, ◌==◌, ◌%◌, ◌/◌, ◌&&◌, nat_lt, Bool, List, [], ◌∷◌, Some, None, if◌then◌else◌}
+use Rattle.std.specs.List.{Contains, slice_get}
+use Rattle.std.specs.Global.{Global}
+use Rattle.std.specs.Vec.{vec_capacity}
+use Rattle.handoff_data.specs.declared.shape.Shape.{Shape}
+use Rattle.handoff_data.specs.declared.state.State.{State}
+use Rattle.word_rule.specs.Kept.{Kept}
+use Rattle.word_steps.specs.Decode.{Homes}
+use Rattle.word_steps.specs.Folds.{task_held, queue_held, works_held, wait_held, body_held, current_task, task_to_clear}
+use Rattle.word_steps.specs.Records.{Rec}
+use Rattle.word_steps.specs.Words.{STATE, COND}
+use Rattle.word_table.specs.Layout.{SLOTS, BODY_SLOT}
+use Rattle.word_table.specs.Parts.{Part}
+use Rattle.word_table.specs.Views.{TokenView}
+
+-- nothing yet, and room for n
+pub record HasRoom {A : Type 0} (n : ℕ) (v : Vec A Global) : Type 0 where
+  pub none : v.items ≡ []
+  pub enough : n ≤ vec_capacity v
+
+-- each of the first n seats is there
+pub record HasEachSeat (n : ℕ) (seats : List ℕ) : Type 0 where
+  pub each : (s : ℕ) → s < n → Contains seats s
+
+-- the seat has given all back: no value of a lock, no body; it has no current task, and no busy word to clear
+pub record IsIdle (token : TokenView) : Type 0 where
+  pub tasks : (t : ℕ) → task_held token.trace t ≡ None
+  pub queues : (c : ℕ) → queue_held token.trace c ≡ None
+  pub works : (c : ℕ) → works_held token.trace c ≡ None
+  pub waits : (k : ℕ) → wait_held token.trace k ≡ None
+  pub body : body_held token.trace ≡ None
+  pub current : current_task token.seat token.trace ≡ None
+  pub clear : task_to_clear token.seat token.trace ≡ None
+
+-- by the seat's number the trace of its token
+abbrev pub traces_of : List TokenView → ℕ → List Rec
+traces_of [] s = []
+traces_of (token ∷ tokens) s = if token.seat == s then token.trace else traces_of tokens s
+
+abbrev pub part_of : TokenView → Part
+part_of token = record { number = token.seat; trace = token.trace; hand = 0 }
+
+-- the slot is that of the body of one of so many tasks
+abbrev pub is_body : ℕ → ℕ → Bool
+is_body tasks slot = (slot % SLOTS == BODY_SLOT) && nat_lt (slot / SLOTS) tasks
+
+-- what is left: the last words and values keep the rule with all traces, each state and condition is the last word, and
+-- each body has ended or not as the rule has it
+pub record IsEnd {B : Type 0} (ended_of : B → Bool) (shape : Shape) (tokens : List TokenView) (bodies : List B) (states : List State) (conds : List ℕ) : Type 0 where
+  pub words : ℕ → ℕ → ℕ
+  pub homes : Homes
+  pub kept : Kept shape words homes (traces_of tokens)
+  pub state : (t : ℕ) → t < shape.tasks → slice_get states t ≡ Some (record { 0 = words t STATE })
+  pub cond : (k : ℕ) → k < shape.conds → slice_get conds k ≡ Some (words k COND)
+  pub ended : (t : ℕ) (b : B) → slice_get bodies t ≡ Some b → ended_of b ≡ homes.ended t
