@@ -1,10 +1,10 @@
 // The command `check`.
-ghost use Rattle.std.specs.Prelude.{◌≡◌, ◌≢◌, ◌<◌, ◌^◌, ℕ, List, Some, Err, IfOk, string_bytes};
+ghost use Rattle.std.specs.Prelude.{◌≡◌, ◌≢◌, ◌<◌, ◌^◌, ◌⊎◌, ◌↔◌, ℕ, List, Some, Err, IfOk, string_bytes};
 ghost use Rattle.handoff_data.specs.History.{History};
 ghost use Rattle.journal_text.specs.Text.{entries_in, entry_count};
 ghost use Rattle.wk_run.specs.Check.{legal_line, IsFaultOf, IsLegalText, ReadsIllegal, WritesVerdict, WritesVerdictPart};
 ghost use Rattle.wk_run.specs.Ends.{Rose};
-ghost use Rattle.wk_run.specs.declared.check.CheckError.TheVariants.{Illegal as illegal};
+ghost use Rattle.wk_run.specs.declared.check.CheckError.TheVariants.{Illegal as illegal, NoMemory as refused};
 ghost use Rattle.wk_run.specs.declared.journal_fault.JournalFault.{JournalFault as Fault};
 
 use crate::ends::{Sink, Source};
@@ -41,8 +41,7 @@ pub(crate) fn check_cmd<S: Source, K: Sink>(alloc: Global, input: &mut S, out: &
     };
     let line = match verdict_line(alloc, bytes.as_slice()) {
         Ok(line) => line,
-        Err(CheckError::Illegal(fault)) => return Status::Illegal(fault),
-        Err(CheckError::NoMemory) => return Status::NoMemory,
+        Err(error) => return status_of(error),
     };
     match write_output(out, line.as_bytes()) {
         Ok(()) => Status::Ok,
@@ -55,6 +54,18 @@ pub(crate) fn check_cmd<S: Source, K: Sink>(alloc: Global, input: &mut S, out: &
 pub(crate) enum CheckError {
     Illegal(JournalFault),
     NoMemory,
+}
+
+// The answer where there is no line.
+fn status_of(error: CheckError) -> Status
+    ensures illegal { (fault : Fault) → result ≡ Status.Illegal fault ↔ error ≡ illegal fault }
+    ensures no_memory { result ≡ Status.NoMemory ↔ error ≡ refused }
+    ensures no_other { (result ≡ Status.NoMemory) ⊎ ((fault : Fault) × (result ≡ Status.Illegal fault)) }
+{
+    match error {
+        CheckError::Illegal(fault) => Status::Illegal(fault),
+        CheckError::NoMemory => Status::NoMemory,
+    }
 }
 
 impl From<NoMemory> for CheckError {

@@ -6,17 +6,14 @@ use Rattle.handoff_data.specs.History.{History}
 use Rattle.wk_run.specs.Check.{IsFaultOf, IsLegalText, ReadsIllegal}
 use Rattle.wk_run.specs.Input.{WritesPart}
 use Rattle.wk_run.specs.declared.check.CheckError.{CheckError}
-use Rattle.wk_run.specs.declared.journal_fault.JournalFault.{JournalFault}
 use Rattle.wk_run.proofs.CheckLaws.{fault-not_legal, journals-read}
 use Rattle.wk_run.proofs.check.check_cmd.Goals as goal
 
-pub returns-in-Err-Illegal-clause-illegal : goal.returns-in-Err-Illegal-clause-illegal
-returns-in-Err-Illegal-clause-illegal g c = λ why same.
-    let refused = c.in-Err-Illegal.ensures.illegal c.in-Err-Illegal.fault (ap (λ (e : CheckError). Err e) c.in-Err-Illegal.field-0-is) in
-    let this : c.in-Err-Illegal.fault ≡ why = cc in
-    let is : IsFaultOf c.in-Ok.bytes.items why =
-    subst (λ (b : List ℕ). IsFaultOf b why) c.as_slice.ensures.value
-    (subst (λ (w : JournalFault). IsFaultOf c.as_slice.result.now w) this refused) in
+pub returns-in-Err-clause-illegal : goal.returns-in-Err-clause-illegal
+returns-in-Err-clause-illegal g c = λ why same.
+    let faulty = (c.status_of.ensures.illegal why).0 same in
+    let found : IsFaultOf c.as_slice.result.now why = c.in-Err.ensures.illegal why (ap (λ (e : CheckError). Err e) faulty) in
+    let is : IsFaultOf c.in-Ok.bytes.items why = subst (λ (b : List ℕ). IsFaultOf b why) c.as_slice.ensures.value found in
     record {
       read = c.in-Ok.bytes.items;
       input = c.in-Ok.ensures.read;
@@ -24,10 +21,10 @@ returns-in-Err-Illegal-clause-illegal g c = λ why same.
       no_legal = fault-not_legal c.in-Ok.bytes.items why is;
     }
 
-pub returns-in-Err-Illegal-clause-no_legal : goal.returns-in-Err-Illegal-clause-no_legal
-returns-in-Err-Illegal-clause-no_legal g c = λ why same bytes journals told legal.
+pub returns-in-Err-clause-no_legal : goal.returns-in-Err-clause-no_legal
+returns-in-Err-clause-no_legal g c = λ why same bytes journals told legal.
     let left = g.S.Source.remaining c.read_input.new.input in
-    let refused : ReadsIllegal (g.S.Source.remaining c.args.input.now) left why = returns-in-Err-Illegal-clause-illegal g c why same in
+    let refused : ReadsIllegal (g.S.Source.remaining c.args.input.now) left why = returns-in-Err-clause-illegal g c why same in
     journals-read bytes journals left why (c.texts_are_bounded.ensures.within bytes journals legal.says) legal
     (subst (λ (held : Option (List ℕ)). ReadsIllegal held left why) told refused)
 
@@ -51,7 +48,7 @@ pub returns-clause-write_fault : goal.returns-clause-write_fault
 returns-clause-write_fault g c = λ _.
     let found = c.in-Ok-verdict_line.ensures.line in
     let legal : IsLegalText c.in-Ok.bytes.items found.0 = subst (λ (b : List ℕ). IsLegalText b found.0) c.as_slice.ensures.value found.1 in (
-      c.in-Err.ensures.cause,
+      c.in-Err-write_output.ensures.cause,
       record {
         journals = found.0;
         reads = record {
@@ -61,6 +58,6 @@ returns-clause-write_fault g c = λ _.
           is_legal = legal;
         };
         writes = subst (λ (b : List ℕ). WritesPart (g.K.Sink.taken c.args.out.now) (g.K.Sink.taken c.write_output.new.out) b)
-            (c.as_bytes.ensures.value ∙ found.2) c.in-Err.ensures.part;
+            (c.as_bytes.ensures.value ∙ found.2) c.in-Err-write_output.ensures.part;
       },
     )
