@@ -1,23 +1,22 @@
 -- What the rule says at the end, of all tokens together.
 use Rattle.std.proofs.Common.{◌≡◌, ◌≢◌, ℕ, zero, suc, ◌+◌, ◌*◌, ◌<◌, ◌≤◌, Bool, true, false, get_or, length, map, refl, sym, ap, ◌∙◌, subst, inl, inr, List, [], ◌∷◌, eq-eqb, ne_eqb, arith}
-use Rattle.std.specs.Prelude.{slice_index_or, Option, Some, None, is_some, ◌==◌, if◌then◌else◌, Vec}
-use Rattle.std.specs.Global.{Global}
+use Rattle.std.specs.Prelude.{Option, Some, None, is_some}
 use Rattle.std.specs.List.{All, Contains}
 use Rattle.std.proofs.lemmas.Bool.{cases_eq, cases_lt}
 use mathlib.Core.Option.{none, some}
 use mathlib.Core.Option as maybe
 use mathlib.Core.Path.{fun_ext}
 use lib.ListN.{get_elem?}
-use Rattle.atomic_table.specs.Table.{Final, Seen}
+use Rattle.atomic_table.specs.Table.{Final, Seen, Me}
 use Rattle.word_rule.specs.Kept.{Kept}
 use Rattle.word_steps.specs.Decode.{Homes}
 use Rattle.word_steps.specs.Folds.{body_held}
 use Rattle.word_steps.specs.Records.{Rec}
 use Rattle.word_steps.specs.Words.{words_of}
 use Rattle.word_table.proofs.Opening.{room_there}
-use Rattle.word_table.specs.End.{HasRoom, HasEachSeat, IsIdle, traces_of, part_of}
+use Rattle.word_table.specs.End.{HasEachSeat, IsIdle, IsLeft, traces_of, part_of}
 use Rattle.word_table.specs.Layout.{SLOTS, BODY_SLOT, rows_of, slot_at}
-use Rattle.word_table.specs.Ruled.{Each, Fits, IsRoomed, has_body, homes_of, lastings, known_of, Ruled}
+use Rattle.word_table.specs.Ruled.{Each, Fits, has_body, homes_of, known_of, Ruled}
 use Rattle.word_table.specs.Views.{TokenView}
 use Rattle.word_table.specs.declared.slot.Key.{Key}
 use Rattle.word_table.specs.declared.slot.Slot.{Slot}
@@ -26,7 +25,7 @@ use Rattle.word_table.specs.declared.view.View.{View}
 
 -- The traces
 
-abbrev pub seats_of : List TokenView → List ℕ
+abbrev seats_of : List TokenView → List ℕ
 seats_of tokens = map (λ (t : TokenView). t.seat) tokens
 
 first_trace : (token : TokenView) (tokens : List TokenView) (s : ℕ) → token.seat ≡ s → traces_of (token ∷ tokens) s ≡ token.trace
@@ -79,15 +78,8 @@ is_true : (b : Bool) → (b ≡ false → ⊥) → b ≡ true
 is_true true never = refl
 is_true false never = absurd (never refl)
 
--- What is left in words and slots, once all tokens are there: the rule, the room, and each body
-pub record IsLeft {B : Type 0} (lasting : B → List ℕ) (ended_of : B → Bool) (key : Key B) (tokens : List TokenView) (words : List ℕ) (slots : List (Slot B)) : Type 0 where
-  pub homes : Homes
-  pub kept : Kept key.shape (words_of words) homes (traces_of tokens)
-  pub room : (v : Vec B Global) × (get_elem? slots (SLOTS * rows_of key.shape) ≡ some (Room v)) × HasRoom key.shape.tasks v
-  pub bodies : (t : ℕ) → t < key.shape.tasks → (b : B) × (get_elem? slots (slot_at t BODY_SLOT) ≡ some (Body b)) × (lasting b ≡ slice_index_or (lastings lasting key) t []) × (ended_of b ≡ homes.ended t)
-
 module _ {B : Type 0} (lasting : B → List ℕ) (ended_of : B → Bool) (key : Key B) where
-  pub left : (id : ℕ) (tokens : List TokenView) (words : List ℕ) (slots : List (Slot B)) → HasEachSeat (key.shape.cpus + key.shape.agents) (seats_of tokens) → Each IsIdle tokens
+  left : (id : ℕ) (tokens : List TokenView) (words : List ℕ) (slots : List (Slot B)) → HasEachSeat (key.shape.cpus + key.shape.agents) (seats_of tokens) → Each IsIdle tokens
       → Final (Seen (Ruled lasting ended_of key) id record { parts = map part_of tokens; known = known_of lasting key }) words slots → IsLeft lasting ended_of key tokens words slots
   left id tokens words slots all idle final =
       let s = final.0 in let r = final.1.0 in let seats : ℕ = key.shape.cpus + key.shape.agents in
@@ -110,3 +102,10 @@ module _ {B : Type 0} (lasting : B → List ℕ) (ended_of : B → Bool) (key : 
             let b = body_there (get_elem? s.homes (slot_at t BODY_SLOT)) home in
             (b.0, final.4 (slot_at t BODY_SLOT) (Body b.0) b.1, (r.bodies t b.0 b.1).lasts, (r.bodies t b.0 b.1).ends);
       }
+
+  -- the same, of the seat that has the parts of all
+  pub left_of : (id : ℕ) (tokens : List TokenView) (words : List ℕ) (slots : List (Slot B)) → HasEachSeat (key.shape.cpus + key.shape.agents) (seats_of tokens) → All IsIdle tokens
+      → (seat : Me (Slot B) View) → seat ≡ (record { parts = map part_of tokens; known = known_of lasting key }, []) → Final (Seen (Ruled lasting ended_of key) id seat.0) words slots → IsLeft lasting ended_of key tokens words slots
+  left_of id tokens words slots all idle seat me final =
+      left id tokens words slots all (all_each IsIdle tokens idle)
+      (subst (λ (z : View). Final (Seen (Ruled lasting ended_of key) id z) words slots) (ap (λ (m : Me (Slot B) View). m.0) me) final)

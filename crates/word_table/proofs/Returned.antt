@@ -1,7 +1,7 @@
 -- What `close` returns, from what is left.
-use Rattle.std.proofs.Common.{◌≡◌, ◌≢◌, ℕ, zero, suc, ◌+◌, ◌*◌, ◌<◌, ◌≤◌, Bool, true, false, get_or, set, get_or-set_same, get_or-set_other, length, map, refl, sym, ap, ◌∙◌, subst, List, [], ◌∷◌, zero-add, arith}
-use Rattle.std.specs.Prelude.{Option, Some, None, is_some, option_map, if◌then◌else◌, slice_index_or}
-use Rattle.std.specs.List.{All, range_with_len, slice_get}
+use Rattle.std.proofs.Common.{◌≡◌, ℕ, zero, suc, ◌*◌, ◌<◌, Bool, true, false, get_or, set, get_or-set_same, get_or-set_other, length, map, refl, sym, ap, ◌∙◌, subst, List, [], ◌∷◌, zero-add, arith}
+use Rattle.std.specs.Prelude.{Option, Some, is_some, option_map, if◌then◌else◌}
+use Rattle.std.specs.List.{range_with_len, slice_get}
 use Rattle.std.specs.Slots.Ownership.{Filled}
 use Rattle.std.proofs.lemmas.Bool.Decides.{nat_tests}
 use Rattle.std.proofs.lemmas.List.{length-map, same_lists, get_or_default}
@@ -11,21 +11,18 @@ use mathlib.Core.Bool.{not}
 use mathlib.Core.Option.{some, some-injective}
 use mathlib.Core.Option as maybe
 use lib.ListN.{get_elem?}
-use Rattle.atomic_table.specs.Table.{Final, Seen, Me}
 use Rattle.atomic_table.proofs.Lists.{at_map, at_index}
 use Rattle.handoff_data.specs.declared.shape.Shape.{Shape}
 use Rattle.handoff_data.specs.declared.state.State.{State}
 use Rattle.word_steps.specs.Words.{STATE, COND, words_of}
-use Rattle.word_table.proofs.Ending.{IsLeft, left, all_each, seats_of}
 use Rattle.word_table.proofs.Opening.{read_at, within}
-use Rattle.word_table.specs.End.{HasEachSeat, IsIdle, IsEnd, part_of, is_body}
+use Rattle.word_table.specs.End.{IsLeft, IsEnd, is_body}
 use Rattle.word_table.specs.Layout.{SLOTS, BODY_SLOT, slot_at}
-use Rattle.word_table.specs.Ruled.{lastings, known_of, Ruled}
+use Rattle.word_table.specs.Ruled.{lastings}
 use Rattle.word_table.specs.Views.{TokenView}
 use Rattle.word_table.specs.declared.slot.Key.{Key}
 use Rattle.word_table.specs.declared.slot.Slot.{Slot}
 use Rattle.word_table.specs.declared.slot.Slot.TheVariants.{Body}
-use Rattle.word_table.specs.declared.view.View.{View}
 
 -- Which slots are still filled
 
@@ -98,13 +95,6 @@ pub all_read : {B : Type 0} (slots after : List (Slot B)) (shape first : Shape) 
 all_read slots after shape first bodies same is read = subst (λ (n : ℕ). AreRead slots n bodies) (ap (λ (z : Shape). z.tasks) (sym is)) (subst (λ z. AreRead z shape.tasks bodies) same read)
 
 module _ {B : Type 0} (lasting : B → List ℕ) (ended_of : B → Bool) (key : Key B) where
-  -- what is left, as `close` has it
-  pub left_of : (id : ℕ) (tokens : List TokenView) (words : List ℕ) (slots : List (Slot B)) (shape : Shape) → key.shape ≡ shape → HasEachSeat (shape.cpus + shape.agents) (seats_of tokens) → All IsIdle tokens
-      → (seat : Me (Slot B) View) → seat ≡ (record { parts = map part_of tokens; known = known_of lasting key }, []) → Final (Seen (Ruled lasting ended_of key) id seat.0) words slots → IsLeft lasting ended_of key tokens words slots
-  left_of id tokens words slots shape is all idle seat me final =
-      left lasting ended_of key id tokens words slots (subst (λ (z : Shape). HasEachSeat (z.cpus + z.agents) (seats_of tokens)) (sym is) all) (all_each IsIdle tokens idle)
-      (subst (λ (z : View). Final (Seen (Ruled lasting ended_of key) id z) words slots) (ap (λ (m : Me (Slot B) View). m.0) me) final)
-
   module _ (tokens : List TokenView) (words : List ℕ) (slots : List (Slot B)) (end : IsLeft lasting ended_of key tokens words slots) (bodies : List B) (read : AreRead slots key.shape.tasks bodies) where
     -- each body keeps what it kept at the start
     pub bodies_last : length key.bodies.value.items ≡ key.shape.tasks → map lasting bodies ≡ lastings lasting key

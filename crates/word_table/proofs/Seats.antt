@@ -1,5 +1,5 @@
 -- How seats are dealt and gathered.
-use Rattle.std.proofs.Common.{◌≡◌, ◌≢◌, ℕ, zero, suc, ◌+◌, ◌<◌, set, length, length-set, refl, sym, ap, ◌∙◌, subst, List, [], ◌∷◌, ◌++◌, ◌⊎◌, inl, inr, ⊎_elim, Bool, arith}
+use Rattle.std.proofs.Common.{◌≡◌, ◌≢◌, ℕ, zero, suc, ◌+◌, ◌<◌, set, length, map, length-set, refl, sym, ap, ◌∙◌, subst, List, [], ◌∷◌, ◌++◌, ◌⊎◌, inl, inr, ⊎_elim, Bool, arith}
 use mathlib.Core.Option.{none, some, some-injective, some-ne-none}
 use native.Mathlib.Decide.{ℕ_discrete}
 use lib.ListN.{get_elem?}
@@ -8,10 +8,12 @@ use Rattle.atomic_table.proofs.Lists.{at_set, set_else}
 use Rattle.core_data.specs.Table.{put}
 use Rattle.core_stores.proofs.Columns.{put_there, put_other}
 use Rattle.word_steps.specs.Records.{Rec}
-use Rattle.word_table.specs.Parts.{Part}
-use Rattle.word_table.specs.Plays.{entered}
+use Rattle.word_table.specs.Parts.{Part, Known}
+use Rattle.word_table.specs.End.{part_of}
+use Rattle.word_table.specs.Plays.{Sat, sat, entered}
 use Rattle.word_table.specs.Ruled.{Each, Fits, known_of, Ruled, fresh, first_view, but_first, first_alone, joined}
 use Rattle.word_table.specs.Shown.{spent}
+use Rattle.word_table.specs.Views.{TokenView}
 use Rattle.word_table.specs.declared.slot.Key.{Key}
 use Rattle.word_table.specs.declared.slot.Slot.{Slot}
 use Rattle.word_table.specs.declared.view.View.{View}
@@ -154,8 +156,8 @@ module _ {B : Type 0} (lasting : B → List ℕ) (ended_of : B → Bool) (key : 
   pub deals_at : (id k n c : ℕ) (v : View) → c ≡ suc n → v ≡ view_of (fresh k c) → Splits R id v (but_first v) (first_alone v)
   deals_at id k n c v e is = subst (λ (z : View). Splits R id z (but_first z) (first_alone z)) (sym (is ∙ λ j. view_of (fresh k (e j)))) (deals id k n)
 
-  pub gathers_at : (id other : ℕ) (v w : View) (ps : List Part) → v ≡ view_of ps → Joins R id v other w (joined v w) spent
-  gathers_at id other v w ps is = gathers id other v w (ap (λ (z : View). z.known) is)
+  pub gathers_at : (id other : ℕ) (m : Sat B) (w : View) (ps : List Part) → m ≡ (view_of ps, []) → Joins R id m.0 other w (joined m.0 w) spent
+  gathers_at id other m w ps is = gathers id other m.0 w (ap (λ (z : Sat B). z.0.known) is)
 
   -- a seat with no part enters
   pub enters : (slots i : ℕ) → Enters R slots i (λ n w. entered {B = B} (step slots i 0 0 none) (first_view lasting key, []) n (w, []))
@@ -164,3 +166,31 @@ module _ {B : Type 0} (lasting : B → List ℕ) (ended_of : B → Bool) (key : 
     reseated r (s.views ++ w ∷ []) r.owner (λ j u there. ⊎_elim (λ old. r.parts j u old) (λ new. subst (IsAt r r.owner j) new.1 (tt, inl refl)) (snoc_at s.views w u j there)),
     refl,
   )
+
+-- The seats before and after
+module _ {B : Type 0} (lasting : B → List ℕ) (key : Key B) where
+  abbrev with_parts : List Part → Sat B
+  with_parts ps = (record { parts = ps; known = known_of lasting key }, [])
+
+  full : (k n c : ℕ) (m : Sat B) → c ≡ suc n → m ≡ with_parts (fresh k c) → m ≡ with_parts (fresh k (suc n))
+  full k n c m count is = is ∙ ap (λ (z : ℕ). with_parts (fresh k z)) count
+
+  -- the seat that was dealt
+  pub dealt : (k n c : ℕ) (m other : Sat B) → c ≡ suc n → m ≡ with_parts (fresh k c) → other ≡ (first_alone m.0, []) → other ≡ sat (known_of lasting key) k []
+  dealt k n c m other count is got = got ∙ ap (λ (z : Sat B). (first_alone z.0, [])) (full k n c m count is)
+
+  -- the one that dealt it
+  pub dealt_from : (k n c r : ℕ) (m after : Sat B) → c ≡ suc n → r ≡ n → m ≡ with_parts (fresh k c) → after ≡ (but_first m.0, m.1) → after ≡ with_parts (fresh (k + 1) r)
+  dealt_from k n c r m after count rest is got =
+      got ∙ ap (λ (z : Sat B). (but_first z.0, z.1)) (full k n c m count is) ∙ ap (λ (z : ℕ × ℕ). with_parts (fresh z.0 z.1)) (up rest)
+    where
+      up : r ≡ n → ◌≡◌ {A = ℕ × ℕ} (suc k, n) (k + 1, r)
+      up same = let one : suc k ≡ k + 1 = omega arith in λ j. (one j, sym same j)
+
+  pub rests : (m : Sat B) (known : Known) (s : ℕ) (trace : List Rec) → m ≡ sat known s trace → m.1 ≡ []
+  rests m known s trace is = ap (λ (z : Sat B). z.1) is
+
+  -- the seat that was joined in
+  pub gathered : (done : List TokenView) (token : TokenView) (known : Known) (m other after : Sat B) → m ≡ with_parts (map part_of done) → other ≡ sat known token.seat token.trace → after ≡ (joined m.0 other.0, m.1)
+      → after ≡ with_parts (map part_of (token ∷ done))
+  gathered done token known m other after is it got = got ∙ λ j. (joined (is j).0 (it j).0, (is j).1)

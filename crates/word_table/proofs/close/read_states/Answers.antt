@@ -1,4 +1,4 @@
-use Rattle.std.proofs.Common.{◌≡◌, ◌<◌, ◌^◌, ◌+◌, ◌*◌, ℕ, rules, sym, ap, ◌∙◌, subst, arith}
+use Rattle.std.proofs.Common.{◌<◌, ◌^◌, ◌+◌, ◌*◌, ℕ, rules, sym, subst, arith}
 use Rattle.std.specs.Slots.{slots_items}
 use Rattle.handoff_data.specs.declared.state.State.{State}
 use Rattle.word_steps.specs.Words.{STATE, words_of}
@@ -19,6 +19,6 @@ loop-t-preserved g c =
     record {
       states = one_plain (λ (i : ℕ). let s : State = record { 0 = words_of words i STATE } in s) c.loop-t.states.items c.push_reserved.new.self.items (record { 0 = c.word.result }) t inv.states c.push_reserved.ensures.items
           (λ j. record { 0 = sym (read_at words (64 * t + 2) c.word.result 0 c.word.ensures) j });
-      full = c.push_reserved.ensures.len ∙ ap (λ (z : ℕ). z + 1) inv.full;
-      room = c.push_reserved.ensures.capacity ∙ inv.room;
+      full = (let len = c.push_reserved.ensures.len in omega arith);
+      room = (let more = c.push_reserved.ensures.capacity in omega arith);
     }
