@@ -28,29 +28,35 @@ use Rattle.word_table.specs.declared.view.View.{View}
 abbrev seats_of : List TokenView → List ℕ
 seats_of tokens = map (λ (t : TokenView). t.seat) tokens
 
-first_trace : (token : TokenView) (tokens : List TokenView) (s : ℕ) → token.seat ≡ s → traces_of (token ∷ tokens) s ≡ token.trace
+first_trace : (token : TokenView) (tokens : List TokenView) (s : ℕ) → token.seat ≡ s
+    → traces_of (token ∷ tokens) s ≡ token.trace
 first_trace token tokens s e = rw (eq-eqb token.seat s e)
 
-later_trace : (token : TokenView) (tokens : List TokenView) (s : ℕ) → token.seat ≢ s → traces_of (token ∷ tokens) s ≡ traces_of tokens s
+later_trace : (token : TokenView) (tokens : List TokenView) (s : ℕ) → token.seat ≢ s
+    → traces_of (token ∷ tokens) s ≡ traces_of tokens s
 later_trace token tokens s ne = rw (ne_eqb token.seat s ne)
 
 module _ (m : ℕ) (trace : ℕ → List Rec) (hand owner : ℕ → ℕ) (j : ℕ) where
   -- a seat that has a token has its trace
-  found_trace : (tokens : List TokenView) (s : ℕ) → Each (Fits m trace hand owner j) (map part_of tokens) → Contains (seats_of tokens) s → traces_of tokens s ≡ trace s
+  found_trace : (tokens : List TokenView) (s : ℕ) → Each (Fits m trace hand owner j) (map part_of tokens)
+      → Contains (seats_of tokens) s → traces_of tokens s ≡ trace s
   found_trace [] s fits there = absurd (omega (arith, there.1))
   found_trace (token ∷ tokens) s fits there = elim (cases_eq token.seat s) [
     | inl e ↦ first_trace token tokens s e ∙ fits.0.trace_is ∙ ap trace e
     | inr ne ↦ later_trace token tokens s ne ∙ found_trace tokens s fits.1 (rest there.0 there.1 there.2 ne)
   ]
     where
-      rest : (k : ℕ) → k < length (seats_of (token ∷ tokens)) → get_or (seats_of (token ∷ tokens)) k s ≡ s → token.seat ≢ s → Contains (seats_of tokens) s
+      rest : (k : ℕ) → k < length (seats_of (token ∷ tokens)) → get_or (seats_of (token ∷ tokens)) k s ≡ s
+          → token.seat ≢ s → Contains (seats_of tokens) s
       rest zero lt e ne = absurd (ne e)
       rest (suc k) lt e ne = (k, omega arith, e)
 
   -- one past the seats has none
-  no_trace : (tokens : List TokenView) (s : ℕ) → m ≤ s → Each (Fits m trace hand owner j) (map part_of tokens) → traces_of tokens s ≡ []
+  no_trace : (tokens : List TokenView) (s : ℕ) → m ≤ s → Each (Fits m trace hand owner j) (map part_of tokens)
+      → traces_of tokens s ≡ []
   no_trace [] s far fits = refl
-  no_trace (token ∷ tokens) s far fits = later_trace token tokens s (λ e. let near = fits.0.near in omega arith) ∙ no_trace tokens s far fits.1
+  no_trace (token ∷ tokens) s far fits = later_trace token tokens s (λ e. let near = fits.0.near in omega arith)
+      ∙ no_trace tokens s far fits.1
 
 -- no seat has a body out
 idle_bodies : (tokens : List TokenView) → Each IsIdle tokens → (s : ℕ) → body_held (traces_of tokens s) ≡ None
@@ -66,7 +72,8 @@ all_each P (x ∷ xs) all = (all 0 x (omega arith), all_each P xs (λ k d lt. al
 
 -- The slots
 
-body_there : {B : Type 0} (o : maybe.Option (maybe.Option (Slot B))) → has_body o ≡ true → (b : B) × (o ≡ some (some (Body b)))
+body_there : {B : Type 0} (o : maybe.Option (maybe.Option (Slot B))) → has_body o ≡ true
+    → (b : B) × (o ≡ some (some (Body b)))
 body_there none e = let no : false ≡ true = e in cc
 body_there (some none) e = let no : false ≡ true = e in cc
 body_there (some (some Empty)) e = let no : false ≡ true = e in cc
@@ -79,8 +86,12 @@ is_true true never = refl
 is_true false never = absurd (never refl)
 
 module _ {B : Type 0} (lasting : B → List ℕ) (ended_of : B → Bool) (key : Key B) where
-  left : (id : ℕ) (tokens : List TokenView) (words : List ℕ) (slots : List (Slot B)) → HasEachSeat (key.shape.cpus + key.shape.agents) (seats_of tokens) → Each IsIdle tokens
-      → Final (Seen (Ruled lasting ended_of key) id record { parts = map part_of tokens; known = known_of lasting key }) words slots → IsLeft lasting ended_of key tokens words slots
+  left : (id : ℕ) (tokens : List TokenView) (words : List ℕ) (slots : List (Slot B))
+      → HasEachSeat (key.shape.cpus + key.shape.agents) (seats_of tokens) → Each IsIdle tokens
+      → Final (Seen (Ruled lasting ended_of key) id record {
+        parts = map part_of tokens;
+        known = known_of lasting key;
+      }) words slots → IsLeft lasting ended_of key tokens words slots
   left id tokens words slots all idle final =
       let s = final.0 in let r = final.1.0 in let seats : ℕ = key.shape.cpus + key.shape.agents in
       let fits = (r.parts id record { parts = map part_of tokens; known = known_of lasting key } final.1.1).0 in
@@ -90,22 +101,33 @@ module _ {B : Type 0} (lasting : B → List ℕ) (ended_of : B → Bool) (key : 
       ]) in
       let homes : Homes = homes_of s.homes r.ended in
       let kept : Kept key.shape (words_of words) homes (traces_of tokens) =
-      subst (λ (z : List ℕ). Kept key.shape (words_of z) homes (traces_of tokens)) final.2 (subst (Kept key.shape (words_of s.words) homes) traces r.inv) in
+      subst (λ (z : List ℕ). Kept key.shape (words_of z) homes (traces_of tokens)) final.2
+      (subst (Kept key.shape (words_of s.words) homes) traces r.inv) in
       let room = room_there key.shape.tasks (get_elem? s.homes (SLOTS * rows_of key.shape)) r.room in
       record {
         homes = homes;
         kept = kept;
-        room = (room.0, final.4 (SLOTS * rows_of key.shape) (Room room.0) room.1, record { none = room.2.0; enough = room.2.1 });
+        room = (
+          room.0,
+          final.4 (SLOTS * rows_of key.shape) (Room room.0) room.1,
+          record
+              { none = room.2.0; enough = room.2.1 },
+        );
         bodies = λ t lt.
             let home : homes.body t ≡ true = is_true (homes.body t) (λ away.
-            let out = kept.holds.busy.bodies.away_out t lt away in let no : ◌≡◌ {A = Option ℕ} None (Some t) = sym (idle_bodies tokens idle out.0) ∙ out.1 in let no' : false ≡ true = ap is_some no in cc) in
+            let out = kept.holds.busy.bodies.away_out t lt away in
+            let no : ◌≡◌ {A = Option ℕ} None (Some t) = sym (idle_bodies tokens idle out.0) ∙ out.1 in
+            let no' : false ≡ true = ap is_some no in cc) in
             let b = body_there (get_elem? s.homes (slot_at t BODY_SLOT)) home in
             (b.0, final.4 (slot_at t BODY_SLOT) (Body b.0) b.1, (r.bodies t b.0 b.1).lasts, (r.bodies t b.0 b.1).ends);
       }
 
   -- the same, of the seat that has the parts of all
-  pub left_of : (id : ℕ) (tokens : List TokenView) (words : List ℕ) (slots : List (Slot B)) → HasEachSeat (key.shape.cpus + key.shape.agents) (seats_of tokens) → All IsIdle tokens
-      → (seat : Me (Slot B) View) → seat ≡ (record { parts = map part_of tokens; known = known_of lasting key }, []) → Final (Seen (Ruled lasting ended_of key) id seat.0) words slots → IsLeft lasting ended_of key tokens words slots
+  pub left_of : (id : ℕ) (tokens : List TokenView) (words : List ℕ) (slots : List (Slot B))
+      → HasEachSeat (key.shape.cpus + key.shape.agents) (seats_of tokens) → All IsIdle tokens
+      → (seat : Me (Slot B) View) → seat ≡ (record { parts = map part_of tokens; known = known_of lasting key }, [])
+      → Final (Seen (Ruled lasting ended_of key) id seat.0) words slots → IsLeft lasting ended_of key tokens words slots
   left_of id tokens words slots all idle seat me final =
       left id tokens words slots all (all_each IsIdle tokens idle)
-      (subst (λ (z : View). Final (Seen (Ruled lasting ended_of key) id z) words slots) (ap (λ (m : Me (Slot B) View). m.0) me) final)
+      (subst (λ (z : View). Final (Seen (Ruled lasting ended_of key) id z) words slots)
+      (ap (λ (m : Me (Slot B) View). m.0) me) final)

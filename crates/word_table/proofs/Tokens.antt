@@ -12,11 +12,14 @@ use Rattle.word_table.specs.Views.{TokenView, IsFor}
 use Rattle.word_table.specs.declared.slot.Key.{Key}
 
 module _ (name : TableId) (shape : Shape) (lasting : List (List ℕ)) where
-  token_more : (n : ℕ) → first_tokens name shape lasting (n + 1) ≡ first_tokens name shape lasting n ++ new_token name shape lasting n ∷ []
+  token_more : (n : ℕ) → first_tokens name shape lasting (n + 1) ≡ first_tokens name shape lasting n ++ new_token name
+      shape lasting n ∷ []
   token_more n = map-range_with_len_more (new_token name shape lasting) 0 n n (zero-add n)
 
   -- one token more is dealt
-  pub token_dealt : (n : ℕ) (before after : List TokenView) (token : TokenView) → before ≡ first_tokens name shape lasting n → token ≡ new_token name shape lasting n → after ≡ before ++ token ∷ []
+  pub token_dealt : (n : ℕ) (before after : List TokenView) (token : TokenView)
+      → before ≡ first_tokens name shape lasting n → token ≡ new_token name shape lasting n
+      → after ≡ before ++ token ∷ []
       → after ≡ first_tokens name shape lasting (n + 1)
   token_dealt n before after token were is got = got ∙ (λ j. were j ++ is j ∷ []) ∙ sym (token_more n)
 
@@ -57,6 +60,8 @@ module _ (name : TableId) (shape : Shape) (lasting : List (List ℕ)) where
   firsts_idle n = news_idle (range_with_len 0 n)
 
 -- the token of a seat that was dealt
-pub token_is : {B : Type 0} (lasting : B → List ℕ) (key : Key B) (name id : TableId) (k s : ℕ) (known : Known) (token : TokenView) → id ≡ name → known ≡ known_of lasting key → k ≡ s
+pub token_is : {B : Type 0} (lasting : B → List ℕ) (key : Key B) (name id : TableId) (k s : ℕ) (known : Known)
+    (token : TokenView) → id ≡ name → known ≡ known_of lasting key → k ≡ s
     → token ≡ new_token id known.shape known.lasting k → token ≡ new_token name key.shape (lastings lasting key) s
-token_is lasting key name id k s known token table is same got = got ∙ λ j. new_token (table j) (is j).shape (is j).lasting (same j)
+token_is lasting key name id k s known token table is same got = got
+    ∙ λ j. new_token (table j) (is j).shape (is j).lasting (same j)

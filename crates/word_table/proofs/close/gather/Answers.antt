@@ -19,7 +19,8 @@ each_last : {A : Type 0} (P : A → Type 0) (rest xs : List A) (x : A) → xs �
 each_last P rest xs x is all = each_back P rest x (subst (Each P) is all)
 
 -- a token more is done
-popped : {A : Type 0} (rest xs done all : List A) (x : A) → xs ≡ rest ++ x ∷ [] → xs ++ done ≡ all → rest ++ x ∷ done ≡ all
+popped : {A : Type 0} (rest xs done all : List A) (x : A) → xs ≡ rest ++ x ∷ [] → xs ++ done ≡ all
+    → rest ++ x ∷ done ≡ all
 popped rest xs done all x is was = sym (append_assoc rest (x ∷ []) done) ∙ (ap (λ z. z ++ done) (sym is) ∙ was)
 
 all_popped : {A : Type 0} (xs done all : List A) → length xs ≡ 0 → xs ++ done ≡ all → done ≡ all
@@ -27,16 +28,22 @@ all_popped [] done all none was = was
 all_popped (x ∷ xs) done all none was = absurd (omega arith)
 
 pub load_new_seat-all-requires : goal.load_new_seat-all-requires
-load_new_seat-all-requires g c = (c.requires.words, enters g.B.Kept.lasting g.B.Kept.ended c.args.board.now.shared.key c.args.board.now.shared.table_id.slots 0)
+load_new_seat-all-requires g c = (
+  c.requires.words,
+  enters g.B.Kept.lasting g.B.Kept.ended c.args.board.now.shared.key
+      c.args.board.now.shared.table_id.slots 0,
+)
 
 pub join_seat-requires : goal.join_seat-requires
 join_seat-requires g c =
-    let inv = c.loop-token.invariant in let key = c.args.board.now.shared.key in let all = c.loop-token.all.me in let seat = c.seat_of in let token = c.in-Some.token in
+    let inv = c.loop-token.invariant in let key = c.args.board.now.shared.key in let all = c.loop-token.all.me in
+    let seat = c.seat_of in let token = c.in-Some.token in
     let P = IsFor c.args.board.now.shared.table_id key.shape (lastings g.B.Kept.lasting key) in
     let mine = each_last P c.pop.new.self.items c.loop-token.tokens.items token c.in-Some.ensures.items inv.of in (
       inv.id,
       seat.ensures.id ∙ mine.table,
-      rests g.B.Kept.lasting key seat.result.me record { shape = token.shape; lasting = token.lasting } token.seat token.trace seat.ensures.me,
+      rests g.B.Kept.lasting key seat.result.me record { shape = token.shape; lasting = token.lasting } token.seat
+          token.trace seat.ensures.me,
       c.requires.words,
       gathers_at g.B.Kept.lasting g.B.Kept.ended key _ _ all seat.result.me.0 (map part_of inv.me.0) inv.me.2,
     )
@@ -46,13 +53,15 @@ loop-token-init g c =
     let key = c.args.board.now.shared.key in let seat = c.load_new_seat-all.ensures in
     record {
       id = seat.0;
-      of = all_each (IsFor c.args.board.now.shared.table_id key.shape (lastings g.B.Kept.lasting key)) c.args.tokens.items c.requires.of;
+      of = all_each (IsFor c.args.board.now.shared.table_id key.shape (lastings g.B.Kept.lasting key))
+          c.args.tokens.items c.requires.of;
       me = ([], append-nil c.args.tokens.items, seat.2);
     }
 
 pub loop-token-preserved : goal.loop-token-preserved
 loop-token-preserved g c =
-    let inv = c.loop-token.invariant in let key = c.args.board.now.shared.key in let token = c.in-Some.token in let rest = c.pop.new.self.items in let joined = c.join_seat in
+    let inv = c.loop-token.invariant in let key = c.args.board.now.shared.key in let token = c.in-Some.token in
+    let rest = c.pop.new.self.items in let joined = c.join_seat in
     let P = IsFor c.args.board.now.shared.table_id key.shape (lastings g.B.Kept.lasting key) in
     let known : Known = record { shape = token.shape; lasting = token.lasting } in
     record {
@@ -61,7 +70,8 @@ loop-token-preserved g c =
       me = (
         token ∷ inv.me.0,
         popped rest c.loop-token.tokens.items inv.me.0 c.args.tokens.items token c.in-Some.ensures.items inv.me.1,
-        gathered g.B.Kept.lasting key inv.me.0 token known c.loop-token.all.me c.seat_of.result.me joined.new.seat.me inv.me.2 c.seat_of.ensures.me joined.ensures.2,
+        gathered g.B.Kept.lasting key inv.me.0 token known c.loop-token.all.me c.seat_of.result.me joined.new.seat.me
+            inv.me.2 c.seat_of.ensures.me joined.ensures.2,
       );
     }
 
@@ -69,4 +79,8 @@ pub returns : goal.returns
 returns g c =
     let inv = c.loop-token.invariant in let none : length c.loop-token.tokens.items ≡ 0 = search rules in
     let all = all_popped c.loop-token.tokens.items inv.me.0 c.args.tokens.items none inv.me.1 in
-    record { id = inv.id; me = inv.me.2 ∙ ap (λ (done : List TokenView). (record { parts = map part_of done; known = known_of g.B.Kept.lasting c.args.board.now.shared.key }, [])) all }
+    record {
+      id = inv.id;
+      me = inv.me.2 ∙ ap (λ (done : List TokenView).
+          (record { parts = map part_of done; known = known_of g.B.Kept.lasting c.args.board.now.shared.key }, [])) all;
+    }
