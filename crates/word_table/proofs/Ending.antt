@@ -3,8 +3,6 @@ use Rattle.std.proofs.Common.{◌≡◌, ◌≢◌, ℕ, zero, suc, ◌+◌, ◌
 use Rattle.std.specs.Prelude.{Option, Some, None, is_some}
 use Rattle.std.specs.List.{All, Contains}
 use Rattle.std.proofs.lemmas.Bool.{cases_eq, cases_lt}
-use mathlib.Core.Option.{none, some}
-use mathlib.Core.Option as maybe
 use mathlib.Core.Path.{fun_ext}
 use lib.ListN.{get_elem?}
 use Rattle.atomic_table.specs.Table.{Final, Seen, Me}
@@ -13,14 +11,15 @@ use Rattle.word_steps.specs.Decode.{Homes}
 use Rattle.word_steps.specs.Folds.{body_held}
 use Rattle.word_steps.specs.Records.{Rec}
 use Rattle.word_steps.specs.Words.{words_of}
+use Rattle.word_table.proofs.Decoded.{body_there}
 use Rattle.word_table.proofs.Opening.{room_there}
 use Rattle.word_table.specs.End.{HasEachSeat, IsIdle, IsLeft, traces_of, part_of}
 use Rattle.word_table.specs.Layout.{SLOTS, BODY_SLOT, rows_of, slot_at}
-use Rattle.word_table.specs.Ruled.{Each, Fits, has_body, homes_of, known_of, Ruled}
+use Rattle.word_table.specs.Ruled.{Each, Fits, homes_of, known_of, Ruled}
 use Rattle.word_table.specs.Views.{TokenView}
 use Rattle.word_table.specs.declared.slot.Key.{Key}
 use Rattle.word_table.specs.declared.slot.Slot.{Slot}
-use Rattle.word_table.specs.declared.slot.Slot.TheVariants.{Empty, Held, Body, Room}
+use Rattle.word_table.specs.declared.slot.Slot.TheVariants.{Body, Room}
 use Rattle.word_table.specs.declared.view.View.{View}
 
 -- The traces
@@ -70,31 +69,22 @@ pub all_each : {A : Type 0} (P : A → Type 0) (xs : List A) → All P xs → Ea
 all_each P [] all = tt
 all_each P (x ∷ xs) all = (all 0 x (omega arith), all_each P xs (λ k d lt. all (suc k) d (omega arith)))
 
--- The slots
-
-body_there : {B : Type 0} (o : maybe.Option (maybe.Option (Slot B))) → has_body o ≡ true
-    → (b : B) × (o ≡ some (some (Body b)))
-body_there none e = let no : false ≡ true = e in cc
-body_there (some none) e = let no : false ≡ true = e in cc
-body_there (some (some Empty)) e = let no : false ≡ true = e in cc
-body_there (some (some (Held v))) e = let no : false ≡ true = e in cc
-body_there (some (some (Body b))) e = (b, refl)
-body_there (some (some (Room r))) e = let no : false ≡ true = e in cc
-
 is_true : (b : Bool) → (b ≡ false → ⊥) → b ≡ true
 is_true true never = refl
 is_true false never = absurd (never refl)
 
 module _ {B : Type 0} (lasting : B → List ℕ) (ended_of : B → Bool) (key : Key B) where
+  -- the view of the seat that has the parts of all
+  abbrev all_parts : List TokenView → View
+  all_parts tokens = record { parts = map part_of tokens; known = known_of lasting key }
+
   left : (id : ℕ) (tokens : List TokenView) (words : List ℕ) (slots : List (Slot B))
       → HasEachSeat (key.shape.cpus + key.shape.agents) (seats_of tokens) → Each IsIdle tokens
-      → Final (Seen (Ruled lasting ended_of key) id record {
-        parts = map part_of tokens;
-        known = known_of lasting key;
-      }) words slots → IsLeft lasting ended_of key tokens words slots
+      → Final (Seen (Ruled lasting ended_of key) id (all_parts tokens)) words slots
+      → IsLeft lasting ended_of key tokens words slots
   left id tokens words slots all idle final =
       let s = final.0 in let r = final.1.0 in let seats : ℕ = key.shape.cpus + key.shape.agents in
-      let fits = (r.parts id record { parts = map part_of tokens; known = known_of lasting key } final.1.1).0 in
+      let fits = (r.parts id (all_parts tokens) final.1.1).0 in
       let traces : r.trace ≡ traces_of tokens = fun_ext (λ q. elim (cases_lt q seats) [
         | inl near ↦ sym (found_trace seats r.trace r.hand r.owner id tokens q fits (all.each q near))
         | inr far ↦ r.bare q far ∙ sym (no_trace seats r.trace r.hand r.owner id tokens q far fits)
@@ -110,8 +100,7 @@ module _ {B : Type 0} (lasting : B → List ℕ) (ended_of : B → Bool) (key : 
         room = (
           room.0,
           final.4 (SLOTS * rows_of key.shape) (Room room.0) room.1,
-          record
-              { none = room.2.0; enough = room.2.1 },
+          record { none = room.2.0; enough = room.2.1 },
         );
         bodies = λ t lt.
             let home : homes.body t ≡ true = is_true (homes.body t) (λ away.
@@ -122,10 +111,9 @@ module _ {B : Type 0} (lasting : B → List ℕ) (ended_of : B → Bool) (key : 
             (b.0, final.4 (slot_at t BODY_SLOT) (Body b.0) b.1, (r.bodies t b.0 b.1).lasts, (r.bodies t b.0 b.1).ends);
       }
 
-  -- the same, of the seat that has the parts of all
   pub left_of : (id : ℕ) (tokens : List TokenView) (words : List ℕ) (slots : List (Slot B))
       → HasEachSeat (key.shape.cpus + key.shape.agents) (seats_of tokens) → All IsIdle tokens
-      → (seat : Me (Slot B) View) → seat ≡ (record { parts = map part_of tokens; known = known_of lasting key }, [])
+      → (seat : Me (Slot B) View) → seat ≡ (all_parts tokens, [])
       → Final (Seen (Ruled lasting ended_of key) id seat.0) words slots → IsLeft lasting ended_of key tokens words slots
   left_of id tokens words slots all idle seat me final =
       left id tokens words slots all (all_each IsIdle tokens idle)

@@ -9,6 +9,7 @@ use Rattle.core_data.specs.Table.{put}
 use Rattle.core_stores.proofs.Columns.{put_there, put_other}
 use Rattle.word_steps.specs.Records.{Rec}
 use Rattle.word_table.specs.Parts.{Part, Known}
+use Rattle.word_table.proofs.Acts.{each_map}
 use Rattle.word_table.specs.End.{part_of}
 use Rattle.word_table.specs.Plays.{Sat, sat, entered}
 use Rattle.word_table.specs.Ruled.{Each, Fits, known_of, Ruled, fresh, first_view, but_first, first_alone, joined}
@@ -17,10 +18,6 @@ use Rattle.word_table.specs.Views.{TokenView}
 use Rattle.word_table.specs.declared.slot.Key.{Key}
 use Rattle.word_table.specs.declared.slot.Slot.{Slot}
 use Rattle.word_table.specs.declared.view.View.{View}
-
-each_map : {A : Type 0} (P Q : A → Type 0) (xs : List A) → ((x : A) → P x → Q x) → Each P xs → Each Q xs
-each_map P Q [] f e = tt
-each_map P Q (x ∷ xs) f e = (f x e.0, each_map P Q xs f e.1)
 
 each_append : {A : Type 0} (P : A → Type 0) (xs ys : List A) → Each P xs → Each P ys → Each P (xs ++ ys)
 each_append P [] ys a b = b
@@ -88,8 +85,8 @@ module _ {B : Type 0} (lasting : B → List ℕ) (ended_of : B → Bool) (key : 
 
   -- what the rule says of the view at the seat j
   abbrev IsAt : {s : St} (r : R s) (owner : ℕ → ℕ) (j : ℕ) → View → Type 0
-  IsAt r owner j v = Each (Fits seats r.trace r.hand owner j)
-      v.parts × ((v.known ≡ known_of lasting key) ⊎ (v.parts ≡ []))
+  IsAt r owner j v =
+      Each (Fits seats r.trace r.hand owner j) v.parts × ((v.known ≡ known_of lasting key) ⊎ (v.parts ≡ []))
 
   -- the rule hangs on views only by whose each part is
   reseated : {s : St} (r : R s) (views : List View) (owner : ℕ → ℕ)
@@ -115,8 +112,8 @@ module _ {B : Type 0} (lasting : B → List ℕ) (ended_of : B → Bool) (key : 
   -- the seat has the parts from k on, and deals the first
   deals : (id k n : ℕ) → Splits R id (view_of (fresh k (suc n))) (view_of (fresh (suc k) n)) (view_of (fresh k 1))
   deals id k n s r at =
-      let e = r.parts id (view_of (fresh k (suc n))) at in let f = e.0.0 in let b : ℕ = length s.views in let own : ℕ
-      → ℕ = put r.owner k b in
+      let e = r.parts id (view_of (fresh k (suc n))) at in let f = e.0.0 in let b : ℕ = length s.views in
+      let own : ℕ → ℕ = put r.owner k b in
       reseated r (set s.views id (view_of (fresh (suc k) n)) ++ view_of (fresh k 1) ∷ []) own
       (λ j u there. ⊎_elim
       (λ old. ⊎_elim
