@@ -7,7 +7,7 @@ ghost use mathlib.Core.Option.{some};
 ghost use lib.ListN.{get_elem?};
 ghost use Rattle.handoff_data.specs.Shape.{IsShape};
 ghost use Rattle.word_steps.specs.Words.{STRIDE, STATE, COND, words_of};
-ghost use Rattle.word_table.specs.End.{HasRoom, HasEachSeat, IsIdle, IsEnd, part_of, is_body};
+ghost use Rattle.word_table.specs.End.{HasRoom, HasEachSeat, IsIdle, IsLeft, IsEnd, part_of, is_body};
 ghost use Rattle.word_table.specs.Layout.{SLOTS, BODY_SLOT, rows_of, slot_at};
 ghost use Rattle.word_table.specs.Plays.{sat};
 ghost use Rattle.word_table.specs.Ruled.{known_of, lastings};
@@ -56,6 +56,21 @@ fn gather<B: Kept>(board: &Board<B>, tokens: Vec<Token>) -> Seat<Slot<B>, View>
         board.shared.join_seat::<Gather>(&mut all, seat_of(token));
     }
     all
+}
+
+// The words and slots of a table whose tokens are all there.
+fn end_of<B: Kept>(board: Board<B>, tokens: Vec<Token>) -> Left<B>
+    requires words { 0 < board.shared.table_id.words }
+    requires of { All (IsFor board.shared.table_id board.shared.key.shape (lastings B.lasting board.shared.key)) tokens.items }
+    requires all { HasEachSeat (board.shared.key.shape.cpus + board.shared.key.shape.agents) (map (λ t. t.seat) tokens.items) }
+    requires idle { All IsIdle tokens.items }
+    ensures counts { (slots_len result.words ≡ board.shared.table_id.words) × (slots_len result.slots ≡ board.shared.table_id.slots) }
+    ensures words { IsFull result.words }
+    ensures slots { IsFull result.slots }
+    ensures left { IsLeft B.lasting B.ended board.shared.key tokens.items (slots_items result.words) (slots_items result.slots) }
+{
+    let seat = gather(&board, tokens);
+    board.close_with(seat)
 }
 
 // The room for the bodies.
@@ -178,8 +193,7 @@ impl<B: Kept> Words<B> {
             conds,
         } = self;
         let rows = rows_of(&shape);
-        let seat = gather(&table, tokens);
-        let mut left = table.close_with(seat);
+        let mut left = end_of(table, tokens);
         let room = take_room(&mut left, rows, shape.tasks);
         let bodies = take_bodies(&mut left, shape.tasks, room);
         let states = read_states(&left, shape.tasks, states);

@@ -21,13 +21,16 @@ new-requires g c =
 
 pub returns-clause-of : goal.returns-clause-of
 returns-clause-of g c =
-    let made = c.in-Ok.made.0.shared in let name : TableId = made.table_id in let n : ℕ = c.args.shape.now.cpus + c.args.shape.now.agents in
+    let made = c.in-Ok.made.0.shared in let name : TableId = made.table_id in
+    let n : ℕ = c.args.shape.now.cpus + c.args.shape.now.agents in
     let shape : made.key.shape ≡ c.args.shape.now = ap (λ k. k.shape) c.in-Ok.ensures.ok.5 in
     let ls = lastings g.B.Kept.lasting made.key in
-    subst (All (IsFor name c.args.shape.now ls)) (ap (λ (s : Shape). first_tokens name s ls n) (sym shape) ∙ sym c.in_ok-tokens.ensures) (firsts_are name c.args.shape.now ls n)
+    subst (All (IsFor name c.args.shape.now ls)) (ap (λ (s : Shape). first_tokens name s ls n) (sym shape)
+    ∙ sym c.in_ok-tokens.ensures) (firsts_are name c.args.shape.now ls n)
 
 pub returns-clause-each : goal.returns-clause-each
 returns-clause-each g c =
     let made = c.in-Ok.made.0.shared in let n : ℕ = c.args.shape.now.cpus + c.args.shape.now.agents in
-    subst (λ (tokens : List TokenView). HasEachSeat n (map (λ (t : TokenView). t.seat) tokens)) (sym c.in_ok-tokens.ensures)
+    subst (λ (tokens : List TokenView). HasEachSeat n (map (λ (t : TokenView). t.seat) tokens))
+    (sym c.in_ok-tokens.ensures)
     (firsts_each made.table_id made.key.shape (lastings g.B.Kept.lasting made.key) n)
