@@ -1,5 +1,6 @@
 pub mod Begin
 pub mod End
+pub mod Gathered
 pub mod Layout
 pub mod Outs
 pub mod Parts

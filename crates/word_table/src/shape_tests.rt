@@ -1,8 +1,11 @@
 //! Tables of the smallest and the largest shape are made and closed.
 ghost use Rattle.std.specs.Prelude.{◌≡◌, [], ◌∷◌, false, length, IfOk};
+ghost use Rattle.std.specs.List.{All};
 ghost use Rattle.handoff_data.specs.Shape.{IsShape};
+ghost use Rattle.word_table.specs.Gathered.{IsGatheredOf};
+ghost use Rattle.word_table.specs.Views.{IsOf};
 
-use crate::{Closed, Kept, Words};
+use crate::{Closed, Gathered, Kept, Token, Words};
 use handoff_data::{NoMemory, Shape, State};
 use std::alloc::Global;
 use std::test::Fail;
@@ -14,6 +17,20 @@ impl Kept for Numbered {
     ghost lasting = { λ body. body.0 ∷ [] };
 
     ghost ended = { λ _. false };
+}
+
+// All tokens back.
+fn gather_all(words: &Words<Numbered>, tokens: Vec<Token>) -> Gathered<Numbered>
+    requires of { All (IsOf words.now) tokens.items }
+    ensures of { IsGatheredOf words.now result }
+    ensures tokens { result.tokens ≡ tokens.items }
+{
+    let mut tokens = tokens;
+    let mut gathered = words.gather();
+    while let Some(token) = tokens.pop() {
+        words.take_back(&mut gathered, token);
+    }
+    gathered
 }
 
 // The bodies are numbered in the order of their tasks.
@@ -28,7 +45,8 @@ fn made_and_closed(alloc: Global, shape: &Shape) -> Result<Closed<Numbered>, NoM
         bodies.push(Numbered(t))?;
     }
     let (words, tokens) = Words::new(alloc, shape, bodies)?;
-    Ok(words.close(tokens))
+    let gathered = gather_all(&words, tokens);
+    Ok(words.close(gathered))
 }
 
 #[test]
