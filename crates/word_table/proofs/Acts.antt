@@ -58,7 +58,8 @@ module _ {B : Type 0} (lasting : B → List ℕ) (ended_of : B → Bool) (key : 
     pub hand_is : h ≡ r.hand k
     pub known_is : known ≡ known_of lasting key
 
-  pub mine : (s : St) (r : R s) (id k : ℕ) (known : Known) (trace : List Rec) (h : ℕ) → get_elem? s.views id ≡ some (one known (part k trace h)) → Mine s r id k known trace h
+  pub mine : (s : St) (r : R s) (id k : ℕ) (known : Known) (trace : List Rec) (h : ℕ)
+      → get_elem? s.views id ≡ some (one known (part k trace h)) → Mine s r id k known trace h
   mine s r id k known trace h at = let e = r.parts id (one known (part k trace h)) at in let f = e.0.0 in record {
     near = f.near;
     owned = f.owned;
@@ -81,7 +82,8 @@ module _ {B : Type 0} (lasting : B → List ℕ) (ended_of : B → Bool) (key : 
   KeptAfter s r k tr' i x homes' ended' = Kept key.shape (words_of (set s.words i x)) (homes_of homes' ended') (put r.trace k tr')
 
   moved : (s : St) (r : R s) (id k : ℕ) (known : Known) (tr tr' : List Rec) (h h' i x : ℕ) (homes' : Lying) (keeper' : ℕ → ℕ) (ended' : ℕ → Bool)
-      → get_elem? s.views id ≡ some (one known (part k tr h)) → length homes' ≡ length s.homes → get_elem? homes' last ≡ get_elem? s.homes last
+      → get_elem? s.views id ≡ some (one known (part k tr h)) → length homes' ≡ length s.homes
+      → get_elem? homes' last ≡ get_elem? s.homes last
       → SlotsAfter s r k tr' h' homes' keeper' → HandsAfter s r k tr' h' → BodiesAfter homes' ended' → KeptAfter s r k tr' i x homes' ended'
       → R record { words = set s.words i x; homes = homes'; views = set s.views id (one known (part k tr' h')) }
   moved s r id k known tr tr' h h' i x homes' keeper' ended' at as_long same_room slots hands bodies inv = let me = mine s r id k known tr h at in record {
@@ -116,8 +118,10 @@ module _ {B : Type 0} (lasting : B → List ℕ) (ended_of : B → Bool) (key : 
   }
 
   -- another slot of the seat q, after the seat k did something with the slot i
-  other_slot : (s : St) (r : R s) (k i j q h' : ℕ) (homes' : Lying) (keeper' : ℕ → ℕ) → j ≢ i → ((r.hand k ≡ 0) ⊎ (r.hand k ≡ suc i)) → ((h' ≡ 0) ⊎ (h' ≡ suc i))
-      → get_elem? homes' j ≡ get_elem? s.homes j → keeper' j ≡ r.keeper j → SlotOut s.homes r.hand r.keeper j q → SlotOut homes' (put r.hand k h') keeper' j q
+  other_slot : (s : St) (r : R s) (k i j q h' : ℕ) (homes' : Lying) (keeper' : ℕ → ℕ) → j ≢ i → ((r.hand k ≡ 0) ⊎ (r.hand k ≡ suc i))
+      → ((h' ≡ 0) ⊎ (h' ≡ suc i))
+      → get_elem? homes' j ≡ get_elem? s.homes j → keeper' j ≡ r.keeper j → SlotOut s.homes r.hand r.keeper j q
+      → SlotOut homes' (put r.hand k h') keeper' j q
   other_slot s r k i j q h' homes' keeper' ne before after home kept old =
       let was : r.hand k ≢ suc j = ⊎_elim (λ z e. absurd (omega (arith, z, e))) (λ z e. ne (omega (arith, z, e))) before in
       let now : h' ≢ suc j = ⊎_elim (λ z e. absurd (omega (arith, z, e))) (λ z e. ne (omega (arith, z, e))) after in record {
@@ -128,7 +132,8 @@ module _ {B : Type 0} (lasting : B → List ℕ) (ended_of : B → Bool) (key : 
       }
 
   -- A step on a word alone
-  pub steady : (s : St) (r : R s) (id k : ℕ) (known : Known) (tr tr' : List Rec) (i x : ℕ) → get_elem? s.views id ≡ some (one known (part k tr 0))
+  pub steady : (s : St) (r : R s) (id k : ℕ) (known : Known) (tr tr' : List Rec) (i x : ℕ)
+      → get_elem? s.views id ≡ some (one known (part k tr 0))
       → ((j : ℕ) → has_out j tr' ≡ has_out j tr) → KeptAfter s r k tr' i x s.homes r.ended
       → R record { words = set s.words i x; homes = s.homes; views = set s.views id (one known (part k tr' 0)) }
   steady s r id k known tr tr' i x at quiet inv = let me = mine s r id k known tr 0 at in
@@ -143,8 +148,10 @@ module _ {B : Type 0} (lasting : B → List ℕ) (ended_of : B → Bool) (key : 
       r.bodies inv
 
   -- The slot j comes into the seat's hand, which nobody else has
-  pub ups : (s : St) (r : R s) (id k : ℕ) (known : Known) (tr tr' : List Rec) (j i x : ℕ) → get_elem? s.views id ≡ some (one known (part k tr 0)) → j < length s.homes → j < last
-      → ((o : ℕ) → o ≢ j → has_out o tr' ≡ has_out o tr) → has_out j tr' ≡ true → ((q : ℕ) → q < seats → q ≢ k → has_out j (r.trace q) ≡ true → ⊥)
+  pub ups : (s : St) (r : R s) (id k : ℕ) (known : Known) (tr tr' : List Rec) (j i x : ℕ)
+      → get_elem? s.views id ≡ some (one known (part k tr 0)) → j < length s.homes → j < last
+      → ((o : ℕ) → o ≢ j → has_out o tr' ≡ has_out o tr) → has_out j tr' ≡ true
+      → ((q : ℕ) → q < seats → q ≢ k → has_out j (r.trace q) ≡ true → ⊥)
       → KeptAfter s r k tr' i x (set s.homes j none) r.ended
       → R record { words = set s.words i x; homes = set s.homes j none; views = set s.views id (one known (part k tr' (suc j))) }
   ups s r id k known tr tr' j i x at there below quiet out alone inv = let me = mine s r id k known tr 0 at in
@@ -167,9 +174,11 @@ module _ {B : Type 0} (lasting : B → List ℕ) (ended_of : B → Bool) (key : 
       inv
 
   -- The slot j goes from the seat's hand to its place, with y in it
-  pub downs : (s : St) (r : R s) (id k : ℕ) (known : Known) (tr tr' : List Rec) (j i x : ℕ) (y : Slot B) (ended' : ℕ → Bool) → get_elem? s.views id ≡ some (one known (part k tr (suc j))) → j < length s.homes → j < last
+  pub downs : (s : St) (r : R s) (id k : ℕ) (known : Known) (tr tr' : List Rec) (j i x : ℕ) (y : Slot B) (ended' : ℕ → Bool)
+      → get_elem? s.views id ≡ some (one known (part k tr (suc j))) → j < length s.homes → j < last
       → ((o : ℕ) → o ≢ j → has_out o tr' ≡ has_out o tr) → (has_out j tr' ≡ true → y ≡ Empty)
-      → ((t : ℕ) (b : B) → slot_at t BODY_SLOT ≡ j → y ≡ Body b → IsBody lasting key ended_of ended' t b) → ((t : ℕ) → slot_at t BODY_SLOT ≢ j → r.ended t ≡ ended' t)
+      → ((t : ℕ) (b : B) → slot_at t BODY_SLOT ≡ j → y ≡ Body b → IsBody lasting key ended_of ended' t b)
+      → ((t : ℕ) → slot_at t BODY_SLOT ≢ j → r.ended t ≡ ended' t)
       → KeptAfter s r k tr' i x (set s.homes j (some y)) ended'
       → R record { words = set s.words i x; homes = set s.homes j (some y); views = set s.views id (one known (part k tr' 0)) }
   downs s r id k known tr tr' j i x y ended' at there below quiet empty body others inv = let me = mine s r id k known tr (suc j) at in

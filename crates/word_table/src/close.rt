@@ -7,13 +7,15 @@ ghost use mathlib.Core.Option.{some};
 ghost use lib.ListN.{get_elem?};
 ghost use Rattle.handoff_data.specs.Shape.{IsShape};
 ghost use Rattle.word_steps.specs.Words.{STRIDE, STATE, COND, words_of};
-ghost use Rattle.word_table.specs.End.{HasRoom, HasEachSeat, IsIdle, IsEnd, is_body};
+ghost use Rattle.word_table.specs.End.{HasRoom, HasEachSeat, IsIdle, IsLeft, IsEnd, is_body};
 ghost use Rattle.word_table.specs.Gathered.{IsGatheredOf};
 ghost use Rattle.word_table.specs.Layout.{SLOTS, BODY_SLOT, rows_of, slot_at};
+ghost use Rattle.word_table.specs.Ruled.{lastings};
 ghost use Rattle.word_table.specs.declared.slot.Slot.TheVariants.{Body, Room};
 
 use crate::layout::{BODY_SLOT, COND, SLOTS, STATE, STRIDE, rows_of};
 use crate::gathered::Gathered;
+use crate::rule::Board;
 use crate::slot::{Kept, Slot};
 use crate::words::Words;
 use handoff_data::State;
@@ -28,6 +30,20 @@ pub struct Closed<B> {
 }
 
 type Left<B> = atomic_table::Closed<Slot<B>, Global>;
+
+// The words and slots of a table whose tokens are all there.
+fn end_of<B: Kept>(board: Board<B>, gathered: Gathered<B>) -> Left<B>
+    requires of { IsGatheredOf (record { name = board.shared.table_id; shape = board.shared.key.shape; lasting = lastings B.lasting board.shared.key }) gathered }
+    requires all { HasEachSeat (board.shared.key.shape.cpus + board.shared.key.shape.agents) (map (λ t. t.seat) gathered.tokens) }
+    requires idle { All IsIdle gathered.tokens }
+    ensures counts { (slots_len result.words ≡ board.shared.table_id.words) × (slots_len result.slots ≡ board.shared.table_id.slots) }
+    ensures words { IsFull result.words }
+    ensures slots { IsFull result.slots }
+    ensures left { IsLeft B.lasting B.ended board.shared.key gathered.tokens (slots_items result.words) (slots_items result.slots) }
+{
+    let Gathered { seat } = gathered;
+    board.close_with(seat)
+}
 
 // The room for the bodies.
 fn take_room<B: Kept>(left: &mut Left<B>, rows: u32, tasks: u32) -> Vec<B>
@@ -149,8 +165,7 @@ impl<B: Kept> Words<B> {
             conds,
         } = self;
         let rows = rows_of(&shape);
-        let Gathered { seat } = gathered;
-        let mut left = table.close_with(seat);
+        let mut left = end_of(table, gathered);
         let room = take_room(&mut left, rows, shape.tasks);
         let bodies = take_bodies(&mut left, shape.tasks, room);
         let states = read_states(&left, shape.tasks, states);
