@@ -9,12 +9,17 @@ use Rattle.word_table.specs.Views.{WordsView}
 use Rattle.word_table.specs.declared.slot.Key.{Key}
 
 -- it has the parts of the tokens, and knows what the table was told
-pub gathered_me : {B : Type 0} (lasting : B → List ℕ) (key : Key B) (words : WordsView) (gathered : GatheredView) (name : TableId) (me : Sat B) → IsGathered name me → gathered_view name me.0 ≡ gathered → IsGatheredOf words gathered
-    → key.shape ≡ words.shape → lastings lasting key ≡ words.lasting → me ≡ (record { parts = map part_of gathered.tokens; known = known_of lasting key }, [])
+pub gathered_me : {B : Type 0} (lasting : B → List ℕ) (key : Key B) (words : WordsView) (gathered : GatheredView)
+    (name : TableId) (me : Sat B) → IsGathered name me → gathered_view name me.0 ≡ gathered → IsGatheredOf words gathered
+    → key.shape ≡ words.shape → lastings lasting key ≡ words.lasting
+    → me ≡ (record { parts = map part_of gathered.tokens; known = known_of lasting key }, [])
 gathered_me lasting key words gathered name me one seen of shape last =
     let shapes = ap (λ (g : GatheredView). g.shape) seen ∙ of.same_shape ∙ sym shape in
     let lasts = ap (λ (g : GatheredView). g.lasting) seen ∙ of.same_lasting ∙ sym last in
-    one ∙ λ j. (record { parts = map part_of (seen j).tokens; known = record { shape = shapes j; lasting = lasts j } }, [])
+    one ∙ λ j. (
+      record { parts = map part_of (seen j).tokens; known = record { shape = shapes j; lasting = lasts j } },
+      [],
+    )
 
 -- The last of those that are left
 
@@ -37,5 +42,6 @@ none_left [] e = λ j. []
 none_left (x ∷ xs) e = absurd (omega arith)
 
 -- it goes to the front of those that have come back
-pub one_back : {A : Type 0} (before left done all : List A) (x : A) → before ≡ left ++ x ∷ [] → before ++ done ≡ all → left ++ x ∷ done ≡ all
+pub one_back : {A : Type 0} (before left done all : List A) (x : A) → before ≡ left ++ x ∷ [] → before ++ done ≡ all
+    → left ++ x ∷ done ≡ all
 one_back before left done all x is was = sym (append_assoc left (x ∷ []) done) ∙ ap (λ z. z ++ done) (sym is) ∙ was

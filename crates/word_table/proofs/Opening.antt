@@ -2,7 +2,6 @@
 use Rattle.std.proofs.Common.{◌≡◌, ℕ, zero, suc, ◌+◌, ◌*◌, ◌%◌, ◌<◌, ◌≤◌, Bool, true, false, get_or, length, map, refl, sym, ap, ◌∙◌, subst, List, [], ◌∷◌, ◌⊎◌, inl, inr, lt-ltb, le-ltb, arith}
 use Rattle.std.specs.Prelude.{◌↔◌, nat_lt, if◌then◌else◌, Vec}
 use Rattle.std.specs.Global.{Global}
-use Rattle.std.specs.List.{All}
 use Rattle.std.proofs.lemmas.Bool.{cases_eq, cases_lt}
 use Rattle.std.proofs.lemmas.Bool.Decides.{nat_tests}
 use Rattle.std.proofs.lemmas.List.{length-map}
@@ -121,18 +120,14 @@ module _ {B : Type 0} where
       | inr high ↦ far has_body false n 1 high refl (λ v. refl) ∙ sym (le-ltb n shape.tasks (omega (arith, high)))
     ]
 
-    homes_are : length bodies ≡ shape.tasks → homes_of (map some slots) (λ t. false) ≡ first_homes shape mask
-    homes_are count = λ j. record {
-      task = fun_ext (column_is (λ o. task_of (val_in o)) _ 0 shape.tasks (Held (val.Task (first_val mask)))
-          (omega arith) (omega arith) refl refl (λ v. refl) (λ n. refl)) j;
-      queue = fun_ext (column_is (λ o. queue_of (val_in o)) _ 2 shape.cpus (Held (val.Queue no_tasks)) (omega arith)
-          (omega arith) refl refl (λ v. refl) (λ n. refl)) j;
-      works = fun_ext (column_is (λ o. works_of (val_in o)) _ 3 shape.cpus (Held (val.Works [])) (omega arith)
-          (omega arith) refl refl (λ v. refl) (λ n. refl)) j;
-      wait = fun_ext (column_is (λ o. wait_of (val_in o)) _ 5 shape.conds (Held (val.Wait [])) (omega arith)
-          (omega arith) refl refl (λ v. refl) (λ n. refl)) j;
+    homes_are : (ended : ℕ → Bool) → length bodies ≡ shape.tasks → homes_of (map some slots) ended ≡ record (first_homes shape mask) { ended = ended }
+    homes_are ended count = λ j. record {
+      task = fun_ext (column_is (λ o. task_of (val_in o)) _ 0 shape.tasks (Held (val.Task (first_val mask))) (omega arith) (omega arith) refl refl (λ v. refl) (λ n. refl)) j;
+      queue = fun_ext (column_is (λ o. queue_of (val_in o)) _ 2 shape.cpus (Held (val.Queue no_tasks)) (omega arith) (omega arith) refl refl (λ v. refl) (λ n. refl)) j;
+      works = fun_ext (column_is (λ o. works_of (val_in o)) _ 3 shape.cpus (Held (val.Works [])) (omega arith) (omega arith) refl refl (λ v. refl) (λ n. refl)) j;
+      wait = fun_ext (column_is (λ o. wait_of (val_in o)) _ 5 shape.conds (Held (val.Wait [])) (omega arith) (omega arith) refl refl (λ v. refl) (λ n. refl)) j;
       body = fun_ext (bodies_are count) j;
-      ended = λ t. false;
+      ended = ended;
     }
 
     -- a body at home is the one that was laid there
@@ -173,18 +168,17 @@ module _ {B : Type 0} (lasting : B → List ℕ) (ended_of : B → Bool) (key : 
       (fresh_fits seats 0 seats (omega arith), inl refl)
   firsts (suc j) v e = absurd (some-ne-none v (sym e))
 
-  pub opens : (mask : CpuMask) (words : List ℕ) (slots : List (Slot B)) → IsShape key.shape
-      → ((c : ℕ) → HasCpu mask c ↔ (c < key.shape.cpus)) → length key.bodies.value.items ≡ key.shape.tasks
-      → All (λ b. ended_of b ≡ false) key.bodies.value.items → words_of words ≡ first_words key.shape
-      → length words ≡ STRIDE * rows_of key.shape → IsLaid key.shape mask key.bodies.value.items slots
+  pub opens : (mask : CpuMask) (words : List ℕ) (slots : List (Slot B)) → IsShape key.shape → ((c : ℕ) → HasCpu mask c ↔ (c < key.shape.cpus)) → length key.bodies.value.items ≡ key.shape.tasks
+      → words_of words ≡ first_words key.shape → length words ≡ STRIDE * rows_of key.shape → IsLaid key.shape mask key.bodies.value.items slots
       → Ruled lasting ended_of key (opening words slots (first_view lasting key))
-  opens mask words slots is_shape all count begun words_are wide laid =
-      let bodies = key.bodies.value.items in record {
+  opens mask words slots is_shape all count words_are wide laid =
+      let bodies = key.bodies.value.items in
+      let ended = λ (t : ℕ). get_or (map ended_of bodies) t false in record {
         trace = λ q. [];
         hand = λ q. 0;
         owner = λ q. 0;
         keeper = λ q. 0;
-        ended = λ t. false;
+        ended = ended;
         bare = λ q far. refl;
         wide = wide;
         deep = length-map slots some ∙ laid.long;
@@ -194,10 +188,8 @@ module _ {B : Type 0} (lasting : B → List ℕ) (ended_of : B → Bool) (key : 
         hands = λ i q near e. absurd (omega (arith, e));
         bodies = λ t b e. let is = body_laid key.shape mask bodies slots laid t b e in record {
           lasts = sym (read_at (map lasting bodies) t (lasting b) [] (at_map lasting bodies t b is));
-          ends = subst (λ (z : B). ended_of z ≡ false) (read_at bodies t b b is) (begun t b (within bodies t b is));
+          ends = sym (read_at (map ended_of bodies) t (ended_of b) false (at_map ended_of bodies t b is));
         };
-        inv = subst (λ (z : ℕ → ℕ → ℕ). Kept key.shape z (homes_of (map some slots) (λ t. false)) (λ q. []))
-            (sym words_are)
-            (subst (λ z. Kept key.shape (first_words key.shape) z (λ q. []))
-            (sym (homes_are key.shape mask bodies slots laid count)) (start_law key.shape mask is_shape all));
+        inv = subst (λ (z : ℕ → ℕ → ℕ). Kept key.shape z (homes_of (map some slots) ended) (λ q. [])) (sym words_are)
+            (subst (λ z. Kept key.shape (first_words key.shape) z (λ q. [])) (sym (homes_are key.shape mask bodies slots laid ended count)) (start_law key.shape mask ended is_shape all));
       }

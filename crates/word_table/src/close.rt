@@ -13,8 +13,8 @@ ghost use Rattle.word_table.specs.Layout.{SLOTS, BODY_SLOT, rows_of, slot_at};
 ghost use Rattle.word_table.specs.Ruled.{lastings};
 ghost use Rattle.word_table.specs.declared.slot.Slot.TheVariants.{Body, Room};
 
-use crate::layout::{BODY_SLOT, COND, SLOTS, STATE, STRIDE, rows_of};
 use crate::gathered::Gathered;
+use crate::layout::{BODY_SLOT, COND, SLOTS, STATE, STRIDE, rows_of};
 use crate::rule::Board;
 use crate::slot::{Kept, Slot};
 use crate::words::Words;

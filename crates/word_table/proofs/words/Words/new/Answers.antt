@@ -1,4 +1,4 @@
-use Rattle.std.proofs.Common.{◌≡◌, ◌+◌, ◌*◌, ℕ, false, List, length, map, subst, sym, ap, ◌∙◌}
+use Rattle.std.proofs.Common.{◌≡◌, ◌+◌, ◌*◌, ℕ, List, length, map, subst, sym, ap, ◌∙◌}
 use Rattle.std.specs.List.{All}
 use Rattle.atomic_table.specs.Seated.{TableId}
 use Rattle.handoff_data.specs.declared.shape.Shape.{Shape}
@@ -17,7 +17,6 @@ new-requires g c =
     opens g.B.Kept.lasting g.B.Kept.ended record { shape = c.args.shape.now; bodies = c.of.result } c.all-mask.result
     c.as_slice.result.now c.in_ok-slots.slots.items
     c.requires.shape c.all-mask.ensures (ap length seen ∙ c.requires.tasks)
-    (subst (All (λ b. g.B.Kept.ended b ≡ false)) (sym seen) c.requires.begun)
     (ap words_of words ∙ c.in_ok-words.ensures.words)
     (ap length words ∙ c.in_ok-words.ensures.long ∙ ap (λ (n : ℕ). 64 * n) c.rows_of-rows.ensures)
     (subst (λ bodies. IsLaid c.args.shape.now c.all-mask.result bodies c.in_ok-slots.slots.items) (sym seen)
