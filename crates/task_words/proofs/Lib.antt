@@ -1,1 +1,3 @@
-mod Tokens
+pub mod Ends
+pub mod Firsts
+pub mod Tokens

@@ -3,12 +3,16 @@
 #![tactic(auto)]
 
 mod bodies;
+mod close;
 mod conds;
 mod guards;
+mod life;
 mod loads;
 mod locks;
 mod pass;
 mod runs;
+#[cfg(test)]
+mod shape_tests;
 mod states;
 mod wk;
 
@@ -21,4 +25,4 @@ pub use pass::{Pass, Turn};
 pub use runs::{clear_busy, dequeue_task, move_task, queue_task, set_busy};
 pub use states::{match_state, set_running, set_state, store_cpu, store_running, store_waking};
 pub use wk::Wk;
-pub use word_table::Kept;
+pub use word_table::{Closed, Kept};
