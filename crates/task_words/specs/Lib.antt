@@ -1,4 +1,5 @@
 pub mod Bodies
+pub mod Gives
 pub mod Shown
 pub mod States
 pub mod Views

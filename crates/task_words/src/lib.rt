@@ -4,6 +4,7 @@
 
 mod bodies;
 mod conds;
+mod gives;
 mod guards;
 mod loads;
 mod locks;
