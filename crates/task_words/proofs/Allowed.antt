@@ -1,6 +1,6 @@
 -- Each shape of what a seat did with a queue allows its give.
-use Rattle.std.proofs.Common.{◌≡◌, ◌≢◌, ℕ, ◌<◌, ◌≤◌, ◌+◌, ◌++◌, ◌∷◌, [], inl, inr, refl, sym, ap, subst, ◌∙◌, List, length, add-one, arith}
-use Rattle.std.specs.Prelude.{MatchOption, IfSome, nat_lt, ◌==◌, ◌&&◌, ◌⊎◌, Bool, true, false, Option, Some, None, if◌then◌else◌, is_some}
+use Rattle.std.proofs.Common.{◌≡◌, ◌≢◌, ℕ, ◌<◌, ◌≤◌, ◌+◌, ◌++◌, ◌∷◌, [], inl, inr, refl, sym, ap, subst, ◌∙◌, List, length, arith}
+use Rattle.std.specs.Prelude.{suc, ◌-◌, ◌/◌, ◌^◌, IsSome, unwrap_or, MatchOption, IfSome, nat_lt, ◌==◌, ◌&&◌, ◌⊎◌, Bool, true, false, Option, Some, None, if◌then◌else◌, is_some}
 use Rattle.std.proofs.lemmas.Bool.{cases_Bool}
 use Rattle.std.proofs.lemmas.Bool.Decides.{nat_tests}
 use Rattle.core_data.proofs.QueueLemmas.{times_in-push, times_in-cons}
@@ -11,10 +11,11 @@ use Rattle.handoff_data.specs.declared.shape.Shape.{Shape}
 use Rattle.handoff_data.specs.declared.state.State.{State}
 use Rattle.task_words.specs.Gives.{is_quiet, unquiet, IsAsTaken, IsWoken, IsPicked, IsPutBack, IsAsleep, IsQueuedHere, IsCurrentHere, HasRoomFor, IsJustTaken, IsQueuedUnder}
 use Rattle.word_rule.proofs.Uses.{gives_same, gives_woken, gives_picked, gives_back, gives_asleep, IsPushed}
-use Rattle.word_rule.specs.May.{MayGiveQueueVal, MayGiveTaskVal}
+use Rattle.word_rule.proofs.Possible.{value_of}
+use Rattle.word_rule.specs.May.{MayGiveQueueVal, MayGiveTaskVal, MaySetBusyWord, next_busy}
 use Rattle.word_rule.specs.Standing.{may_run}
 use Rattle.word_rule.specs.Told.{TakenQueue, IsOff}
-use Rattle.word_steps.specs.Folds.{put_both, has_put, has_added, current_task, stays_queued, queue_held}
+use Rattle.word_steps.specs.Folds.{put_both, has_put, has_added, current_task, stays_queued, queue_held, number_read, task_to_clear}
 use Rattle.word_steps.specs.Records.{Rec, Took, Gave, OutBody, HomeBody, Queued, Dequeued, Moved, SetBusy, ClearedBusy, StoredOwn, Claimed, Released, LoadedState, LoadedRq, LoadedBusy, LoadedCpu, StoredCpu, Bumped, LoadedCond}
 use Rattle.word_steps.specs.declared.val.Val.TheVariants as val
 
@@ -146,6 +147,11 @@ module _ (shape : Shape) (s : ℕ) (trace : List Rec) where
   popped_task c now new None x is = tt
   popped_task c now new (Some t) x is = (first_may c t now new.waiting x is.0).0
 
+-- a number that was read, and isn't 0
+numbered : (o : Option ℕ) → 0 < unwrap_or o 0 → (m : ℕ) × (o ≡ Some (suc m))
+numbered None h = absurd (omega (arith, h))
+numbered (Some n) h = (n - 1, ap (λ (k : ℕ). Some k) (omega (arith, h)))
+
 pub queued_under_gives : (shape : Shape) (s : ℕ) (trace : List Rec) (t : ℕ) (given : TaskVal) → IsQueuedUnder shape trace t given
     → MayGiveTaskVal s trace shape t given
 queued_under_gives shape s trace t given x = record {
@@ -155,5 +161,17 @@ queued_under_gives shape s trace t given x = record {
   wake_cpu = x.wake_cpu;
   dest = x.dest;
   settled = inr (x.unclaimed, x.unmoved);
-  begun = inr (inl (x.m, x.number ∙ ap (λ (n : ℕ). Some n) (add-one x.m)));
+  begun = inr (inl (numbered (number_read trace t) x.number));
+}
+
+pub ready_may : (s : ℕ) (trace : List Rec) (t x : ℕ) → IsSome (queue_held trace s) → may_run s trace s t ≡ true
+    → current_task s trace ≡ None → task_to_clear s trace ≡ None → x / 2 < 2 ^ 60 → MaySetBusyWord s trace t x (next_busy x)
+ready_may s trace t x held ready none clear room = let out = value_of (queue_held trace s) held in record {
+  after = refl;
+  room = room;
+  taken = out.0;
+  queue = out.1;
+  stands = inl ready;
+  none = none;
+  clear = clear;
 }

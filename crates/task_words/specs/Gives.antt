@@ -1,13 +1,14 @@
 -- What a seat has done with a queue since it took the queue's lock, step by step: each shape of it allows the give. v is the
 -- queue as it was taken, and rs the trace before.
-use Rattle.std.specs.Prelude.{◌≡◌, ℕ, ◌<◌, ◌+◌, ◌++◌, ◌∷◌, [], ◌⊎◌, Bool, true, false, List, Option, Some, None, if◌then◌else◌}
+use Rattle.std.specs.Prelude.{◌≡◌, ℕ, ◌<◌, ◌++◌, ◌∷◌, [], ◌⊎◌, Bool, true, false, List, Option, Some, None, if◌then◌else◌}
 use Rattle.core_data.specs.Queue.{Queue}
 use Rattle.core_data.specs.declared.values.TaskVal.{TaskVal}
 use Rattle.core_kinds.specs.Locks.{IsKept}
 use Rattle.handoff_data.specs.declared.shape.Shape.{Shape}
 use Rattle.handoff_data.specs.declared.state.State.{State}
+use Rattle.word_rule.specs.May.{number_of}
 use Rattle.word_rule.specs.Told.{TakenQueue, IsOff}
-use Rattle.word_steps.specs.Folds.{task_held, current_task, stays_queued, body_held, task_to_clear, is_claimed, is_moving, number_read}
+use Rattle.word_steps.specs.Folds.{task_held, current_task, stays_queued, body_held, task_to_clear, is_claimed, is_moving}
 use Rattle.word_steps.specs.Records.{Rec, Took, Queued, Dequeued, SetBusy, Released, LoadedState, LoadedRq, LoadedBusy, LoadedCpu, LoadedCond}
 use Rattle.word_steps.specs.declared.val.Val.TheVariants as val
 
@@ -117,5 +118,4 @@ pub record IsQueuedUnder (shape : Shape) (trace : List Rec) (t : ℕ) (given : T
   pub dest : given.dest < shape.cpus
   pub unclaimed : is_claimed trace t ≡ false
   pub unmoved : is_moving trace t ≡ false
-  pub m : ℕ
-  pub number : number_read trace t ≡ Some (m + 1)
+  pub number : 0 < number_of trace t

@@ -3,3 +3,4 @@ pub mod Gives
 pub mod Shown
 pub mod States
 pub mod Views
+pub mod Waited

@@ -1,16 +1,19 @@
 //! Queues put and given after what a seat has done with them since it took their lock.
-ghost use Rattle.std.specs.Prelude.{◌≡◌, ◌++◌, ◌∷◌, [], ◌<◌, ◌≤◌, true, MatchOption, IfSome, unwrap_or};
+ghost use Rattle.std.specs.Prelude.{◌≡◌, ◌++◌, ◌∷◌, [], ◌<◌, ◌≤◌, true, Some, None, ◌+◌, MatchOption, IfSome, IsSome, unwrap_or};
+ghost use Rattle.handoff_data.specs.declared.entry.Entry.TheVariants as entry;
 ghost use Rattle.task_words.specs.Gives.{HasRoomFor, IsAsTaken, IsWoken, IsPicked, IsPutBack, IsAsleep, IsJustTaken, IsQueuedUnder};
-ghost use Rattle.task_words.specs.Views.{IsOf, IsSame};
+ghost use Rattle.task_words.specs.Views.{IsOf, IsSame, IsSameSeat, logged};
 ghost use Rattle.word_rule.specs.Standing.{may_run};
-ghost use Rattle.word_steps.specs.Folds.{queue_held, task_held};
-ghost use Rattle.word_steps.specs.Records.{Gave};
+ghost use Rattle.word_steps.specs.Folds.{current_task, queue_held, task_held, task_to_clear};
+ghost use Rattle.word_steps.specs.Records.{Gave, SetBusy};
 ghost use Rattle.word_steps.specs.declared.val.Val.TheVariants as val;
 
 use crate::guards::{QueueGuard, TaskGuard};
 use crate::pass::Pass;
+use crate::runs::set_busy;
 use crate::wk::Wk;
 use handoff_data::TaskNo;
+use std::sync::Wait;
 use word_table::Kept;
 
 // A shape has at most 200 tasks.
@@ -43,6 +46,27 @@ impl QueueGuard {
         ensures ready { IfSome result (λ t. may_run pass.now.seat pass.now.trace self.old.cpu t ≡ true) }
     {
         self.val.pop()
+    }
+
+    /// Makes a task the next of the seat's own queue that stands there and may run, and sets its busy word: it is the
+    /// seat's current task. It answers the number of changes before.
+    pub fn pick<B: Kept, R: Wait>(&mut self, rt: &R, wk: &Wk<B>, pass: &mut Pass, t: TaskNo) -> u64
+        requires of { IsOf wk.now pass.old }
+        requires task { t < wk.now.shape.tasks }
+        requires own { self.old.cpu ≡ pass.old.seat }
+        requires held { IsSome (queue_held pass.old.trace pass.old.seat) }
+        requires ready { may_run pass.old.seat pass.old.trace pass.old.seat t ≡ true }
+        requires idle { current_task pass.old.seat pass.old.trace ≡ None }
+        requires clear { task_to_clear pass.old.seat pass.old.trace ≡ None }
+        requires spare { 0 < pass.old.turn.spare }
+        ensures processor { self.new.cpu ≡ self.old.cpu }
+        ensures value { self.new.val ≡ record self.old.val { cur = Some t } }
+        ensures same { IsSameSeat pass.old pass.new }
+        ensures trace { pass.new.trace ≡ SetBusy t pass.old.seat result ∷ pass.old.trace }
+        ensures turn { pass.new.turn ≡ logged (entry.Pick t (result + 1) pass.old.seat) pass.old.turn }
+    {
+        self.val.cur = Some(t);
+        set_busy(rt, wk, pass, self, t)
     }
 
     /// Gives the lock with the queue as it was taken.

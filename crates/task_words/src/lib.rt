@@ -11,6 +11,7 @@ mod locks;
 mod pass;
 mod runs;
 mod states;
+mod waits;
 mod wk;
 
 pub use bodies::{body_home, body_out};
@@ -21,5 +22,6 @@ pub use locks::{lock_queue, lock_task, lock_wait, lock_works};
 pub use pass::{Pass, Turn};
 pub use runs::{clear_busy, dequeue_task, move_task, queue_task, set_busy};
 pub use states::{match_state, set_running, set_state, store_cpu, store_running, store_waking};
+pub use waits::wait_clear;
 pub use wk::Wk;
 pub use word_table::Kept;

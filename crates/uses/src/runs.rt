@@ -7,7 +7,7 @@ use handoff_data::{State, TaskNo};
 use std::sync::Wait;
 use task_words::{
     Kept, Pass, Wk, body_home, body_out, clear_busy, load_cpu, load_rq, load_state, lock_queue,
-    lock_task, queue_task, set_busy, store_running,
+    lock_task, queue_task, store_running,
 };
 
 /// Puts a new task at the back of its processor's queue, as Linux's `wake_up_new_task`; whether it was new.
@@ -60,8 +60,7 @@ pub fn pick<B: Kept, R: Wait>(rt: &R, wk: &Wk<B>, pass: &mut Pass) -> Option<Tas
         queue.give_as_taken(wk, pass);
         return None;
     };
-    queue.val.cur = Some(t);
-    set_busy(rt, wk, pass, &queue, t);
+    queue.pick(rt, wk, pass, t);
     queue.give_picked(wk, pass);
     Some(t)
 }
