@@ -1,5 +1,4 @@
 mod Allowed
-mod Tokens
 pub mod Ends
 pub mod Firsts
 pub mod Tokens
