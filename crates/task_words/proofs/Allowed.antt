@@ -13,7 +13,7 @@ use Rattle.task_words.specs.Gives.{is_quiet, unquiet, IsAsTaken, IsWoken, IsPick
 use Rattle.word_rule.proofs.Uses.{gives_same, gives_woken, gives_picked, gives_back, gives_asleep, IsPushed}
 use Rattle.word_rule.proofs.Possible.{value_of}
 use Rattle.word_rule.specs.May.{MayGiveQueueVal, MayGiveTaskVal, MaySetBusyWord, next_busy}
-use Rattle.word_rule.specs.Standing.{may_run}
+use Rattle.word_rule.specs.Standing.{may_run, is_runnable}
 use Rattle.word_rule.specs.Told.{TakenQueue, IsOff}
 use Rattle.word_steps.specs.Folds.{put_both, has_put, has_added, current_task, stays_queued, queue_held, number_read, task_to_clear}
 use Rattle.word_steps.specs.Records.{Rec, Took, Gave, OutBody, HomeBody, Queued, Dequeued, Moved, SetBusy, ClearedBusy, StoredOwn, Claimed, Released, LoadedState, LoadedRq, LoadedBusy, LoadedCpu, StoredCpu, Bumped, LoadedCond}
@@ -53,7 +53,7 @@ module _ (shape : Shape) (s : ℕ) (rs : List Rec) (c : ℕ) (given : Queue) (h 
 
   quiet_gives : (r : Rec) → is_quiet r ≡ true → MayGiveQueueVal s (r ∷ rs) shape c given
   quiet_gives (LoadedState t mask state) q =
-      let more : IsMore (LoadedState t mask state) = λ u e. still_known (is_some_of (current_task s rs) t && (stays_queued rs && (is_some (queue_held rs s) && (state.0 == 0)))) (may_run s rs) s t c u e in
+      let more : IsMore (LoadedState t mask state) = λ u e. still_known (is_some_of (current_task s rs) t && (stays_queued rs && (is_some (queue_held rs s) && is_runnable state))) (may_run s rs) s t c u e in
       record { taken = h.taken; held = h.held; stands = h.stands; waits = λ u w. more u (h.waits u w); next = λ u e. elim (h.next u e) [ | inl w ↦ inl (more u w) | inr w ↦ inr w ]; others = h.others; own = h.own; clear = h.clear; left = h.left }
   quiet_gives (LoadedRq t on m) q =
       let more : IsMore (LoadedRq t on m) = λ u e. e in
