@@ -1,3 +1,4 @@
 pub mod Ends
 pub mod Firsts
+pub mod Sleepers
 pub mod Tokens
