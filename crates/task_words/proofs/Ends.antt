@@ -24,7 +24,7 @@ use Rattle.word_table.specs.Ruled.{Each}
 use Rattle.word_table.specs.Views.{TokenView}
 
 -- what holds of each token, and of a trace with no step, holds of all traces
-each_trace : (P : ℕ → List Rec → Type 0) → ((s : ℕ) → P s []) → (tokens : List TokenView) → Each (λ t. P t.seat t.trace) tokens → (s : ℕ) → P s (traces_of tokens s)
+pub each_trace : (P : ℕ → List Rec → Type 0) → ((s : ℕ) → P s []) → (tokens : List TokenView) → Each (λ t. P t.seat t.trace) tokens → (s : ℕ) → P s (traces_of tokens s)
 each_trace P none [] all s = none s
 each_trace P none (token ∷ tokens) all s = elim (cases_eq token.seat s) [
   | inl e ↦ subst (P s) (let is : traces_of (token ∷ tokens) s ≡ token.trace = rw (eq-eqb token.seat s e) in sym is) (subst (λ (n : ℕ). P n token.trace) e all.0)
@@ -40,31 +40,31 @@ pub seats_same : (passes : List PassView) → map (λ (t : TokenView). t.seat) (
 seats_same [] = λ j. []
 seats_same (p ∷ passes) = λ j. p.seat ∷ seats_same passes j
 
-each_map : {A : Type 0} (P Q : A → Type 0) (xs : List A) → ((x : A) → P x → Q x) → Each P xs → Each Q xs
+pub each_map : {A : Type 0} (P Q : A → Type 0) (xs : List A) → ((x : A) → P x → Q x) → Each P xs → Each Q xs
 each_map P Q [] f all = tt
 each_map P Q (x ∷ xs) f all = (f x all.0, each_map P Q xs f all.1)
 
-some_same : {A : Type 0} (a b : A) → Some a ≡ Some b → a ≡ b
+pub some_same : {A : Type 0} (a b : A) → Some a ≡ Some b → a ≡ b
 some_same a b e = cc
 
-got_below : {A : Type 0} (xs : List A) (i : ℕ) (x : A) → slice_get xs i ≡ Some x → i < length xs
+pub got_below : {A : Type 0} (xs : List A) (i : ℕ) (x : A) → slice_get xs i ≡ Some x → i < length xs
 got_below [] i x e = let no : false ≡ true = ap is_some e in cc
 got_below (y ∷ xs) zero x e = omega arith
 got_below (y ∷ xs) (suc i) x e = let r = got_below xs i x e in omega arith
 
 module _ {B : Type 0} (ended : B → Bool) (shape : Shape) (tokens : List TokenView) (bodies : List B) (states : List State) (conds : List ℕ) (end : IsEnd ended shape tokens bodies states conds) where
-  abbrev core : Table
+  abbrev pub core : Table
   core = core_of shape end.words end.homes (traces_of tokens)
 
   -- a task that has this state at the end has it in the core
-  state_of : (t : ℕ) (x : State) → t < shape.tasks → slice_get states t ≡ Some x → core.state t ≡ x
+  pub state_of : (t : ℕ) (x : State) → t < shape.tasks → slice_get states t ≡ Some x → core.state t ≡ x
   state_of t x lt is = some_same (core.state t) x (sym (end.state t lt) ∙ is)
 
   pub rules : HasNoBad (journals_of core)
   rules = HasNoBad-journals core end.kept.holds.journals
 
   module _ (idle : Each IsIdle tokens) where
-    no_current : (s : ℕ) → current_task s (traces_of tokens s) ≡ None
+    pub no_current : (s : ℕ) → current_task s (traces_of tokens s) ≡ None
     no_current = each_trace (λ s trace. current_task s trace ≡ None) (λ s j. None) tokens (each_map IsIdle (λ t. current_task t.seat t.trace ≡ None) tokens (λ t i. i.current) idle)
 
     no_clear : (s : ℕ) → task_to_clear s (traces_of tokens s) ≡ None

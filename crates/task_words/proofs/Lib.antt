@@ -1,4 +1,5 @@
 mod Allowed
 pub mod Ends
 pub mod Firsts
+pub mod Sleepers
 pub mod Tokens

@@ -2,7 +2,7 @@
 ghost use Rattle.std.specs.Prelude.{◌≡◌, ◌+◌, ◌∷◌, map, length};
 ghost use Rattle.std.specs.List.{All};
 ghost use Rattle.handoff_data.specs.Legal.{HasNoBad, IsLegal};
-ghost use Rattle.task_words.specs.Closing.{token_of, IsDone, journals_in, AllDead, DeadHaveEnded, DeathsAreOfDead};
+ghost use Rattle.task_words.specs.Closing.{token_of, IsDone, journals_in, AllDead, DeadHaveEnded, DeathsAreOfDead, SleepersSlept, NoneMissed};
 ghost use Rattle.task_words.specs.Views.{IsOf};
 ghost use Rattle.word_table.specs.End.{HasEachSeat};
 ghost use Rattle.word_table.specs.Gathered.{IsGatheredOf};
@@ -49,6 +49,8 @@ impl<B: Kept> Wk<B> {
         ensures rules { HasNoBad (journals_in self.shape passes.items) }
         ensures legal { AllDead self.shape result.states.items → IsLegal (journals_in self.shape passes.items) }
         ensures dead { DeathsAreOfDead (journals_in self.shape passes.items) result.states.items }
+        ensures slept { SleepersSlept (journals_in self.shape passes.items) result.states.items }
+        ensures sleepers { NoneMissed self.shape passes.items result.states.items result.conds.items }
     {
         let Wk { words } = self;
         let gathered = gather(&words, passes);

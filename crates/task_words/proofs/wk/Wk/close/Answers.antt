@@ -1,6 +1,8 @@
 use Rattle.std.proofs.Common.{◌+◌, ◌∙◌, List, map, sym, ap, subst}
 use Rattle.std.specs.List.{All}
+use Rattle.handoff_data.specs.declared.shape.Shape.{Shape}
 use Rattle.task_words.proofs.Ends.{all_tokens, seats_same, rules, legal, bodies_ended, deaths}
+use Rattle.task_words.proofs.Sleepers.{sleepers_slept, none_missed}
 use Rattle.task_words.specs.Closing.{token_of}
 use Rattle.word_table.proofs.Ending.{all_each}
 use Rattle.word_table.specs.End.{HasEachSeat, IsIdle, IsEnd}
@@ -46,3 +48,25 @@ returns-clause-dead g c =
     let end = subst (λ (z : WordsView × List TokenView). IsEnd g.B.Kept.ended z.0.shape z.1 closed.bodies.items closed.states.items closed.conds.items)
     (λ j. (c.self.view_is j, c.gather-gathered.ensures.tokens j)) c.close.ensures.end in
     deaths g.B.Kept.ended c.args.self.shape tokens closed.bodies.items closed.states.items closed.conds.items end
+
+pub returns-clause-slept : goal.returns-clause-slept
+returns-clause-slept g c =
+    let tokens = map token_of c.args.passes.items in let closed = c.close.result in
+    let end = subst (λ (z : WordsView × List TokenView). IsEnd g.B.Kept.ended z.0.shape z.1 closed.bodies.items closed.states.items closed.conds.items)
+    (λ j. (c.self.view_is j, c.gather-gathered.ensures.tokens j)) c.close.ensures.end in
+    let idle = all_each IsIdle tokens (all_tokens IsIdle c.args.passes.items c.requires.done) in
+    let tasks = c.close.ensures.sizes.1 ∙ ap (λ (z : WordsView). z.shape.tasks) c.self.view_is in
+    sleepers_slept g.B.Kept.ended c.args.self.shape tokens closed.bodies.items closed.states.items closed.conds.items end idle tasks
+
+pub returns-clause-sleepers : goal.returns-clause-sleepers
+returns-clause-sleepers g c =
+    let tokens = map token_of c.args.passes.items in let closed = c.close.result in
+    let end = subst (λ (z : WordsView × List TokenView). IsEnd g.B.Kept.ended z.0.shape z.1 closed.bodies.items closed.states.items closed.conds.items)
+    (λ j. (c.self.view_is j, c.gather-gathered.ensures.tokens j)) c.close.ensures.end in
+    let shape = ap (λ (z : WordsView). z.shape) c.self.view_is in
+    let idle = all_each IsIdle tokens (all_tokens IsIdle c.args.passes.items c.requires.done) in
+    let tasks = c.close.ensures.sizes.1 ∙ ap (λ (z : Shape). z.tasks) shape in
+    let count = c.close.ensures.sizes.2 ∙ ap (λ (z : Shape). z.conds) shape in
+    λ s t k v value state is sleeps has sleeper.
+    none_missed g.B.Kept.ended c.args.self.shape tokens closed.bodies.items closed.states.items closed.conds.items end
+    idle tasks count s t k v value state is sleeps has sleeper.seat sleeper.asleep sleeper.test
