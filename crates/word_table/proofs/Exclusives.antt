@@ -1,5 +1,5 @@
 -- The exclusive entries of a wait queue that is home stay told.
-use Rattle.std.proofs.Common.{◌≡◌, ℕ, ◌<◌, Bool, true, false, set, refl, sym, ap, ◌∙◌, subst, List, [], ◌∷◌, inl, inr, ⊎_elim, eq-eqb, arith}
+use Rattle.std.proofs.Common.{◌≡◌, ℕ, Bool, true, false, set, refl, sym, ap, ◌∙◌, subst, List, [], ◌∷◌, inl, inr, ⊎_elim, eq-eqb, arith}
 use Rattle.std.specs.Prelude.{Option, Some, None, is_some, ◌==◌, ◌&&◌, ◌||◌, if◌then◌else◌}
 use Rattle.std.proofs.lemmas.Bool.{cases_eq}
 use mathlib.Core.Option.{none, some, some-injective, some-ne-none}
