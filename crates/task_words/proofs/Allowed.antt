@@ -54,22 +54,22 @@ module _ (shape : Shape) (s : ℕ) (rs : List Rec) (c : ℕ) (given : Queue) (h 
   quiet_gives : (r : Rec) → is_quiet r ≡ true → MayGiveQueueVal s (r ∷ rs) shape c given
   quiet_gives (LoadedState t mask state) q =
       let more : IsMore (LoadedState t mask state) = λ u e. still_known (is_some_of (current_task s rs) t && (stays_queued rs && (is_some (queue_held rs s) && is_runnable state))) (may_run s rs) s t c u e in
-      record { taken = h.taken; held = h.held; stands = h.stands; waits = λ u w. more u (h.waits u w); next = λ u e. elim (h.next u e) [ | inl w ↦ inl (more u w) | inr w ↦ inr w ]; others = h.others; own = h.own; clear = h.clear; left = h.left }
+      record { taken = h.taken; held = h.held; stands = h.stands; waits = λ u w. more u (h.waits u w); next = λ u e. elim (h.next u e) [ inl w ↦ inl (more u w) | inr w ↦ inr w ]; others = h.others; own = h.own; clear = h.clear; left = h.left }
   quiet_gives (LoadedRq t on m) q =
       let more : IsMore (LoadedRq t on m) = λ u e. e in
-      record { taken = h.taken; held = h.held; stands = h.stands; waits = λ u w. more u (h.waits u w); next = λ u e. elim (h.next u e) [ | inl w ↦ inl (more u w) | inr w ↦ inr w ]; others = h.others; own = h.own; clear = h.clear; left = h.left }
+      record { taken = h.taken; held = h.held; stands = h.stands; waits = λ u w. more u (h.waits u w); next = λ u e. elim (h.next u e) [ inl w ↦ inl (more u w) | inr w ↦ inr w ]; others = h.others; own = h.own; clear = h.clear; left = h.left }
   quiet_gives (LoadedBusy t busy n) q =
       let more : IsMore (LoadedBusy t busy n) = λ u e. e in
-      record { taken = h.taken; held = h.held; stands = h.stands; waits = λ u w. more u (h.waits u w); next = λ u e. elim (h.next u e) [ | inl w ↦ inl (more u w) | inr w ↦ inr w ]; others = h.others; own = h.own; clear = h.clear; left = h.left }
+      record { taken = h.taken; held = h.held; stands = h.stands; waits = λ u w. more u (h.waits u w); next = λ u e. elim (h.next u e) [ inl w ↦ inl (more u w) | inr w ↦ inr w ]; others = h.others; own = h.own; clear = h.clear; left = h.left }
   quiet_gives (LoadedCpu t d) q =
       let more : IsMore (LoadedCpu t d) = λ u e. e in
-      record { taken = h.taken; held = h.held; stands = h.stands; waits = λ u w. more u (h.waits u w); next = λ u e. elim (h.next u e) [ | inl w ↦ inl (more u w) | inr w ↦ inr w ]; others = h.others; own = h.own; clear = h.clear; left = h.left }
+      record { taken = h.taken; held = h.held; stands = h.stands; waits = λ u w. more u (h.waits u w); next = λ u e. elim (h.next u e) [ inl w ↦ inl (more u w) | inr w ↦ inr w ]; others = h.others; own = h.own; clear = h.clear; left = h.left }
   quiet_gives (LoadedCond k v) q =
       let more : IsMore (LoadedCond k v) = λ u e. e in
-      record { taken = h.taken; held = h.held; stands = h.stands; waits = λ u w. more u (h.waits u w); next = λ u e. elim (h.next u e) [ | inl w ↦ inl (more u w) | inr w ↦ inr w ]; others = h.others; own = h.own; clear = h.clear; left = h.left }
+      record { taken = h.taken; held = h.held; stands = h.stands; waits = λ u w. more u (h.waits u w); next = λ u e. elim (h.next u e) [ inl w ↦ inl (more u w) | inr w ↦ inr w ]; others = h.others; own = h.own; clear = h.clear; left = h.left }
   quiet_gives (Released t) q =
       let more : IsMore (Released t) = λ u e. released_known ((u == t) && has_put rs c u) (may_run s rs c u) e in
-      record { taken = h.taken; held = h.held; stands = h.stands; waits = λ u w. more u (h.waits u w); next = λ u e. elim (h.next u e) [ | inl w ↦ inl (more u w) | inr w ↦ inr w ]; others = h.others; own = h.own; clear = h.clear; left = h.left }
+      record { taken = h.taken; held = h.held; stands = h.stands; waits = λ u w. more u (h.waits u w); next = λ u e. elim (h.next u e) [ inl w ↦ inl (more u w) | inr w ↦ inr w ]; others = h.others; own = h.own; clear = h.clear; left = h.left }
   quiet_gives (Took n v) q = loud (Took n v) refl q
   quiet_gives (Gave n v w) q = loud (Gave n v w) refl q
   quiet_gives (OutBody t b) q = loud (OutBody t b) refl q
@@ -135,8 +135,10 @@ module _ (shape : Shape) (s : ℕ) (trace : List Rec) where
 
   pub first_may : (c t : ℕ) (now : Queue) (rest : List ℕ) → IsJustTaken shape s trace c now → now.waiting ≡ t ∷ rest
       → (t < shape.tasks) × (may_run s trace c t ≡ true)
-  first_may c t now rest x first = (x.told.waiting t (λ none. absurd (omega (arith, none, one))),
-      subst (λ (z : List Rec). may_run s z c t ≡ true) (sym x.did) (grind (arith, nat_tests, one)))
+  first_may c t now rest x first = (
+    x.told.waiting t (λ none. absurd (omega (arith, none, one))),
+    subst (λ (z : List Rec). may_run s z c t ≡ true) (sym x.did) (grind (arith, nat_tests, one)),
+  )
     where
       one : times_in now.waiting t ≡ times_in rest t + 1
       one = let all = ap (λ (xs : List ℕ). times_in xs t) first in let more = times_in-cons t rest t in grind (arith, nat_tests, all, more)
