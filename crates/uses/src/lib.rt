@@ -3,6 +3,8 @@
 
 mod locks;
 mod runs;
+mod wakes;
 
 pub use locks::copy_wake_cpu;
 pub use runs::{pick, put_back, run, start};
+pub use wakes::wake;
