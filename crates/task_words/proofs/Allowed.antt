@@ -10,9 +10,10 @@ use Rattle.core_gives.specs.Queues.{times, is_some_of}
 use Rattle.handoff_data.specs.declared.shape.Shape.{Shape}
 use Rattle.handoff_data.specs.declared.state.State.{State}
 use Rattle.task_words.specs.Gives.{is_quiet, unquiet, IsAsTaken, IsWoken, IsPicked, IsPutBack, IsAsleep, IsQueuedHere, IsCurrentHere, HasRoomFor, IsJustTaken, IsQueuedUnder}
+use Rattle.task_words.specs.Queues.{MayQueueHere}
 use Rattle.word_rule.proofs.Uses.{gives_same, gives_woken, gives_picked, gives_back, gives_asleep, IsPushed}
 use Rattle.word_rule.proofs.Possible.{value_of}
-use Rattle.word_rule.specs.May.{MayGiveQueueVal, MayGiveTaskVal, MaySetBusyWord, next_busy}
+use Rattle.word_rule.specs.May.{MayGiveQueueVal, MayGiveTaskVal, MaySetBusyWord, MayQueueWord, next_busy, next_rq}
 use Rattle.word_rule.specs.Standing.{may_run}
 use Rattle.word_rule.specs.Told.{TakenQueue, IsOff}
 use Rattle.word_steps.specs.Folds.{put_both, has_put, has_added, current_task, stays_queued, queue_held, number_read, task_to_clear}
@@ -175,3 +176,6 @@ ready_may s trace t x held ready none clear room = let out = value_of (queue_hel
   none = none;
   clear = clear;
 }
+
+pub here_may : (s : ℕ) (trace : List Rec) (c t x : ℕ) → MayQueueHere trace c t → x / 4 < 2 ^ 60 → MayQueueWord s trace t x (next_rq x 1)
+here_may s trace c t x h room = record { after = refl; room = room; locked = h.locked; cpu = c; read = h.read; queue = h.queue; ready = h.ready }

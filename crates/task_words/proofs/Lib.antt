@@ -1,2 +1,3 @@
 mod Allowed
+mod Entered
 mod Tokens

@@ -1,5 +1,6 @@
 pub mod Bodies
 pub mod Gives
+pub mod Queues
 pub mod Shown
 pub mod States
 pub mod Views

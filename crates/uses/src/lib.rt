@@ -3,8 +3,12 @@
 
 mod locks;
 mod runs;
+mod sleeps;
+mod threads;
 mod wakes;
 
 pub use locks::copy_wake_cpu;
 pub use runs::{pick, put_back, run, start};
+pub use sleeps::{sleep, switch_out};
+pub use threads::both;
 pub use wakes::wake;

@@ -7,7 +7,7 @@ use handoff_data::{State, TaskNo};
 use std::sync::Wait;
 use task_words::{
     Kept, Pass, Wk, body_home, body_out, clear_busy, load_cpu, load_rq, load_state, lock_queue,
-    lock_task, queue_task, store_running,
+    lock_task, queue_task,
 };
 
 /// Puts a new task at the back of its processor's queue, as Linux's `wake_up_new_task`; whether it was new.
@@ -31,7 +31,7 @@ pub fn start<B: Kept, R: Wait>(rt: &R, wk: &Wk<B>, pass: &mut Pass, t: TaskNo) -
     let mut queue = lock_queue(rt, wk, pass, c);
     queue_task(rt, wk, pass, &queue, t);
     queue.push(wk, pass, t);
-    store_running(wk, pass, t);
+    queue.store_running(wk, pass, t);
     queue.give_woken(wk, pass);
     task.give_queued(wk, pass);
     true

@@ -78,7 +78,7 @@ fn queue_woken<B: Kept, R: Wait>(rt: &R, wk: &Wk<B>, pass: &mut Pass, t: TaskNo,
     let mut queue = lock_queue(rt, wk, pass, to);
     queue_task(rt, wk, pass, &queue, t);
     queue.push(wk, pass, t);
-    store_running(wk, pass, t);
+    queue.store_running(wk, pass, t);
     queue.give_woken(wk, pass);
 }
 
