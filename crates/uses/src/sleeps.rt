@@ -46,7 +46,7 @@ pub fn sleep<B: Kept, R: Wait>(
     };
     if let Err(e) = wait.val.entries.push(entry) {
         wait.give(wk, pass);
-        return Err(e);
+        return Err(e.into());
     }
     set_state(wk, pass, State::TASK_INTERRUPTIBLE);
     wait.give_entered(wk, pass);
