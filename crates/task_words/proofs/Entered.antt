@@ -34,9 +34,10 @@ once_back : (xs : List WaitEntry) (x : WaitEntry) → HasEachOnce xs → has_tas
 once_back [] x once none = (refl, tt)
 once_back (y ∷ ys) x once none =
     let apart = none_of (λ (z : WaitEntry). z.t == x.t) y ys none in
-    let other : (x.t == y.t) ≡ false = grind (arith, nat_tests, apart.0) in
-    (any_back (λ (z : WaitEntry). z.t == y.t) false ys x ∙ ap (λ (b : Bool). if b then true else has_task ys y.t) other ∙ once.0,
-      once_back ys x once.1 apart.1)
+    let other : (x.t == y.t) ≡ false = grind (arith, nat_tests, apart.0) in (
+      any_back (λ (z : WaitEntry). z.t == y.t) false ys x ∙ ap (λ (b : Bool). if b then true else has_task ys y.t) other ∙ once.0,
+      once_back ys x once.1 apart.1,
+    )
 
 -- an entry that is among more than before
 new_is : (known b : Bool) → (if b then true else known) ≡ true → known ≡ false → b ≡ true
