@@ -1,3 +1,7 @@
 mod Allowed
+pub mod Ends
 mod Entered
+pub mod Firsts
+pub mod Sleepers
 mod Tokens
+pub mod Tokens

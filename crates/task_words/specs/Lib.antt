@@ -1,4 +1,5 @@
 pub mod Bodies
+pub mod Closing
 pub mod Gives
 pub mod Queues
 pub mod Shown

@@ -1,11 +1,14 @@
 -- Bodies taken out and put home keep the rule; and a new table keeps it.
-use Rattle.std.proofs.Common.{◌≡◌, ℕ, ◌<◌, ◌+◌, refl, List, [], ◌∷◌}
-use Rattle.std.specs.Prelude.{◌↔◌, Bool, true, false}
+use Rattle.std.proofs.Common.{◌≡◌, ℕ, ◌<◌, ◌+◌, refl, ap, arith, List, [], ◌∷◌}
+use Rattle.std.specs.Prelude.{◌↔◌, Bool, true, false, nat_lt, if◌then◌else◌}
 use Rattle.core_data.specs.Table.{put}
+use Rattle.core_invariant.specs.Invariant.{Holds}
+use Rattle.core_kinds.specs.Steps.{dead}
 use Rattle.handoff_data.specs.Mask.{HasCpu}
 use Rattle.handoff_data.specs.Shape.{IsShape}
 use Rattle.handoff_data.specs.declared.mask.CpuMask.{CpuMask}
 use Rattle.handoff_data.specs.declared.shape.Shape.{Shape}
+use Rattle.handoff_data.specs.declared.state.State.{State}
 use Rattle.word_rule.proofs.BodiesKept.{known_start, body_out_known, body_home_known}
 use Rattle.word_rule.proofs.GrownKept.{grown_start}
 use Rattle.word_rule.proofs.OffKept.{off_start}
@@ -24,7 +27,7 @@ use Rattle.word_steps.proofs.MovingSteps.{moving_start, states_start}
 use Rattle.word_steps.proofs.NumbersKept.{numbers_start}
 use Rattle.word_steps.proofs.PutKept.{put_start}
 use Rattle.word_steps.proofs.QueuedKept.{queued_start}
-use Rattle.word_steps.specs.Decode.{Homes}
+use Rattle.word_steps.specs.Decode.{Homes, core_of}
 use Rattle.word_steps.specs.Opening.{first_words, first_homes}
 use Rattle.word_steps.specs.Records.{Rec, OutBody, HomeBody}
 
@@ -82,18 +85,44 @@ module _ (shape : Shape) (words : ℕ → ℕ → ℕ) (homes : Homes) (traces :
             (body_home_known traces s kept.known t ended),
       )
 
-pub start_law : (shape : Shape) (mask : CpuMask) → IsShape shape → ((c : ℕ) → HasCpu mask c ↔ (c < shape.cpus))
-    → Kept shape (first_words shape) (first_homes shape mask) (λ s. [])
-start_law shape mask is_shape all =
+new_lives : (b : Bool) → ◌≡◌ {A = State} (record { 0 = if b then 0x800 else 0 }) dead → ⊥
+new_lives true e = let n : 0x800 ≡ 0x80 = ap (λ (w : State). w.0) e in omega (arith, n)
+new_lives false e = let n : 0 ≡ 0x80 = ap (λ (w : State). w.0) e in omega (arith, n)
+
+-- no task is dead, so the invariant says nothing of which bodies have ended
+start_holds : (shape : Shape) (mask : CpuMask) (ended : ℕ → Bool) → IsShape shape → ((c : ℕ) → HasCpu mask c ↔ (c < shape.cpus))
+    → Holds (core_of shape (first_words shape) (record (first_homes shape mask) { ended = ended }) (λ s. []))
+start_holds shape mask ended is_shape all =
+    let h = first_holds shape mask is_shape all in
     record {
-      holds = first_holds shape mask is_shape all;
+      shapes = assumption (h.shapes);
+      locks = assumption (h.locks);
+      queues = assumption (h.queues);
+      busy = record {
+        runner = h.busy.runner;
+        named = h.busy.named;
+        bodies = h.busy.bodies;
+        ended = λ t e. absurd (new_lives (nat_lt t shape.tasks) e);
+      };
+      places = assumption (h.places);
+      positions = assumption (h.positions);
+      journals = assumption (h.journals);
+      sleepers = assumption (h.sleepers);
+    }
+
+-- a new table keeps the rule, whichever bodies have ended
+pub start_law : (shape : Shape) (mask : CpuMask) (ended : ℕ → Bool) → IsShape shape → ((c : ℕ) → HasCpu mask c ↔ (c < shape.cpus))
+    → Kept shape (first_words shape) (record (first_homes shape mask) { ended = ended }) (λ s. [])
+start_law shape mask ended is_shape all =
+    record {
+      holds = start_holds shape mask ended is_shape all;
       moving = moving_start shape;
       current = current_start (first_words shape);
       numbers = numbers_start (first_words shape);
       matched = matched_start (first_words shape);
       queued = queued_start (first_words shape);
       put_there = put_start (first_words shape);
-      ended = ended_start (λ t. false);
+      ended = ended_start ended;
       counts = λ t. refl;
       states = states_start shape;
       standing = standing_first shape;

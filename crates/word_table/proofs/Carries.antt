@@ -29,28 +29,34 @@ module _ {B : Type 0} (lasting : B → List ℕ) (ended_of : B → Bool) (key : 
     near : n < count_of sort key.shape
     near = subst (λ (z : Shape). n < count_of sort z) (sym same) lt
 
-    pub take_may : (new : ℕ) → new ≡ suc s → m ≡ sat known s trace → Allows R slots id m i (λ x. either (eqb x 0) new x) (took sort (step slots i 0 new none) m)
+    pub take_may : (new : ℕ) → new ≡ suc s → m ≡ sat known s trace
+        → Allows R slots id m i (λ x. either (eqb x 0) new x) (took sort (step slots i 0 new none) m)
     take_may new next is = subst (λ (z : ℕ × ℕ × Sat B). Allows R slots id z.2 z.0 (λ x. either (eqb x 0) z.1 x) (took sort (step slots z.0 0 z.1 none) z.2)) (λ h. (sym at h, sym next h, sym is h))
         (may_take lasting ended_of key slots id s sort n known trace near)
 
-    pub give_may : (v w : Val) → m ≡ holding known s trace (slot_at n (slot_of sort)) (Held w) → held_of sort trace n ≡ Some v → MayGive s trace shape sort n w → Allows R slots id m i (λ _. 0) (λ _. gave sort (step slots i 0 0 none) m 0)
+    pub give_may : (v w : Val) → m ≡ holding known s trace (slot_at n (slot_of sort)) (Held w) → held_of sort trace n ≡ Some v
+        → MayGive s trace shape sort n w → Allows R slots id m i (λ _. 0) (λ _. gave sort (step slots i 0 0 none) m 0)
     give_may v w is has may = subst (λ (z : ℕ × Sat B). Allows R slots id z.1 z.0 (λ _. 0) (λ _. gave sort (step slots z.0 0 0 none) z.1 0)) (λ h. (sym at h, sym is h))
         (may_give lasting ended_of key slots id s sort n known trace v w near has (subst (λ (z : Shape). MayGive s trace z sort n w) (sym same) may))
 
   -- at the word i
-  pub lay_may : (i n c : ℕ) → m ≡ holding known s trace (slot_at n c) Empty → n < rows_of shape → c < SLOTS → Allows R slots id m i (λ x. x) (lain (step slots i 0 0 none) m)
+  pub lay_may : (i n c : ℕ) → m ≡ holding known s trace (slot_at n c) Empty → n < rows_of shape → c < SLOTS
+      → Allows R slots id m i (λ x. x) (lain (step slots i 0 0 none) m)
   lay_may i n c is lt low = subst (λ (z : Sat B). Allows R slots id z i (λ x. x) (lain (step slots i 0 0 none) z)) (sym is)
       (may_lay lasting ended_of key slots id s i n c known trace (subst (λ (z : Shape). n < rows_of z) (sym same) lt) low)
 
-  pub lift_may : (i n col c : ℕ) → i ≡ word_at n col → m ≡ sat known s trace → n < rows_of shape → c < SLOTS → has_out (slot_at n c) trace ≡ true → Allows R slots id m i (λ x. x) (lifted col c (step slots i 0 0 none) m)
+  pub lift_may : (i n col c : ℕ) → i ≡ word_at n col → m ≡ sat known s trace → n < rows_of shape → c < SLOTS
+      → has_out (slot_at n c) trace ≡ true → Allows R slots id m i (λ x. x) (lifted col c (step slots i 0 0 none) m)
   lift_may i n col c at is lt low out = subst (λ (z : ℕ × Sat B). Allows R slots id z.1 z.0 (λ x. x) (lifted col c (step slots z.0 0 0 none) z.1)) (λ h. (sym at h, sym is h))
       (may_lift lasting ended_of key slots id s n col c known trace (subst (λ (z : Shape). n < rows_of z) (sym same) lt) low out)
 
-  pub leave_may : (i t : ℕ) → i ≡ word_at t BODY → m ≡ sat known s trace → t < shape.tasks → MayTakeBody s trace t → Allows R slots id m i (λ x. x) (left lasting ended_of (step slots i 0 0 none) m)
+  pub leave_may : (i t : ℕ) → i ≡ word_at t BODY → m ≡ sat known s trace → t < shape.tasks → MayTakeBody s trace t
+      → Allows R slots id m i (λ x. x) (left lasting ended_of (step slots i 0 0 none) m)
   leave_may i t at is lt may = subst (λ (z : ℕ × Sat B). Allows R slots id z.1 z.0 (λ x. x) (left lasting ended_of (step slots z.0 0 0 none) z.1)) (λ h. (sym at h, sym is h))
       (may_leave lasting ended_of key slots id s t known trace (subst (λ (z : Shape). t < z.tasks) (sym same) lt) may)
 
-  pub come_may : (i t : ℕ) (b : B) → i ≡ word_at t BODY → m ≡ holding known s trace (slot_at t BODY_SLOT) (Body b) → t < shape.tasks → MayReturnBody s trace t (ended_of b) → lasting b ≡ slice_index_or (lastings lasting key) t []
+  pub come_may : (i t : ℕ) (b : B) → i ≡ word_at t BODY → m ≡ holding known s trace (slot_at t BODY_SLOT) (Body b) → t < shape.tasks
+      → MayReturnBody s trace t (ended_of b) → lasting b ≡ slice_index_or (lastings lasting key) t []
       → Allows R slots id m i (λ x. x) (came ended_of (step slots i 0 0 none) m)
   come_may i t b at is lt may lasts = subst (λ (z : ℕ × Sat B). Allows R slots id z.1 z.0 (λ x. x) (came ended_of (step slots z.0 0 0 none) z.1)) (λ h. (sym at h, sym is h))
       (may_come lasting ended_of key slots id s t known trace b (subst (λ (z : Shape). t < z.tasks) (sym same) lt) may lasts)

@@ -30,17 +30,20 @@ module _ {B : Type 0} (hs : List (maybe.Option (Slot B))) where
   abbrev column_after : {C : Type 0} → (maybe.Option (maybe.Option (Slot B)) → C) → ℕ → maybe.Option (Slot B) → ℕ → ℕ → C
   column_after F j h l n = F (get_elem? (set hs j h) (slot_at n l))
 
-  column_put : {C : Type 0} (F : maybe.Option (maybe.Option (Slot B)) → C) (n k : ℕ) (h : maybe.Option (Slot B)) → slot_at n k < length hs → column_after F (slot_at n k) h k ≡ put (column F k) n (F (some h))
+  column_put : {C : Type 0} (F : maybe.Option (maybe.Option (Slot B)) → C) (n k : ℕ) (h : maybe.Option (Slot B)) → slot_at n k < length hs
+      → column_after F (slot_at n k) h k ≡ put (column F k) n (F (some h))
   column_put F n k h fits = fun_ext (λ m. elim (cases_eq m n) [
     | inl e ↦ ap (λ (z : ℕ). F (get_elem? (set hs (slot_at n k) h) (slot_at z k))) e ∙ ap F (set_here hs (slot_at n k) h fits) ∙ sym (put_there (column F k) n (F (some h)) m e)
     | inr ne ↦ ap F (set_else hs (slot_at n k) (slot_at m k) h (λ e. ne (omega (arith, e)))) ∙ sym (put_other (column F k) n (F (some h)) m ne)
   ])
 
-  column_beside : {C : Type 0} (F : maybe.Option (maybe.Option (Slot B)) → C) (n k l : ℕ) (h : maybe.Option (Slot B)) → k < SLOTS → l < SLOTS → l ≢ k → column_after F (slot_at n k) h l ≡ column F l
+  column_beside : {C : Type 0} (F : maybe.Option (maybe.Option (Slot B)) → C) (n k l : ℕ) (h : maybe.Option (Slot B)) → k < SLOTS
+      → l < SLOTS → l ≢ k → column_after F (slot_at n k) h l ≡ column F l
   column_beside F n k l h low small ne = fun_ext (λ m. ap F (set_else hs (slot_at n k) (slot_at m l) h (λ e. ne (omega (arith, e, low, small)))))
 
   -- a slot that shows the same before and after
-  column_still : {C : Type 0} (F : maybe.Option (maybe.Option (Slot B)) → C) (j l : ℕ) (h : maybe.Option (Slot B)) → j < length hs → F (some h) ≡ F (get_elem? hs j) → column_after F j h l ≡ column F l
+  column_still : {C : Type 0} (F : maybe.Option (maybe.Option (Slot B)) → C) (j l : ℕ) (h : maybe.Option (Slot B)) → j < length hs
+      → F (some h) ≡ F (get_elem? hs j) → column_after F j h l ≡ column F l
   column_still F j l h fits same = fun_ext (λ m. elim (cases_eq (slot_at m l) j) [
     | inl e ↦ ap (λ (z : ℕ). F (get_elem? (set hs j h) z)) e ∙ ap F (set_here hs j h fits) ∙ same ∙ ap (λ (z : ℕ). F (get_elem? hs z)) (sym e)
     | inr ne ↦ ap F (set_else hs j (slot_at m l) h ne)
@@ -63,7 +66,8 @@ wait o = wait_of (val_in o)
 
 module _ {B : Type 0} (hs : List (maybe.Option (Slot B))) (ended : ℕ → Bool) where
   -- a value of the sort is taken out
-  pub without_shown : (sort : Sort) (n : ℕ) → slot_at n (slot_of sort) < length hs → homes_of (set hs (slot_at n (slot_of sort)) none) ended ≡ without sort n (homes_of hs ended)
+  pub without_shown : (sort : Sort) (n : ℕ) → slot_at n (slot_of sort) < length hs
+      → homes_of (set hs (slot_at n (slot_of sort)) none) ended ≡ without sort n (homes_of hs ended)
   without_shown OfTask n fits = λ j. record {
     task = column_put hs task n 0 none fits j;
     queue = column_beside hs queue n 0 2 none (omega arith) (omega arith) (omega arith) j;
@@ -98,7 +102,8 @@ module _ {B : Type 0} (hs : List (maybe.Option (Slot B))) (ended : ℕ → Bool)
   }
 
   -- a value is put home
-  pub home_shown : (n : ℕ) (v : Val) → slot_at n (slot_of (sort_of v)) < length hs → homes_of (set hs (slot_at n (slot_of (sort_of v))) (some (Held v))) ended ≡ with_home n v (homes_of hs ended)
+  pub home_shown : (n : ℕ) (v : Val) → slot_at n (slot_of (sort_of v)) < length hs
+      → homes_of (set hs (slot_at n (slot_of (sort_of v))) (some (Held v))) ended ≡ with_home n v (homes_of hs ended)
   home_shown n (val.Task v) fits = let h : maybe.Option (Slot B) = some (Held (val.Task v)) in λ j. record {
     task = column_put hs task n 0 h fits j;
     queue = column_beside hs queue n 0 2 h (omega arith) (omega arith) (omega arith) j;
@@ -133,7 +138,8 @@ module _ {B : Type 0} (hs : List (maybe.Option (Slot B))) (ended : ℕ → Bool)
   }
 
   -- a body is out, or home
-  pub body_shown : (t : ℕ) (h : maybe.Option (Slot B)) → slot_at t BODY_SLOT < length hs → homes_of (set hs (slot_at t BODY_SLOT) h) ended ≡ record (homes_of hs ended) { body = put (homes_of hs ended).body t (has_body (some h)) }
+  pub body_shown : (t : ℕ) (h : maybe.Option (Slot B)) → slot_at t BODY_SLOT < length hs
+      → homes_of (set hs (slot_at t BODY_SLOT) h) ended ≡ record (homes_of hs ended) { body = put (homes_of hs ended).body t (has_body (some h)) }
   body_shown t h fits = λ j. record {
     task = column_beside hs task t 1 0 h (omega arith) (omega arith) (omega arith) j;
     queue = column_beside hs queue t 1 2 h (omega arith) (omega arith) (omega arith) j;
@@ -144,7 +150,8 @@ module _ {B : Type 0} (hs : List (maybe.Option (Slot B))) (ended : ℕ → Bool)
   }
 
   -- a slot that has no value before and none after
-  pub still_shown : (j : ℕ) (h : maybe.Option (Slot B)) → j < length hs → val_in (some h) ≡ val_in (get_elem? hs j) → has_body (some h) ≡ has_body (get_elem? hs j) → homes_of (set hs j h) ended ≡ homes_of hs ended
+  pub still_shown : (j : ℕ) (h : maybe.Option (Slot B)) → j < length hs → val_in (some h) ≡ val_in (get_elem? hs j)
+      → has_body (some h) ≡ has_body (get_elem? hs j) → homes_of (set hs j h) ended ≡ homes_of hs ended
   still_shown i h fits a b = λ j. record {
     task = column_still hs task i 0 h fits (ap task_of a) j;
     queue = column_still hs queue i 2 h fits (ap queue_of a) j;
@@ -207,7 +214,8 @@ module _ {B : Type 0} where
   body_there (some (some (Body b))) e = (b, refl)
   body_there (some (some (Room r))) e = let no : false ≡ true = e in cc
 
-  pub value_there : (sort : Sort) (hs : List (maybe.Option (Slot B))) (ended : ℕ → Bool) (n : ℕ) (v : Val) → home_of sort (homes_of hs ended) n ≡ Some v → get_elem? hs (slot_at n (slot_of sort)) ≡ some (some (Held v))
+  pub value_there : (sort : Sort) (hs : List (maybe.Option (Slot B))) (ended : ℕ → Bool) (n : ℕ) (v : Val)
+      → home_of sort (homes_of hs ended) n ≡ Some v → get_elem? hs (slot_at n (slot_of sort)) ≡ some (some (Held v))
   value_there OfTask hs ended n v e = val_there (get_elem? hs (slot_at n 0)) v (task_val (val_in (get_elem? hs (slot_at n 0))) v e)
   value_there OfQueue hs ended n v e = val_there (get_elem? hs (slot_at n 2)) v (queue_val (val_in (get_elem? hs (slot_at n 2))) v e)
   value_there OfWorks hs ended n v e = val_there (get_elem? hs (slot_at n 3)) v (works_val (val_in (get_elem? hs (slot_at n 3))) v e)

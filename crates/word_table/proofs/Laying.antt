@@ -42,12 +42,16 @@ cpu_word : (t p m c : ℕ) → put_at (words_with t p) p ACTIVE 1 m c ≡ words_
 cpu_word t p m c = grind (arith, nat_tests)
 
 -- one task more is TASK_NEW
-pub task_stored : (words : List ℕ) (t p : ℕ) → words_of words ≡ words_with t p → 64 * t + 2 < length words → words_of (set words (64 * t + 2) 0x800) ≡ words_with (t + 1) p
-task_stored words t p is fits = words_of-set words t 2 0x800 (omega arith) fits ∙ ap (λ f. put_at f t 2 0x800) is ∙ fun_ext (λ m. fun_ext (task_word t p m))
+pub task_stored : (words : List ℕ) (t p : ℕ) → words_of words ≡ words_with t p → 64 * t + 2 < length words
+    → words_of (set words (64 * t + 2) 0x800) ≡ words_with (t + 1) p
+task_stored words t p is fits = words_of-set words t 2 0x800 (omega arith) fits ∙ ap (λ f. put_at f t 2 0x800) is
+    ∙ fun_ext (λ m. fun_ext (task_word t p m))
 
 -- one processor more is active
-pub cpu_stored : (words : List ℕ) (t p : ℕ) → words_of words ≡ words_with t p → 64 * p + 22 < length words → words_of (set words (64 * p + 22) 1) ≡ words_with t (p + 1)
-cpu_stored words t p is fits = words_of-set words p 22 1 (omega arith) fits ∙ ap (λ f. put_at f p 22 1) is ∙ fun_ext (λ m. fun_ext (cpu_word t p m))
+pub cpu_stored : (words : List ℕ) (t p : ℕ) → words_of words ≡ words_with t p → 64 * p + 22 < length words
+    → words_of (set words (64 * p + 22) 1) ≡ words_with t (p + 1)
+cpu_stored words t p is fits = words_of-set words p 22 1 (omega arith) fits ∙ ap (λ f. put_at f p 22 1) is
+    ∙ fun_ext (λ m. fun_ext (cpu_word t p m))
 
 -- The slots
 
@@ -69,34 +73,49 @@ module _ {A : Type 0} where
 
 module _ {B : Type 0} (shape : Shape) (mask : CpuMask) where
   -- the slots of one number more
-  row_more : (m : ℕ) (bodies : List B) (slots : List (Slot B)) → length slots ≡ SLOTS * m → AreRows shape mask m bodies slots
+  row_more : (m : ℕ) (bodies : List B) (slots : List (Slot B)) → length slots ≡ SLOTS * m
+      → AreRows shape mask m bodies slots
       → AreRows shape mask (m + 1) bodies (slots ++ row shape mask m (body_slot (get_elem? bodies m)))
   row_more m bodies slots long rows n k low small = elim (cases_eq n m) [
-    | inl e ↦ back_at slots (row shape mask m (body_slot (get_elem? bodies m))) (slot_at n k) k (omega (arith, e, long)) ∙ ap (λ (z : ℕ). get_elem? (row shape mask z (body_slot (get_elem? bodies z))) k) (sym e)
-    | inr ne ↦ front_at slots (row shape mask m (body_slot (get_elem? bodies m))) (slot_at n k) (omega (arith, ne, low, small, long)) ∙ rows n k (omega (arith, ne, low)) small
+    | inl e ↦ back_at slots (row shape mask m (body_slot (get_elem? bodies m))) (slot_at n k) k
+        (omega (arith, e, long)) ∙ ap (λ (z : ℕ). get_elem? (row shape mask z (body_slot (get_elem? bodies z))) k)
+        (sym e)
+    | inr ne ↦ front_at slots (row shape mask m (body_slot (get_elem? bodies m))) (slot_at n k)
+        (omega (arith, ne, low, small, long)) ∙ rows n k (omega (arith, ne, low)) small
   ]
 
   -- .. and a body more behind those that were laid
-  body_more : (m : ℕ) (bodies : List B) (body : B) (slots : List (Slot B)) → length bodies ≡ m → AreRows shape mask m bodies slots → AreRows shape mask m (bodies ++ body ∷ []) slots
-  body_more m bodies body slots count rows n k low small = rows n k low small ∙ ap (λ (z : maybe.Option B). get_elem? (row shape mask n (body_slot z)) k) (sym (front_at bodies (body ∷ []) n (omega (arith, count, low))))
+  body_more : (m : ℕ) (bodies : List B) (body : B) (slots : List (Slot B)) → length bodies ≡ m
+      → AreRows shape mask m bodies slots → AreRows shape mask m (bodies ++ body ∷ []) slots
+  body_more m bodies body slots count rows n k low small = rows n k low small
+      ∙ ap (λ (z : maybe.Option B). get_elem? (row shape mask n (body_slot z)) k)
+      (sym (front_at bodies (body ∷ []) n (omega (arith, count, low))))
 
-  pub body_laid : (m : ℕ) (bodies : List B) (body : B) (slots after : List (Slot B)) → length bodies ≡ m → length slots ≡ SLOTS * m → AreRows shape mask m bodies slots → after ≡ slots ++ row shape mask m (Body body)
+  pub body_laid : (m : ℕ) (bodies : List B) (body : B) (slots after : List (Slot B)) → length bodies ≡ m
+      → length slots ≡ SLOTS * m → AreRows shape mask m bodies slots → after ≡ slots ++ row shape mask m (Body body)
       → AreRows shape mask (m + 1) (bodies ++ body ∷ []) after
   body_laid m bodies body slots after count long rows is =
       subst (AreRows shape mask (m + 1) (bodies ++ body ∷ []))
-      (ap (λ (z : maybe.Option B). slots ++ row shape mask m (body_slot z)) (back_at bodies (body ∷ []) m 0 (omega (arith, count))) ∙ sym is)
+      (ap (λ (z : maybe.Option B). slots ++ row shape mask m (body_slot z))
+      (back_at bodies (body ∷ []) m 0 (omega (arith, count))) ∙ sym is)
       (row_more m (bodies ++ body ∷ []) slots long (body_more m bodies body slots count rows))
 
-  pub bare_laid : (m : ℕ) (bodies : List B) (slots after : List (Slot B)) → length bodies ≤ m → length slots ≡ SLOTS * m → AreRows shape mask m bodies slots → after ≡ slots ++ row shape mask m Empty
+  pub bare_laid : (m : ℕ) (bodies : List B) (slots after : List (Slot B)) → length bodies ≤ m
+      → length slots ≡ SLOTS * m → AreRows shape mask m bodies slots → after ≡ slots ++ row shape mask m Empty
       → AreRows shape mask (m + 1) bodies after
   bare_laid m bodies slots after count long rows is =
-      subst (AreRows shape mask (m + 1) bodies) (ap (λ (z : maybe.Option B). slots ++ row shape mask m (body_slot z)) (past bodies m count) ∙ sym is) (row_more m bodies slots long rows)
+      subst (AreRows shape mask (m + 1) bodies) (ap (λ (z : maybe.Option B). slots ++ row shape mask m (body_slot z))
+      (past bodies m count) ∙ sym is) (row_more m bodies slots long rows)
 
   -- all slots, and the room behind them
-  pub all_laid : (bodies : List B) (slots after : List (Slot B)) (room : Vec B Global) → length slots ≡ SLOTS * rows_of shape → AreRows shape mask (rows_of shape) bodies slots
-      → room.items ≡ [] → shape.tasks ≤ vec_capacity room → after ≡ slots ++ Room room ∷ [] → IsLaid shape mask bodies after
+  pub all_laid : (bodies : List B) (slots after : List (Slot B)) (room : Vec B Global)
+      → length slots ≡ SLOTS * rows_of shape → AreRows shape mask (rows_of shape) bodies slots
+      → room.items ≡ [] → shape.tasks ≤ vec_capacity room → after ≡ slots ++ Room room ∷ []
+      → IsLaid shape mask bodies after
   all_laid bodies slots after room long rows empty enough is = subst (IsLaid shape mask bodies) (sym is) record {
     long = length-append slots (Room room ∷ []) ∙ ap (λ (z : ℕ). z + 1) long;
-    rows = λ n k low small. front_at slots (Room room ∷ []) (slot_at n k) (omega (arith, low, small, long)) ∙ rows n k low small;
-    room = subst (λ (z : maybe.Option (Slot B)). IsRoomed shape.tasks (some z)) (sym (back_at slots (Room room ∷ []) (SLOTS * rows_of shape) 0 (omega (arith, long)))) (empty, enough);
+    rows = λ n k low small. front_at slots (Room room ∷ []) (slot_at n k) (omega (arith, low, small, long))
+        ∙ rows n k low small;
+    room = subst (λ (z : maybe.Option (Slot B)). IsRoomed shape.tasks (some z))
+        (sym (back_at slots (Room room ∷ []) (SLOTS * rows_of shape) 0 (omega (arith, long)))) (empty, enough);
   }

@@ -1,5 +1,5 @@
 -- Each kind of step keeps the rule, and tells its seat what it did.
-use Rattle.std.proofs.Common.{◌≡◌, ◌≢◌, ℕ, suc, ◌+◌, ◌*◌, ◌<◌, ◌≤◌, Bool, true, false, eqb, set, get_or, length, lt-ltb, refl, sym, ap, ◌∙◌, subst, List, [], ◌∷◌, ⊎_elim, arith}
+use Rattle.std.proofs.Common.{◌≡◌, ◌≢◌, ℕ, suc, ◌*◌, ◌<◌, ◌≤◌, Bool, true, false, eqb, set, get_or, length, lt-ltb, refl, sym, ap, ◌∙◌, subst, List, [], ◌∷◌, ⊎_elim, arith}
 use Rattle.std.specs.Prelude.{Some, slice_index_or}
 use mathlib.Core.Option.{none, some, some-injective}
 use mathlib.Core.Option as maybe
@@ -8,7 +8,7 @@ use lib.Seq.{set-get_or}
 use prog.Atomic.{either}
 use Rattle.atomic_table.specs.Table.{step, Act, keeps, takes, gives, Valid, carried_after, stepped, Allows}
 use Rattle.atomic_table.proofs.Lists.{set_again, exchanged}
-use Rattle.core_data.specs.Table.{put, put_at}
+use Rattle.core_data.specs.Table.{put}
 use Rattle.core_stores.proofs.Columns.{put_there, put_other, put_id}
 use Rattle.handoff_data.specs.declared.shape.Shape.{Shape}
 use Rattle.word_rule.proofs.BodyLaws.{take_body_law, return_body_law}
@@ -24,8 +24,9 @@ use Rattle.word_steps.specs.Words.{STRIDE, BODY, words_of}
 use Rattle.word_steps.specs.declared.val.Val.{Val}
 use Rattle.word_steps.specs.declared.val.Val.TheVariants as val
 use Rattle.word_steps.proofs.FlatWords.{words_of-set}
+use Rattle.word_table.specs.Kinds.{Note, May, LeavesSlots, KeepsRule}
 use Rattle.word_table.specs.Layout.{SLOTS, BODY_SLOT, rows_of, slot_of, word_at, slot_at}
-use Rattle.word_table.specs.Outs.{IsQuiet, has_out}
+use Rattle.word_table.specs.Outs.{has_out}
 use Rattle.word_table.specs.Parts.{Known}
 use Rattle.word_table.specs.Plays.{one, part, sat, holding, push, lift, lay, Sat, became, stored, tried, took, lain, lifted, gave, left, came}
 use Rattle.word_table.specs.Ruled.{IsBody, val_in, has_body, homes_of, lastings}
@@ -34,6 +35,7 @@ use Rattle.word_table.specs.declared.slot.Slot.{Slot}
 use Rattle.word_table.specs.declared.slot.Slot.TheVariants.{Empty, Held, Body}
 use Rattle.word_table.specs.declared.view.View.{View}
 use Rattle.word_table.proofs.Acts.{St, R, seats, mine, steady, ups, downs}
+use Rattle.word_table.proofs.Exclusives.{tells_more, tells_same, given_told}
 use Rattle.word_table.proofs.Decoded.{without_shown, home_shown, body_shown, still_shown, value_there, body_there}
 use Rattle.word_table.proofs.Rows.{count_rows, tasks_rows}
 use Rattle.word_table.proofs.Slotted.{sort_is, held_is, low_slot, quiet_out, took_out, took_else, gave_back, gave_else, left_out, left_else, came_back, came_else}
@@ -76,7 +78,8 @@ module _ {B : Type 0} (lasting : B → List ℕ) (ended_of : B → Bool) (key : 
   Goes s i id m told x = (w : View) × (a : Act (Slot B)) × Valid s.homes m.1 a × R lasting ended_of key (stepped s i x id m.1 w a) × told (get_or s.words i 0) (w, carried_after m.1 a)
 
   -- nothing changes
-  stands : (s : St lasting ended_of key) (r : R lasting ended_of key s) (i id : ℕ) (m : Sat B) (told : ℕ → Sat B → Type 0) → get_elem? s.views id ≡ some m.0 → told (get_or s.words i 0) m → Goes s i id m told (get_or s.words i 0)
+  stands : (s : St lasting ended_of key) (r : R lasting ended_of key s) (i id : ℕ) (m : Sat B) (told : ℕ → Sat B → Type 0)
+      → get_elem? s.views id ≡ some m.0 → told (get_or s.words i 0) m → Goes s i id m told (get_or s.words i 0)
   stands s r i id m told at tells = (
     m.0,
     keeps,
@@ -85,21 +88,23 @@ module _ {B : Type 0} (lasting : B → List ℕ) (ended_of : B → Bool) (key : 
     tells,
   )
 
-  in_words : (s : St lasting ended_of key) (r : R lasting ended_of key s) (n c : ℕ) → n < rows_of key.shape → c < STRIDE → word_at n c < length s.words
+  in_words : (s : St lasting ended_of key) (r : R lasting ended_of key s) (n c : ℕ) → n < rows_of key.shape → c < STRIDE
+      → word_at n c < length s.words
   in_words s r n c lt low = let w = r.wide in omega (arith, w, lt, low)
 
-  in_homes : (s : St lasting ended_of key) (r : R lasting ended_of key s) (n c : ℕ) → n < rows_of key.shape → c < SLOTS → slot_at n c < length s.homes
+  in_homes : (s : St lasting ended_of key) (r : R lasting ended_of key s) (n c : ℕ) → n < rows_of key.shape → c < SLOTS
+      → slot_at n c < length s.homes
   in_homes s r n c lt low = let w = r.deep in omega (arith, w, lt, low)
 
   before_room : (n c : ℕ) → n < rows_of key.shape → c < SLOTS → slot_at n c < SLOTS * rows_of key.shape
   before_room n c lt low = omega (arith, lt, low)
 
   -- A kind of step on one word, by what a `Kind` has
-  module _ (col : ℕ) (bound : Shape → ℕ) (note : ℕ → List Rec → ℕ → ℕ → ℕ → Rec) (may : Shape → ℕ → List Rec → ℕ → ℕ → ℕ → Type 0) (told : Shape → ℕ → Type 0) (low : col < STRIDE) (rows : (shape : Shape) → bound shape ≤ rows_of shape)
-      (quiet : (s : ℕ) (trace : List Rec) (n y x : ℕ) → IsQuiet (note s trace n y x) trace)
-      (keep : (shape : Shape) (words : ℕ → ℕ → ℕ) (homes : Homes) (traces : ℕ → List Rec) (s n y : ℕ) → Kept shape words homes traces → s < shape.cpus + shape.agents → n < bound shape → may shape s (traces s) n (words n col) y
-      → Kept shape (put_at words n col y) homes (put traces s (note s (traces s) n y (words n col) ∷ traces s)) × told shape (words n col)) where
-    pub by_kind : (s : St lasting ended_of key) (r : R lasting ended_of key s) (id k n y : ℕ) (known : Known) (tr : List Rec) → n < bound key.shape → get_elem? s.views id ≡ some (one known (part k tr 0))
+  module _ (col : ℕ) (bound : Shape → ℕ) (note : Note) (may : May) (told : Shape → ℕ → Type 0) (low : col < STRIDE) (rows : (shape : Shape) → bound shape ≤ rows_of shape)
+      (quiet : LeavesSlots note)
+      (keep : KeepsRule col bound note may told) where
+    pub by_kind : (s : St lasting ended_of key) (r : R lasting ended_of key s) (id k n y : ℕ) (known : Known) (tr : List Rec)
+        → n < bound key.shape → get_elem? s.views id ≡ some (one known (part k tr 0))
         → may key.shape k tr n (get_or s.words (word_at n col) 0) y
         → R lasting ended_of key record {
           words = set s.words (word_at n col) y;
@@ -113,29 +118,34 @@ module _ {B : Type 0} (lasting : B → List ℕ) (ended_of : B → Bool) (key : 
         let homes = homes_of s.homes r.ended in
         let kept = keep key.shape (words_of s.words) homes r.trace k n y r.inv m.near lt (subst (λ (z : ℕ × List Rec). may key.shape k z.1 n z.0 y) (λ j. (sym is j, m.trace_is j)) ok) in
         let shown = words_of-set s.words n col y low (in_words s r n col row low) in (
-          steady lasting ended_of key s r id k known tr (note k tr n y x ∷ tr) (word_at n col) y at (quiet_out (note k tr n y x) tr (quiet k tr n y x))
+          steady lasting ended_of key s r id k known tr (note k tr n y x ∷ tr) (word_at n col) y at (quiet_out (note k tr n y x) tr (quiet k tr n y x)) (tells_more (note k tr n y x) tr)
               (subst (λ (z : (ℕ → ℕ → ℕ) × List Rec × ℕ). Kept key.shape z.0 homes (put r.trace k (note k z.1 n y z.2 ∷ z.1))) (λ j. (sym shown j, sym m.trace_is j, is j)) kept.0),
           subst (λ (z : Known × ℕ). told z.0.shape z.1) (λ j. (sym m.known_is j, is j)) kept.1,
         )
 
-    pub may_become : (f : ℕ → ℕ) (slots a id k n : ℕ) (known : Known) (tr : List Rec) → n < bound key.shape → ((x : ℕ) → may key.shape k tr n x (f x))
+    pub may_become : (f : ℕ → ℕ) (slots a id k n : ℕ) (known : Known) (tr : List Rec) → n < bound key.shape
+        → ((x : ℕ) → may key.shape k tr n x (f x))
         → Allows (R lasting ended_of key) slots id (sat known k tr) (word_at n col) f (became col note told f (step slots (word_at n col) a 0 none) (sat known k tr))
-    may_become f slots a id k n known tr lt ok s r deep at _ = let x : ℕ = get_or s.words (word_at n col) 0 in let z = by_kind s r id k n (f x) known tr lt at (ok x) in
+    may_become f slots a id k n known tr lt ok s r deep at _ = let x : ℕ = get_or s.words (word_at n col) 0 in
+        let z = by_kind s r id k n (f x) known tr lt at (ok x) in
         (one known (part k (note k tr n (f x) x ∷ tr) 0), keeps, tt, z.0, λ u same. let e : n ≡ u = omega (arith, same) in (z.1, ap (λ (w : ℕ). push (note k tr w (f x) x) (sat known k tr)) e))
 
-    pub may_store : (slots id k n y : ℕ) (known : Known) (tr : List Rec) → n < bound key.shape → ((x : ℕ) → may key.shape k tr n x y) → ((x : ℕ) → note k tr n y x ≡ note k tr n y y)
+    pub may_store : (slots id k n y : ℕ) (known : Known) (tr : List Rec) → n < bound key.shape → ((x : ℕ) → may key.shape k tr n x y)
+        → ((x : ℕ) → note k tr n y x ≡ note k tr n y y)
         → Allows (R lasting ended_of key) slots id (sat known k tr) (word_at n col) (λ _. y) (λ _. stored col note told (step slots (word_at n col) y 0 none) (sat known k tr) y)
-    may_store slots id k n y known tr lt ok plain s r deep at _ = let x : ℕ = get_or s.words (word_at n col) 0 in let z = by_kind s r id k n y known tr lt at (ok x) in (
-      one known (part k (note k tr n y x ∷ tr) 0),
-      keeps,
-      tt,
-      z.0,
-      λ u same. let e : n ≡ u = omega (arith, same) in ap (λ (w : Rec). push w (sat known k tr)) (plain x) ∙ ap (λ (w : ℕ). push (note k tr w y y) (sat known k tr)) e,
-    )
+    may_store slots id k n y known tr lt ok plain s r deep at _ = let x : ℕ = get_or s.words (word_at n col) 0 in
+        let z = by_kind s r id k n y known tr lt at (ok x) in (
+          one known (part k (note k tr n y x ∷ tr) 0),
+          keeps,
+          tt,
+          z.0,
+          λ u same. let e : n ≡ u = omega (arith, same) in ap (λ (w : Rec). push w (sat known k tr)) (plain x) ∙ ap (λ (w : ℕ). push (note k tr w y y) (sat known k tr)) e,
+        )
 
     pub may_try : (slots id k n old new : ℕ) (known : Known) (tr : List Rec) → n < bound key.shape → may key.shape k tr n old new
         → Allows (R lasting ended_of key) slots id (sat known k tr) (word_at n col) (λ x. either (eqb x old) new x) (tried col note told (step slots (word_at n col) old new none) (sat known k tr))
-    may_try slots id k n old new known tr lt ok s r deep at _ = let x : ℕ = get_or s.words (word_at n col) 0 in let says = tried col note told (step slots (word_at n col) old new none) (sat known k tr) in
+    may_try slots id k n old new known tr lt ok s r deep at _ = let x : ℕ = get_or s.words (word_at n col) 0 in
+        let says = tried col note told (step slots (word_at n col) old new none) (sat known k tr) in
         exchanged x old new (Goes s (word_at n col) id (sat known k tr) says)
         (λ hit. let z = by_kind s r id k n new known tr lt at (subst (λ (w : ℕ). may key.shape k tr n w new) (sym hit) ok) in (
           one known (part k (note k tr n new x ∷ tr) 0),
@@ -149,41 +159,49 @@ module _ {B : Type 0} (lasting : B → List ℕ) (ended_of : B → Bool) (key : 
   -- Slots that change hands without a record
 
   -- a slot that is empty, at home or in a hand, leaves the rule as it is
-  still_kept : (s : St lasting ended_of key) (r : R lasting ended_of key s) (k i j : ℕ) (h : maybe.Option (Slot B)) (tr : List Rec) → tr ≡ r.trace k → j < length s.homes → val_in (some h) ≡ val_in (get_elem? s.homes j) → has_body (some h) ≡ has_body (get_elem? s.homes j)
+  still_kept : (s : St lasting ended_of key) (r : R lasting ended_of key s) (k i j : ℕ) (h : maybe.Option (Slot B)) (tr : List Rec)
+      → tr ≡ r.trace k → j < length s.homes → val_in (some h) ≡ val_in (get_elem? s.homes j)
+      → has_body (some h) ≡ has_body (get_elem? s.homes j)
       → Kept key.shape (words_of (set s.words i (get_or s.words i 0))) (homes_of (set s.homes j h) r.ended) (put r.trace k tr)
   still_kept s r k i j h tr is fits a b =
       subst (λ (z : List ℕ × Homes × (ℕ → List Rec)). Kept key.shape (words_of z.0) z.1 z.2) (λ l. (sym (set-get_or s.words i 0) l, sym (still_shown s.homes r.ended j h fits a b) l, sym (put_id r.trace k tr is) l)) r.inv
 
   -- an empty slot is put down
   pub may_lay : (slots id k i n c : ℕ) (known : Known) (tr : List Rec) → n < rows_of key.shape → c < SLOTS
-      → Allows (R lasting ended_of key) slots id (holding known k tr (slot_at n c) Empty) i (λ x. x) (lain (step slots i 0 0 none) (holding known k tr (slot_at n c) Empty))
-  may_lay slots id k i n c known tr lt low s r deep at _ = let j : ℕ = slot_at n c in let m = mine lasting ended_of key s r id k known tr (suc j) at in let room : j < length s.homes = in_homes s r n c lt low in
+      → Allows (R lasting ended_of key) slots id (holding known k tr (slot_at n c) Empty) i (λ x. x) (lain (step slots i 0 0 none)
+      (holding known k tr (slot_at n c) Empty))
+  may_lay slots id k i n c known tr lt low s r deep at _ = let j : ℕ = slot_at n c in
+      let m = mine lasting ended_of key s r id k known tr (suc j) at in let room : j < length s.homes = in_homes s r n c lt low in
       let was = r.slots j k m.near (r.hands j k m.near (sym m.hand_is)) in
       let gone : get_elem? s.homes j ≡ some none = ⊎_elim (λ z. z.1) (λ z. absurd (z.0 (sym m.hand_is))) was.lies in (
         one known (part k tr 0),
         gives,
         tt,
         downs lasting ended_of key s r id k known tr tr j i (get_or s.words i 0) Empty r.ended at room (before_room n c lt low) (λ o ne. refl) (λ out. refl) (λ u b e d. let no : Empty ≡ Body b = d in cc) (λ u ne. refl)
+            (tells_same tr) (λ l u es e d has. let no : Empty ≡ Held (val.Wait es) = d in cc)
             (still_kept s r k i j (some Empty) tr m.trace_is room (sym (ap val_in gone)) (sym (ap has_body gone))),
         refl,
       )
 
   -- an empty slot is taken up
-  pub may_lift : (slots id k n col c : ℕ) (known : Known) (tr : List Rec) → n < rows_of key.shape → c < SLOTS → has_out (slot_at n c) tr ≡ true
+  pub may_lift : (slots id k n col c : ℕ) (known : Known) (tr : List Rec) → n < rows_of key.shape → c < SLOTS
+      → has_out (slot_at n c) tr ≡ true
       → Allows (R lasting ended_of key) slots id (sat known k tr) (word_at n col) (λ x. x) (lifted col c (step slots (word_at n col) 0 0 none) (sat known k tr))
-  may_lift slots id k n col c known tr lt low out s r deep at _ = let m = mine lasting ended_of key s r id k known tr 0 at in let j : ℕ = slot_at n c in let room : j < length s.homes = in_homes s r n c lt low in
+  may_lift slots id k n col c known tr lt low out s r deep at _ = let m = mine lasting ended_of key s r id k known tr 0 at in
+      let j : ℕ = slot_at n c in let room : j < length s.homes = in_homes s r n c lt low in
       let mine_out : has_out j (r.trace k) ≡ true = ap (has_out j) (sym m.trace_is) ∙ out in let was = r.slots j k m.near mine_out in
       let lies : get_elem? s.homes j ≡ some (some Empty) = ⊎_elim (λ z. let no : 0 ≡ suc j = m.hand_is ∙ z.0 in absurd (omega (arith, no))) (λ z. z.1) was.lies in (
         one known (part k tr (suc j)),
         takes j Empty,
         lies,
-        ups lasting ended_of key s r id k known tr tr j (word_at n col) (get_or s.words (word_at n col) 0) at room (before_room n c lt low) (λ o ne. refl) out (λ q near other theirs. other (sym (r.slots j q near theirs).kept ∙ was.kept))
+        ups lasting ended_of key s r id k known tr tr j (word_at n col) (get_or s.words (word_at n col) 0) at room (before_room n c lt low) (λ o ne. refl) out (λ q near other theirs. other (sym (r.slots j q near theirs).kept ∙ was.kept)) (tells_same tr)
             (still_kept s r k (word_at n col) j none tr m.trace_is room (sym (ap val_in lies)) (sym (ap has_body lies))),
         λ u same. let e : n ≡ u = omega (arith, same) in λ h. lift (slot_at (e h) c) Empty (sat known k tr),
       )
 
   -- a slot whose value lies there is out with nobody
-  at_home : (s : St lasting ended_of key) (r : R lasting ended_of key s) (j q : ℕ) (y : Slot B) → get_elem? s.homes j ≡ some (some y) → (Empty ≢ y) → q < seats lasting ended_of key → has_out j (r.trace q) ≡ true → ⊥
+  at_home : (s : St lasting ended_of key) (r : R lasting ended_of key s) (j q : ℕ) (y : Slot B) → get_elem? s.homes j ≡ some (some y)
+      → (Empty ≢ y) → q < seats lasting ended_of key → has_out j (r.trace q) ≡ true → ⊥
   at_home s r j q y lies full near out = ⊎_elim (λ z. none_lies (sym z.1 ∙ lies)) (λ z. full (some-injective Empty y (some-injective (some Empty) (some y) (sym z.1 ∙ lies)))) (r.slots j q near out).lies
     where
       none_lies : ◌≡◌ {A = maybe.Option (maybe.Option (Slot B))} (some none) (some (some y)) → ⊥
@@ -192,21 +210,25 @@ module _ {B : Type 0} (lasting : B → List ℕ) (ended_of : B → Bool) (key : 
   -- The locks
 
   pub may_take : (slots id k : ℕ) (sort : Sort) (n : ℕ) (known : Known) (tr : List Rec) → n < count_of sort key.shape
-      → Allows (R lasting ended_of key) slots id (sat known k tr) (word_at n (lock_of sort)) (λ x. either (eqb x 0) (suc k) x) (took sort (step slots (word_at n (lock_of sort)) 0 (suc k) none) (sat known k tr))
-  may_take slots id k sort n known tr lt s r deep at _ = let m = mine lasting ended_of key s r id k known tr 0 at in let i : ℕ = word_at n (lock_of sort) in let x : ℕ = get_or s.words i 0 in let j : ℕ = slot_at n (slot_of sort) in
+      → Allows (R lasting ended_of key) slots id (sat known k tr) (word_at n (lock_of sort)) (λ x. either (eqb x 0)
+      (suc k) x) (took sort (step slots (word_at n (lock_of sort)) 0 (suc k) none) (sat known k tr))
+  may_take slots id k sort n known tr lt s r deep at _ = let m = mine lasting ended_of key s r id k known tr 0 at in
+      let i : ℕ = word_at n (lock_of sort) in let x : ℕ = get_or s.words i 0 in let j : ℕ = slot_at n (slot_of sort) in
       let homes = homes_of s.homes r.ended in
-      let row : n < rows_of key.shape = (let h = count_rows sort key.shape in omega (arith, lt, h)) in let room : j < length s.homes = in_homes s r n (slot_of sort) row (low_slot sort) in
+      let row : n < rows_of key.shape = (let h = count_rows sort key.shape in omega (arith, lt, h)) in
+      let room : j < length s.homes = in_homes s r n (slot_of sort) row (low_slot sort) in
       let says = took sort (step slots i 0 (suc k) none) (sat known k tr) in
       exchanged x 0 (suc k) (Goes s i id (sat known k tr) says)
       (λ hit. let free : words_of s.words n (lock_of sort) ≡ 0 = word_seen s.words n (lock_of sort) (lock_low sort) ∙ hit in
-      let there = home_there sort key.shape (words_of s.words) homes r.trace n r.inv lt free in let v : Val = there.0 in let lies = value_there sort s.homes r.ended n v there.1 in
+      let there = home_there sort key.shape (words_of s.words) homes r.trace n r.inv lt free in let v : Val = there.0 in
+      let lies = value_there sort s.homes r.ended n v there.1 in
       let tells : (u : ℕ) → n ≡ u → TakeTold known.shape k tr sort u v =
       λ u e. subst (λ (z : Known × List Rec × ℕ). TakeTold z.0.shape k z.1 sort z.2 v) (λ h. (sym m.known_is h, sym m.trace_is h, e h)) (take_told key.shape (words_of s.words) homes r.trace k r.inv sort n v there.1) in (
         one known (part k (Took n v ∷ tr) (suc j)),
         takes j (Held v),
         lies,
         ups lasting ended_of key s r id k known tr (Took n v ∷ tr) j i (suc k) at room (before_room n (slot_of sort) row (low_slot sort)) (took_else sort n v there.2 tr) (took_out sort n v there.2 tr)
-            (λ q near other out. at_home s r j q (Held v) lies (λ e. let no : Empty ≡ Held v = e in cc) near out)
+            (λ q near other out. at_home s r j q (Held v) lies (λ e. let no : Empty ≡ Held v = e in cc) near out) (tells_more (Took n v) tr)
             (subst (λ (z : (ℕ → ℕ → ℕ) × Homes × List Rec). Kept key.shape z.0 z.1 (put r.trace k (Took n v ∷ z.2)))
             (λ h. (sym (words_of-set s.words n (lock_of sort) (suc k) (lock_low sort) (in_words s r n (lock_of sort) row (lock_low sort))) h, sym (without_shown s.homes r.ended sort n room) h, sym m.trace_is h))
             (take_law sort key.shape (words_of s.words) homes r.trace k n v r.inv m.near lt free there.1)),
@@ -214,10 +236,14 @@ module _ {B : Type 0} (lasting : B → List ℕ) (ended_of : B → Bool) (key : 
       ))
       (λ miss. stands s r i id (sat known k tr) says at (λ u same. ((λ hit. absurd (miss hit)), λ _. refl)))
 
-  pub may_give : (slots id k : ℕ) (sort : Sort) (n : ℕ) (known : Known) (tr : List Rec) (v w : Val) → n < count_of sort key.shape → held_of sort tr n ≡ Some v → MayGive k tr key.shape sort n w
-      → Allows (R lasting ended_of key) slots id (holding known k tr (slot_at n (slot_of sort)) (Held w)) (word_at n (lock_of sort)) (λ _. 0) (λ _. gave sort (step slots (word_at n (lock_of sort)) 0 0 none) (holding known k tr (slot_at n (slot_of sort)) (Held w)) 0)
-  may_give slots id k sort n known tr v w lt has may s r deep at _ = let j : ℕ = slot_at n (slot_of sort) in let i : ℕ = word_at n (lock_of sort) in let m = mine lasting ended_of key s r id k known tr (suc j) at in
-      let homes = homes_of s.homes r.ended in let row : n < rows_of key.shape = (let h = count_rows sort key.shape in omega (arith, lt, h)) in let room : j < length s.homes = in_homes s r n (slot_of sort) row (low_slot sort) in
+  pub may_give : (slots id k : ℕ) (sort : Sort) (n : ℕ) (known : Known) (tr : List Rec) (v w : Val) → n < count_of sort key.shape
+      → held_of sort tr n ≡ Some v → MayGive k tr key.shape sort n w
+      → Allows (R lasting ended_of key) slots id (holding known k tr (slot_at n (slot_of sort))
+      (Held w)) (word_at n (lock_of sort)) (λ _. 0) (λ _. gave sort (step slots (word_at n (lock_of sort)) 0 0 none) (holding known k tr (slot_at n (slot_of sort)) (Held w)) 0)
+  may_give slots id k sort n known tr v w lt has may s r deep at _ = let j : ℕ = slot_at n (slot_of sort) in
+      let i : ℕ = word_at n (lock_of sort) in let m = mine lasting ended_of key s r id k known tr (suc j) at in
+      let homes = homes_of s.homes r.ended in let row : n < rows_of key.shape = (let h = count_rows sort key.shape in omega (arith, lt, h)) in
+      let room : j < length s.homes = in_homes s r n (slot_of sort) row (low_slot sort) in
       let is = sort_is sort w (given_is k tr key.shape sort n w may) in let of = held_is sort tr n v has in
       let shown : homes_of (set s.homes j (some (Held w))) r.ended ≡ with_home n w homes =
       ap (λ (z : Sort). homes_of (set s.homes (slot_at n (slot_of z)) (some (Held w))) r.ended) is ∙ home_shown s.homes r.ended n w (subst (λ (z : Sort). slot_at n (slot_of z) < length s.homes) is room) in (
@@ -225,13 +251,15 @@ module _ {B : Type 0} (lasting : B → List ℕ) (ended_of : B → Bool) (key : 
         gives,
         tt,
         downs lasting ended_of key s r id k known tr (Gave n v w ∷ tr) j i 0 (Held w) r.ended at room (before_room n (slot_of sort) row (low_slot sort)) (gave_else sort n v of w tr)
-            (λ out. let no : false ≡ true = sym (gave_back sort n v of w tr) ∙ out in cc) (λ u b e d. let no : Held w ≡ Body b = d in cc) (λ u ne. refl)
+            (λ out. let no : false ≡ true = sym (gave_back sort n v of w tr) ∙ out in cc) (λ u b e d. let no : Held w ≡ Body b = d in cc) (λ u ne. refl) (tells_more (Gave n v w) tr)
+            (λ l u es e d has. let x : Slot B = Held w in let y : Slot B = Held (val.Wait es) in let f : x ≡ y = d in let w' : w ≡ val.Wait es = cc in given_told n v w tr sort l u es e w' has)
             (subst (λ (z : (ℕ → ℕ → ℕ) × Homes × List Rec). Kept key.shape z.0 z.1 (put r.trace k (Gave n v w ∷ z.2)))
             (λ h. (sym (words_of-set s.words n (lock_of sort) 0 (lock_low sort) (in_words s r n (lock_of sort) row (lock_low sort))) h, sym shown h, sym m.trace_is h))
             (give_law sort key.shape (words_of s.words) homes r.trace k n v w r.inv m.near lt (ap (λ (z : List Rec). held_of sort z n) (sym m.trace_is) ∙ has) (subst (λ (z : List Rec). MayGive k z key.shape sort n w) m.trace_is may))),
         λ u v' w' same has' holds. let e : n ≡ u = omega (arith, same) in
             let a : Some v ≡ Some v' = sym has ∙ (ap (λ (z : ℕ). held_of sort tr z) e ∙ has') in let b : v ≡ v' = cc in
-            let x : Slot B = Held w in let y : Slot B = Held w' in let c : x ≡ y = ap (λ (z : List (ℕ × Slot B)). slot_in z) holds in let d : w ≡ w' = cc in
+            let x : Slot B = Held w in let y : Slot B = Held w' in let c : x ≡ y = ap (λ (z : List (ℕ × Slot B)). slot_in z) holds in
+            let d : w ≡ w' = cc in
             λ h. lay (push (Gave (e h) (b h) (d h)) (holding known k tr j (Held w))),
       )
 
@@ -239,15 +267,17 @@ module _ {B : Type 0} (lasting : B → List ℕ) (ended_of : B → Bool) (key : 
 
   pub may_leave : (slots id k t : ℕ) (known : Known) (tr : List Rec) → t < key.shape.tasks → MayTakeBody k tr t
       → Allows (R lasting ended_of key) slots id (sat known k tr) (word_at t BODY) (λ x. x) (left lasting ended_of (step slots (word_at t BODY) 0 0 none) (sat known k tr))
-  may_leave slots id k t known tr lt may s r deep at _ = let m = mine lasting ended_of key s r id k known tr 0 at in let i : ℕ = word_at t BODY in let j : ℕ = slot_at t BODY_SLOT in
-      let homes = homes_of s.homes r.ended in let row : t < rows_of key.shape = (let h = tasks_rows key.shape in omega (arith, lt, h)) in let room : j < length s.homes = in_homes s r t BODY_SLOT row (omega arith) in
+  may_leave slots id k t known tr lt may s r deep at _ = let m = mine lasting ended_of key s r id k known tr 0 at in
+      let i : ℕ = word_at t BODY in let j : ℕ = slot_at t BODY_SLOT in
+      let homes = homes_of s.homes r.ended in let row : t < rows_of key.shape = (let h = tasks_rows key.shape in omega (arith, lt, h)) in
+      let room : j < length s.homes = in_homes s r t BODY_SLOT row (omega arith) in
       let law = take_body_law key.shape (words_of s.words) homes r.trace k t r.inv m.near lt (subst (λ (z : List Rec). MayTakeBody k z t) m.trace_is may) in
       let there = body_there (get_elem? s.homes j) law.0 in let b : B = there.0 in let is = r.bodies t b there.1 in (
         one known (part k (OutBody t (ended_of b) ∷ tr) (suc j)),
         takes j (Body b),
         there.1,
         ups lasting ended_of key s r id k known tr (OutBody t (ended_of b) ∷ tr) j i (get_or s.words i 0) at room (before_room t BODY_SLOT row (omega arith)) (left_else t (ended_of b) tr may.home) (left_out t (ended_of b) tr)
-            (λ q near other out. at_home s r j q (Body b) there.1 (λ e. let no : Empty ≡ Body b = e in cc) near out)
+            (λ q near other out. at_home s r j q (Body b) there.1 (λ e. let no : Empty ≡ Body b = e in cc) near out) (tells_more (OutBody t (ended_of b)) tr)
             (subst (λ (z : List ℕ × Homes × List Rec × Bool). Kept key.shape (words_of z.0) z.1 (put r.trace k (OutBody t z.3 ∷ z.2)))
             (λ h. (sym (set-get_or s.words i 0) h, sym (body_shown s.homes r.ended t none room) h, sym m.trace_is h, sym is.ends h)) law.1),
         λ u same. let e : t ≡ u = omega (arith, same) in (
@@ -257,10 +287,15 @@ module _ {B : Type 0} (lasting : B → List ℕ) (ended_of : B → Bool) (key : 
         ),
       )
 
-  pub may_come : (slots id k t : ℕ) (known : Known) (tr : List Rec) (b : B) → t < key.shape.tasks → MayReturnBody k tr t (ended_of b) → lasting b ≡ slice_index_or (lastings lasting key) t []
-      → Allows (R lasting ended_of key) slots id (holding known k tr (slot_at t BODY_SLOT) (Body b)) (word_at t BODY) (λ x. x) (came ended_of (step slots (word_at t BODY) 0 0 none) (holding known k tr (slot_at t BODY_SLOT) (Body b)))
-  may_come slots id k t known tr b lt may lasts s r deep at _ = let i : ℕ = word_at t BODY in let j : ℕ = slot_at t BODY_SLOT in let m = mine lasting ended_of key s r id k known tr (suc j) at in
-      let homes = homes_of s.homes r.ended in let row : t < rows_of key.shape = (let h = tasks_rows key.shape in omega (arith, lt, h)) in let room : j < length s.homes = in_homes s r t BODY_SLOT row (omega arith) in
+  pub may_come : (slots id k t : ℕ) (known : Known) (tr : List Rec) (b : B) → t < key.shape.tasks → MayReturnBody k tr t (ended_of b)
+      → lasting b ≡ slice_index_or (lastings lasting key) t []
+      → Allows (R lasting ended_of key) slots id (holding known k tr (slot_at t BODY_SLOT)
+      (Body b)) (word_at t BODY) (λ x. x) (came ended_of (step slots (word_at t BODY) 0 0 none) (holding known k tr (slot_at t BODY_SLOT)
+      (Body b)))
+  may_come slots id k t known tr b lt may lasts s r deep at _ = let i : ℕ = word_at t BODY in let j : ℕ = slot_at t BODY_SLOT in
+      let m = mine lasting ended_of key s r id k known tr (suc j) at in
+      let homes = homes_of s.homes r.ended in let row : t < rows_of key.shape = (let h = tasks_rows key.shape in omega (arith, lt, h)) in
+      let room : j < length s.homes = in_homes s r t BODY_SLOT row (omega arith) in
       let law = return_body_law key.shape (words_of s.words) homes r.trace k t (ended_of b) r.inv m.near lt (subst (λ (z : List Rec). MayReturnBody k z t (ended_of b)) m.trace_is may) in
       let ended' : ℕ → Bool = put r.ended t (ended_of b) in (
         one known (part k (HomeBody t (ended_of b) ∷ tr) 0),
@@ -270,8 +305,10 @@ module _ {B : Type 0} (lasting : B → List ℕ) (ended_of : B → Bool) (key : 
             (λ out. let no : false ≡ true = sym (came_back t (ended_of b) tr) ∙ out in cc)
             (λ u c e d. let e' : t ≡ u = omega (arith, e) in let d' : b ≡ c = cc in subst (λ (z : ℕ × B). IsBody lasting key ended_of ended' z.0 z.1) (λ h. (e' h, d' h)) record { lasts = lasts; ends = sym (put_there r.ended t (ended_of b) t refl) })
             (λ u ne. sym (put_other r.ended t (ended_of b) u (λ e. ne (omega (arith, e)))))
+            (tells_more (HomeBody t (ended_of b)) tr) (λ l u es e d has. let no : Body b ≡ Held (val.Wait es) = d in cc)
             (subst (λ (z : List ℕ × Homes × List Rec). Kept key.shape (words_of z.0) z.1 (put r.trace k (HomeBody t (ended_of b) ∷ z.2)))
             (λ h. (sym (set-get_or s.words i 0) h, sym (body_shown s.homes ended' t (some (Body b)) room) h, sym m.trace_is h)) law.1),
-        λ u c same holds. let e : t ≡ u = omega (arith, same) in let d : Body b ≡ Body c = ap (λ (z : List (ℕ × Slot B)). slot_in z) holds in let d' : b ≡ c = cc in
+        λ u c same holds. let e : t ≡ u = omega (arith, same) in let d : Body b ≡ Body c = ap (λ (z : List (ℕ × Slot B)). slot_in z) holds in
+            let d' : b ≡ c = cc in
             λ h. lay (push (HomeBody (e h) (ended_of (d' h))) (holding known k tr j (Body b))),
       )

@@ -20,7 +20,8 @@ use Rattle.word_table.specs.declared.token.Token.TheInside.{Inside}
 use Rattle.word_table.specs.declared.view.View.{View}
 
 -- a word that lies in the table
-pub in_table : (shape shape' : Shape) (size n col i : ℕ) → size ≡ STRIDE * rows_of shape' → shape' ≡ shape → n < rows_of shape → col < STRIDE → i ≡ word_at n col → i < size
+pub in_table : (shape shape' : Shape) (size n col i : ℕ) → size ≡ STRIDE * rows_of shape' → shape' ≡ shape → n < rows_of shape
+    → col < STRIDE → i ≡ word_at n col → i < size
 in_table shape shape' size n col i long same row low at = let e : size ≡ STRIDE * rows_of shape = long ∙ ap (λ (z : Shape). STRIDE * rows_of z) same in omega (arith, e, row, low, at)
 
 abbrev first_of : View → List View → View
@@ -46,14 +47,17 @@ pub record Closing (i : Inside) (p : TokenView) (views' : List View) (name' : Ta
 
 module _ {B : Type 0} where
   -- the seat that a token rests on
-  pub opened : (i : Inside) (p : TokenView) (views : List View) (m : Sat B) → IsToken i → token_view i ≡ p → views ≡ i.badge.views → views ≡ m.0 ∷ [] → m.1 ≡ [] → m ≡ sat (known_by p) p.seat p.trace
+  pub opened : (i : Inside) (p : TokenView) (views : List View) (m : Sat B) → IsToken i → token_view i ≡ p → views ≡ i.badge.views
+      → views ≡ m.0 ∷ [] → m.1 ≡ [] → m ≡ sat (known_by p) p.seat p.trace
   opened i p views m is seen same at free = let e : m.0 ≡ one (known_by p) (part p.seat p.trace 0) = ap (first_of m.0) (sym at ∙ (same ∙ views_are i p is seen)) in λ j. (e j, free j)
 
   -- .. by the names of the table: of the badge, of the seat after and before, and of the badge that was opened
-  pub closing : (i : Inside) (p : TokenView) (views' : List View) (name' after before badge : TableId) (m' : Sat B) (trace' : List Rec) → token_view i ≡ p → name' ≡ after → after ≡ before → before ≡ badge → badge ≡ i.badge.table_id
+  pub closing : (i : Inside) (p : TokenView) (views' : List View) (name' after before badge : TableId) (m' : Sat B) (trace' : List Rec)
+      → token_view i ≡ p → name' ≡ after → after ≡ before → before ≡ badge → badge ≡ i.badge.table_id
       → views' ≡ m'.0 ∷ [] → m' ≡ sat (known_by p) p.seat trace' → Closing i p views' name' trace'
   closing i p views' name' after before badge m' trace' seen closed kept opens same at is =
-      let e : views' ≡ made (known_by p) p.seat trace' = at ∙ ap (λ (z : Sat B). z.0 ∷ []) is in let number : i.seat ≡ p.seat = ap (λ (z : TokenView). z.seat) seen in record {
+      let e : views' ≡ made (known_by p) p.seat trace' = at ∙ ap (λ (z : Sat B). z.0 ∷ []) is in
+      let number : i.seat ≡ p.seat = ap (λ (z : TokenView). z.seat) seen in record {
         is = e ∙ λ j. made (sym (ap known_in e) j) (sym number j) (sym (ap trace_of e) j);
         same = record {
           table = closed ∙ (kept ∙ (opens ∙ (same ∙ ap (λ (z : TokenView). z.of) seen)));
@@ -65,12 +69,14 @@ module _ {B : Type 0} where
       }
 
   -- the seat with the record of its step
-  pub noted_from : (note : ℕ → List Rec → ℕ → ℕ → ℕ → Rec) (m m' : Sat B) (known : Known) (s : ℕ) (trace : List Rec) (n y x : ℕ) → m ≡ sat known s trace → m' ≡ push (note (seat_in m.0.parts) (trace_in m.0.parts) n y x) m
+  pub noted_from : (note : ℕ → List Rec → ℕ → ℕ → ℕ → Rec) (m m' : Sat B) (known : Known) (s : ℕ) (trace : List Rec) (n y x : ℕ)
+      → m ≡ sat known s trace → m' ≡ push (note (seat_in m.0.parts) (trace_in m.0.parts) n y x) m
       → m' ≡ sat known s (note s trace n y x ∷ trace)
   noted_from note m m' known s trace n y x rest now = now ∙ λ h. push (note (seat_in (rest h).0.parts) (trace_in (rest h).0.parts) n y x) (rest h)
 
   -- the trace after one try
-  pub tried_trace : (x old : ℕ) (m m' : Sat B) (F : ℕ → Type 0) (r : ℕ → Rec) (known : Known) (s : ℕ) (trace : List Rec) → m ≡ sat known s trace → (x ≡ old → F x × (m' ≡ push (r x) (sat known s trace))) × (x ≢ old → m' ≡ m)
+  pub tried_trace : (x old : ℕ) (m m' : Sat B) (F : ℕ → Type 0) (r : ℕ → Rec) (known : Known) (s : ℕ) (trace : List Rec)
+      → m ≡ sat known s trace → (x ≡ old → F x × (m' ≡ push (r x) (sat known s trace))) × (x ≢ old → m' ≡ m)
       → (trace' : List Rec) × (m' ≡ sat known s trace') × (x ≡ old → trace' ≡ r old ∷ trace) × (x ≡ old → F old) × (x ≢ old → trace' ≡ trace)
   tried_trace x old m m' F r known s trace is t = dite (ℕ_discrete x old)
       (λ e. (r old ∷ trace, (t.0 e).1 ∙ ap (λ (z : ℕ). sat known s (r z ∷ trace)) e, (λ _. refl), (λ _. subst F e (t.0 e).0), λ ne. absurd (ne e)))
@@ -81,28 +87,35 @@ module _ {B : Type 0} where
   slot_in (x ∷ xs) = x.1
 
   -- a plain exchange on the slot in the seat's hand
-  pub swapped : (m m' : Sat B) (known : Known) (s j : ℕ) (trace : List Rec) (y x new : Slot B) → m ≡ holding known s trace j y → m.1 ≡ (j, x) ∷ rest m.1 → m' ≡ (m.0, (j, new) ∷ rest m.1)
+  pub swapped : (m m' : Sat B) (known : Known) (s j : ℕ) (trace : List Rec) (y x new : Slot B) → m ≡ holding known s trace j y
+      → m.1 ≡ (j, x) ∷ rest m.1 → m' ≡ (m.0, (j, new) ∷ rest m.1)
       → (x ≡ y) × (m' ≡ holding known s trace j new)
   swapped m m' known s j trace y x new is had now = (sym (ap slot_in had) ∙ ap (λ (z : Sat B). slot_in z.1) is, now ∙ λ h. ((is h).0, (j, new) ∷ rest (is h).1))
 
-  pub in_hand : (m : Sat B) (known : Known) (s j : ℕ) (trace : List Rec) (y : Slot B) → m ≡ holding known s trace j y → m.1 ≡ (j, y) ∷ rest m.1
+  pub in_hand : (m : Sat B) (known : Known) (s j : ℕ) (trace : List Rec) (y : Slot B) → m ≡ holding known s trace j y
+      → m.1 ≡ (j, y) ∷ rest m.1
   in_hand m known s j trace y is = ap (λ (z : Sat B). z.1) is ∙ λ h. (j, y) ∷ rest (sym is h).1
 
   -- the slot i = j comes into the hand of a seat at rest, without a record and with one
-  pub lifted_from : (m m' : Sat B) (known : Known) (s : ℕ) (trace : List Rec) (i j : ℕ) (x : Slot B) → m ≡ sat known s trace → m' ≡ lift j x m → i ≡ j → m' ≡ holding known s trace i x
+  pub lifted_from : (m m' : Sat B) (known : Known) (s : ℕ) (trace : List Rec) (i j : ℕ) (x : Slot B) → m ≡ sat known s trace
+      → m' ≡ lift j x m → i ≡ j → m' ≡ holding known s trace i x
   lifted_from m m' known s trace i j x rest now same = now ∙ λ h. lift (sym same h) x (rest h)
 
-  pub took_from : (m m' : Sat B) (known : Known) (s : ℕ) (trace : List Rec) (i j : ℕ) (x : Slot B) (r : Rec) → m ≡ sat known s trace → m' ≡ lift j x (push r m) → i ≡ j → m' ≡ holding known s (r ∷ trace) i x
+  pub took_from : (m m' : Sat B) (known : Known) (s : ℕ) (trace : List Rec) (i j : ℕ) (x : Slot B) (r : Rec) → m ≡ sat known s trace
+      → m' ≡ lift j x (push r m) → i ≡ j → m' ≡ holding known s (r ∷ trace) i x
   took_from m m' known s trace i j x r rest now same = now ∙ λ h. lift (sym same h) x (push r (rest h))
 
-  pub hand_at : (m : Sat B) (known : Known) (s : ℕ) (trace : List Rec) (i j : ℕ) (x : Slot B) → m ≡ holding known s trace i x → i ≡ j → m ≡ holding known s trace j x
+  pub hand_at : (m : Sat B) (known : Known) (s : ℕ) (trace : List Rec) (i j : ℕ) (x : Slot B) → m ≡ holding known s trace i x → i ≡ j
+      → m ≡ holding known s trace j x
   hand_at m known s trace i j x is same = is ∙ λ h. holding known s trace (same h) x
 
   -- the slot goes from the hand of a seat that was at rest as m, with the record before and with it
-  pub laid_from : (m m' m'' : Sat B) (known : Known) (s : ℕ) (trace : List Rec) (i : ℕ) (x : Slot B) (r : Rec) → m ≡ sat known s trace → m' ≡ holding known s (r ∷ trace) i x → m'' ≡ lay m' → m'' ≡ push r m
+  pub laid_from : (m m' m'' : Sat B) (known : Known) (s : ℕ) (trace : List Rec) (i : ℕ) (x : Slot B) (r : Rec) → m ≡ sat known s trace
+      → m' ≡ holding known s (r ∷ trace) i x → m'' ≡ lay m' → m'' ≡ push r m
   laid_from m m' m'' known s trace i x r rest had now = now ∙ (λ h. lay (had h)) ∙ λ h. push r (sym rest h)
 
-  pub gave_from : (m m' m'' : Sat B) (known : Known) (s : ℕ) (trace : List Rec) (i : ℕ) (x : Slot B) (r : Rec) → m ≡ sat known s trace → m' ≡ holding known s trace i x → m'' ≡ lay (push r m') → m'' ≡ push r m
+  pub gave_from : (m m' m'' : Sat B) (known : Known) (s : ℕ) (trace : List Rec) (i : ℕ) (x : Slot B) (r : Rec) → m ≡ sat known s trace
+      → m' ≡ holding known s trace i x → m'' ≡ lay (push r m') → m'' ≡ push r m
   gave_from m m' m'' known s trace i x r rest had now = now ∙ (λ h. lay (push r (had h))) ∙ λ h. push r (sym rest h)
 
   pub held_same : (v w : Val) → ◌≡◌ {A = Slot B} (Held v) (Held w) → v ≡ w

@@ -61,9 +61,11 @@ low_slot OfWorks = omega arith
 low_slot OfWait = omega arith
 
 pub at_out : (n k : ℕ) (trace : List Rec) → k < SLOTS → has_out (slot_at n k) trace ≡ is_out k n trace
-at_out n k trace low = let e : (6 * n + k) % 6 ≡ k = omega arith in let f : (6 * n + k) / 6 ≡ n = omega arith in λ j. is_out (e j) (f j) trace
+at_out n k trace low = let e : (6 * n + k) % 6 ≡ k = omega arith in
+    let f : (6 * n + k) / 6 ≡ n = omega arith in λ j. is_out (e j) (f j) trace
 
-else_out : (n k : ℕ) (trace trace' : List Rec) → ((l m : ℕ) → (m ≢ n) ⊎ (l ≢ k) → is_out l m trace' ≡ is_out l m trace) → (o : ℕ) → o ≢ slot_at n k → has_out o trace' ≡ has_out o trace
+else_out : (n k : ℕ) (trace trace' : List Rec) → ((l m : ℕ) → (m ≢ n) ⊎ (l ≢ k) → is_out l m trace' ≡ is_out l m trace) → (o : ℕ)
+    → o ≢ slot_at n k → has_out o trace' ≡ has_out o trace
 else_out n k trace trace' same o ne = elim (cases_eq (o / 6) n) [
   | inl e ↦ same (o % 6) (o / 6) (inr (λ f. ne (omega (arith, e, f))))
   | inr apart ↦ same (o % 6) (o / 6) (inl apart)
@@ -72,7 +74,8 @@ else_out n k trace trace' same o ne = elim (cases_eq (o / 6) n) [
 choice_same : (l k : ℕ) (a a' b b' : Bool) → (l ≡ k → a ≡ a') → b ≡ b' → (if l == k then a else b) ≡ (if l == k then a' else b')
 choice_same l k a a' b b' f g = elim (cases_eq l k) [ inl e ↦ rw (eq-eqb l k e) (f e) | inr ne ↦ rw (ne_eqb l k ne) g ]
 
-column_same : (l : ℕ) (a a' b b' c c' d d' e e' : Bool) → (l ≡ 0 → a ≡ a') → (l ≡ 1 → b ≡ b') → (l ≡ 2 → c ≡ c') → (l ≡ 3 → d ≡ d') → (l ≡ 5 → e ≡ e') → by_column l a b c d e ≡ by_column l a' b' c' d' e'
+column_same : (l : ℕ) (a a' b b' c c' d d' e e' : Bool) → (l ≡ 0 → a ≡ a') → (l ≡ 1 → b ≡ b') → (l ≡ 2 → c ≡ c') → (l ≡ 3 → d ≡ d')
+    → (l ≡ 5 → e ≡ e') → by_column l a b c d e ≡ by_column l a' b' c' d' e'
 column_same l a a' b b' c c' d d' e e' f g h i j =
     choice_same l 0 a a' _ _ f (choice_same l 1 b b' _ _ g (choice_same l 2 c c' _ _ h (choice_same l 3 d d' _ _ i (choice_same l 5 e e' false false j refl))))
 
@@ -81,20 +84,23 @@ quiet_out r trace q o =
     λ j. by_column (o % 6) (is_some (some_of val.Task (q.task j (o / 6)))) (is_some_of (q.body j) (o / 6)) (is_some (some_of val.Queue (q.queue j (o / 6)))) (is_some (some_of val.Works (q.works j (o / 6)))) (is_some (some_of val.Wait (q.wait j (o / 6))))
 
 -- a slot that is put as taken or as given, elsewhere
-put_else : {A : Type 0} (f : A → Val) (h : ℕ → Option A) (n m l k : ℕ) (o : Option A) → (m ≢ n) ⊎ (l ≢ k) → l ≡ k → is_some (some_of f (put h n o m)) ≡ is_some (some_of f (h m))
+put_else : {A : Type 0} (f : A → Val) (h : ℕ → Option A) (n m l k : ℕ) (o : Option A) → (m ≢ n) ⊎ (l ≢ k) → l ≡ k
+    → is_some (some_of f (put h n o m)) ≡ is_some (some_of f (h m))
 put_else f h n m l k o (inl ne) e = ap (λ (x : _). is_some (some_of f x)) (put_other h n o m ne)
 put_else f h n m l k o (inr ne) e = absurd (ne e)
 
 put_here : {A : Type 0} (f : A → Val) (h : ℕ → Option A) (n : ℕ) (o : Option A) → is_some (some_of f (put h n o n)) ≡ is_some (some_of f o)
 put_here f h n o = ap (λ (x : _). is_some (some_of f x)) (put_there h n o n refl)
 
-took_apart : (n : ℕ) (v : Val) (trace : List Rec) (l m : ℕ) → (m ≢ n) ⊎ (l ≢ slot_of (sort_of v)) → is_out l m (Took n v ∷ trace) ≡ is_out l m trace
+took_apart : (n : ℕ) (v : Val) (trace : List Rec) (l m : ℕ) → (m ≢ n) ⊎ (l ≢ slot_of (sort_of v))
+    → is_out l m (Took n v ∷ trace) ≡ is_out l m trace
 took_apart n (val.Task v) trace l m ne = column_same l _ _ _ _ _ _ _ _ _ _ (put_else val.Task (task_held trace) n m l 0 (Some v) ne) (λ e. refl) (λ e. refl) (λ e. refl) (λ e. refl)
 took_apart n (val.Queue v) trace l m ne = column_same l _ _ _ _ _ _ _ _ _ _ (λ e. refl) (λ e. refl) (put_else val.Queue (queue_held trace) n m l 2 (Some v) ne) (λ e. refl) (λ e. refl)
 took_apart n (val.Works v) trace l m ne = column_same l _ _ _ _ _ _ _ _ _ _ (λ e. refl) (λ e. refl) (λ e. refl) (put_else val.Works (works_held trace) n m l 3 (Some v) ne) (λ e. refl)
 took_apart n (val.Wait v) trace l m ne = column_same l _ _ _ _ _ _ _ _ _ _ (λ e. refl) (λ e. refl) (λ e. refl) (λ e. refl) (put_else val.Wait (wait_held trace) n m l 5 (Some v) ne)
 
-gave_apart : (n : ℕ) (v w : Val) (trace : List Rec) (l m : ℕ) → (m ≢ n) ⊎ (l ≢ slot_of (sort_of v)) → is_out l m (Gave n v w ∷ trace) ≡ is_out l m trace
+gave_apart : (n : ℕ) (v w : Val) (trace : List Rec) (l m : ℕ) → (m ≢ n) ⊎ (l ≢ slot_of (sort_of v))
+    → is_out l m (Gave n v w ∷ trace) ≡ is_out l m trace
 gave_apart n (val.Task v) w trace l m ne = column_same l _ _ _ _ _ _ _ _ _ _ (put_else val.Task (task_held trace) n m l 0 None ne) (λ e. refl) (λ e. refl) (λ e. refl) (λ e. refl)
 gave_apart n (val.Queue v) w trace l m ne = column_same l _ _ _ _ _ _ _ _ _ _ (λ e. refl) (λ e. refl) (put_else val.Queue (queue_held trace) n m l 2 None ne) (λ e. refl) (λ e. refl)
 gave_apart n (val.Works v) w trace l m ne = column_same l _ _ _ _ _ _ _ _ _ _ (λ e. refl) (λ e. refl) (λ e. refl) (put_else val.Works (works_held trace) n m l 3 None ne) (λ e. refl)
@@ -137,7 +143,8 @@ held_there OfWorks trace n = refl
 held_there OfWait trace n = refl
 
 -- a value that the seat has out
-pub held_out : (sort : Sort) (trace : List Rec) (n : ℕ) (v : Val) → held_of sort trace n ≡ Some v → has_out (slot_at n (slot_of sort)) trace ≡ true
+pub held_out : (sort : Sort) (trace : List Rec) (n : ℕ) (v : Val) → held_of sort trace n ≡ Some v
+    → has_out (slot_at n (slot_of sort)) trace ≡ true
 held_out sort trace n v e = at_out n (slot_of sort) trace (low_slot sort) ∙ held_there sort trace n ∙ ap is_some e
 
 -- Bodies: a seat has at most one out
@@ -152,7 +159,8 @@ names_here t = rw (eq-eqb t t refl)
 names_else : (t m : ℕ) → m ≢ t → names (Some t) m ≡ false
 names_else t m ne = grind (arith, ne)
 
-body_else : (r : Rec) (t : ℕ) (trace : List Rec) → ((l m : ℕ) → (m ≢ t) ⊎ (l ≢ 1) → is_out l m (r ∷ trace) ≡ is_out l m trace) → (o : ℕ) → o ≢ slot_at t BODY_SLOT → has_out o (r ∷ trace) ≡ has_out o trace
+body_else : (r : Rec) (t : ℕ) (trace : List Rec) → ((l m : ℕ) → (m ≢ t) ⊎ (l ≢ 1) → is_out l m (r ∷ trace) ≡ is_out l m trace) → (o : ℕ)
+    → o ≢ slot_at t BODY_SLOT → has_out o (r ∷ trace) ≡ has_out o trace
 body_else r t trace = else_out t 1 trace (r ∷ trace)
 
 pub body_out : (trace : List Rec) (t : ℕ) → body_held trace ≡ Some t → has_out (slot_at t BODY_SLOT) trace ≡ true
@@ -161,11 +169,13 @@ body_out trace t e = at_out t 1 trace (omega arith) ∙ ap (λ (o : Option ℕ).
 pub left_out : (t : ℕ) (b : Bool) (trace : List Rec) → has_out (slot_at t BODY_SLOT) (OutBody t b ∷ trace) ≡ true
 left_out t b trace = body_out (OutBody t b ∷ trace) t refl
 
-pub left_else : (t : ℕ) (b : Bool) (trace : List Rec) → body_held trace ≡ None → (o : ℕ) → o ≢ slot_at t BODY_SLOT → has_out o (OutBody t b ∷ trace) ≡ has_out o trace
+pub left_else : (t : ℕ) (b : Bool) (trace : List Rec) → body_held trace ≡ None → (o : ℕ) → o ≢ slot_at t BODY_SLOT
+    → has_out o (OutBody t b ∷ trace) ≡ has_out o trace
 left_else t b trace none = body_else (OutBody t b) t trace (λ l m ne. column_same l _ _ _ _ _ _ _ _ _ _ (λ e. refl) (λ e. ⊎_elim (λ apart. names_else t m apart ∙ sym (ap (λ (o : Option ℕ). is_some_of o m) none)) (λ no. absurd (no e)) ne) (λ e. refl) (λ e. refl) (λ e. refl))
 
 pub came_back : (t : ℕ) (b : Bool) (trace : List Rec) → has_out (slot_at t BODY_SLOT) (HomeBody t b ∷ trace) ≡ false
 came_back t b trace = at_out t 1 (HomeBody t b ∷ trace) (omega arith)
 
-pub came_else : (t : ℕ) (b : Bool) (trace : List Rec) → body_held trace ≡ Some t → (o : ℕ) → o ≢ slot_at t BODY_SLOT → has_out o (HomeBody t b ∷ trace) ≡ has_out o trace
+pub came_else : (t : ℕ) (b : Bool) (trace : List Rec) → body_held trace ≡ Some t → (o : ℕ) → o ≢ slot_at t BODY_SLOT
+    → has_out o (HomeBody t b ∷ trace) ≡ has_out o trace
 came_else t b trace has = body_else (HomeBody t b) t trace (λ l m ne. column_same l _ _ _ _ _ _ _ _ _ _ (λ e. refl) (λ e. ⊎_elim (λ apart. sym (ap (λ (o : Option ℕ). is_some_of o m) has ∙ names_else t m apart)) (λ no. absurd (no e)) ne) (λ e. refl) (λ e. refl) (λ e. refl))

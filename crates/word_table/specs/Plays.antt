@@ -73,10 +73,14 @@ module _ {B : Type 0} where
     tried st m x m' =
         (n : ℕ) → st.word ≡ word_at n col → (x ≡ st.first → told m.0.known.shape x × (m' ≡ noted m n st.second x)) × (x ≢ st.first → m' ≡ m)
 
+  -- the seat has the value of n in its hand, of which this is told
+  abbrev pub Takes : Sort → ℕ → Sat B → Sat B → Type 0
+  Takes sort n m m' =
+      (v : Val) × IsOf sort v × TakeTold m.0.known.shape (seat_in m.0.parts) (trace_in m.0.parts) sort n v
+      × (m' ≡ lift (slot_at n (slot_of sort)) (Held v) (push (Took n v) m))
+
   abbrev pub took : Sort → Step (Slot B) → Sat B → ℕ → Sat B → Type 0
-  took sort st m x m' =
-      (n : ℕ) → st.word ≡ word_at n (lock_of sort)
-      → (x ≡ 0 → (v : Val) × IsOf sort v × TakeTold m.0.known.shape (seat_in m.0.parts) (trace_in m.0.parts) sort n v × (m' ≡ lift (slot_at n (slot_of sort)) (Held v) (push (Took n v) m))) × (x ≢ 0 → m' ≡ m)
+  took sort st m x m' = (n : ℕ) → st.word ≡ word_at n (lock_of sort) → (x ≡ 0 → Takes sort n m m') × (x ≢ 0 → m' ≡ m)
 
   abbrev pub gave : Sort → Step (Slot B) → Sat B → ℕ → Sat B → Type 0
   gave sort st m x m' =

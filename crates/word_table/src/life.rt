@@ -1,5 +1,5 @@
 //! How a table begins.
-ghost use Rattle.std.specs.Prelude.{◌≡◌, ℕ, ◌+◌, ◌*◌, ◌<◌, ◌≤◌, ◌++◌, ◌↔◌, [], map, length, IfOk, vec_len, false};
+ghost use Rattle.std.specs.Prelude.{◌≡◌, ℕ, ◌+◌, ◌*◌, ◌<◌, ◌≤◌, ◌++◌, ◌↔◌, [], map, length, IfOk, vec_len};
 ghost use Rattle.std.specs.List.{All};
 ghost use Rattle.std.specs.Vec.{vec_capacity};
 ghost use Rattle.handoff_data.specs.Mask.{HasCpu};
@@ -181,8 +181,8 @@ fn deal<B: Kept>(
 
 impl<B: Kept> Words<B> {
     /// A new table of this shape, with these bodies of its tasks, and the tokens of its seats in their order. Each task
-    /// is TASK_NEW and may run on each processor; each processor is active; each lock is free, with its value home. All
-    /// memory of the table is taken here.
+    /// is TASK_NEW and may run on each processor; each processor is active; each lock is free, with its value home. A
+    /// body may have ended already. All memory of the table is taken here.
     pub fn new(
         alloc: Global,
         shape: &Shape,
@@ -190,7 +190,6 @@ impl<B: Kept> Words<B> {
     ) -> Result<(Words<B>, Vec<Token>), NoMemory>
         requires shape { IsShape shape.now }
         requires tasks { length bodies.items ≡ shape.now.tasks }
-        requires begun { All (λ b. B.ended b ≡ false) bodies.items }
         ensures shape { IfOk result (λ r. r.0.shape ≡ shape.now) }
         ensures lasting { IfOk result (λ r. r.0.lasting ≡ map B.lasting bodies.items) }
         ensures tokens { IfOk result (λ r. r.1.items ≡ first_tokens r.0.name r.0.shape r.0.lasting (shape.now.cpus + shape.now.agents)) }

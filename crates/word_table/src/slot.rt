@@ -1,5 +1,5 @@
 //! What a slot holds, and what the table is told when it is made.
-ghost use Rattle.std.specs.Prelude.{ℕ, List, Bool};
+ghost use Rattle.std.specs.Prelude.{ℕ, List, [], Bool, true};
 
 use handoff_data::Shape;
 use std::snapshot::Snapshot;
@@ -12,6 +12,13 @@ pub trait Kept: Send + Drop {
 
     /// Whether it has ended.
     ghost ended: { Self → Bool };
+}
+
+/// A body that does nothing, and has ended.
+impl Kept for () {
+    ghost lasting = { λ _. [] };
+
+    ghost ended = { λ _. true };
 }
 
 /// A slot of the table. Between two calls each is at home, and one whose value is out is empty.

@@ -8,7 +8,7 @@ ghost use Rattle.word_steps.specs.Records.{Took, Gave, OutBody, HomeBody};
 ghost use Rattle.word_steps.specs.Words.{BODY};
 ghost use Rattle.word_steps.specs.declared.val.Val.{Val};
 ghost use Rattle.word_table.specs.Layout.{word_at, slot_at, slot_of, BODY_SLOT};
-ghost use Rattle.word_table.specs.Plays.{IsRest, trace_in, push, lift};
+ghost use Rattle.word_table.specs.Plays.{IsRest, Takes, trace_in, push};
 ghost use Rattle.word_table.specs.declared.slot.Slot.TheVariants.{Held};
 
 use crate::layout::{BODY, SLOTS, STRIDE};
@@ -48,7 +48,7 @@ fn acquire<B: Kept, L: Lock, R: Wait>(
     requires row { n < count_of L.sort words.now.shape }
     requires rest { IsRest seat.old.me number }
     ensures id { seat.new.table_id ≡ seat.old.table_id }
-    ensures took { (v : Val) × IsOf L.sort v × TakeTold seat.old.me.0.known.shape number (trace_in seat.old.me.0.parts) L.sort n v × (seat.new.me ≡ lift (slot_at n (slot_of L.sort)) (Held v) (push (Took n v) seat.old.me)) }
+    ensures took { Takes L.sort n seat.old.me seat.new.me }
 {
     let backoff = Backoff::new();
     let word = word_of::<L>(n);

@@ -1,4 +1,4 @@
-use Rattle.std.proofs.Common.{◌≡◌, ◌<◌, ◌^◌, ◌+◌, ◌*◌, ℕ, rules, sym, ap, ◌∙◌, subst, arith}
+use Rattle.std.proofs.Common.{◌<◌, ◌^◌, ◌+◌, ◌*◌, ℕ, rules, sym, subst, arith}
 use Rattle.std.specs.Slots.{slots_items}
 use Rattle.handoff_data.specs.declared.state.State.{State}
 use Rattle.word_steps.specs.Words.{STATE, words_of}
@@ -9,7 +9,8 @@ use Rattle.word_table.proofs.close.read_states.Goals as goal
 pub overflow_cast-word : goal.overflow_cast-word
 overflow_cast-word g c =
     let t : ℕ = c.loop-t.t in let words = slots_items c.args.left.now.words in
-    let small : c.word.result < 2 ^ 16 = subst (λ (z : ℕ). z < 2 ^ 16) (read_at words (64 * t + 2) c.word.result 0 c.word.ensures) (c.requires.fit t) in
+    let small : c.word.result < 2 ^ 16 = subst (λ (z : ℕ). z < 2 ^ 16)
+    (read_at words (64 * t + 2) c.word.result 0 c.word.ensures) (c.requires.fit t) in
     search rules
 
 pub loop-t-preserved : goal.loop-t-preserved
@@ -17,8 +18,9 @@ loop-t-preserved g c =
     let inv = c.loop-t.invariant in let t : ℕ = c.loop-t.t in let words = slots_items c.args.left.now.words in
     let read : State → State = λ s. s in
     record {
-      states = one_plain (λ (i : ℕ). let s : State = record { 0 = words_of words i STATE } in s) c.loop-t.states.items c.push_reserved.new.self.items (record { 0 = c.word.result }) t inv.states c.push_reserved.ensures.items
+      states = one_plain (λ (i : ℕ). let s : State = record { 0 = words_of words i STATE } in s) c.loop-t.states.items
+          c.push_reserved.new.self.items (record { 0 = c.word.result }) t inv.states c.push_reserved.ensures.items
           (λ j. record { 0 = sym (read_at words (64 * t + 2) c.word.result 0 c.word.ensures) j });
-      full = c.push_reserved.ensures.len ∙ ap (λ (z : ℕ). z + 1) inv.full;
-      room = c.push_reserved.ensures.capacity ∙ inv.room;
+      full = (let len = c.push_reserved.ensures.len in omega arith);
+      room = (let more = c.push_reserved.ensures.capacity in omega arith);
     }

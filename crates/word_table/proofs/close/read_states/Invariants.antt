@@ -7,7 +7,8 @@ use Rattle.word_table.proofs.close.read_states.Given as goal
 
 abbrev pub invariant-loop-t : goal.invariant-loop-t
 invariant-loop-t g l = record {
-  states : l.states.items ≡ map (λ t. record { 0 = words_of (slots_items l.left.words) t STATE }) (range_with_len 0 l.t);
+  states : l.states.items ≡ map (λ t. record { 0 = words_of (slots_items l.left.words) t STATE })
+      (range_with_len 0 l.t);
   full : vec_len l.states ≡ l.t;
   room : vec_capacity l.states ≡ vec_capacity l.initial.states;
 }

@@ -1,4 +1,4 @@
-use Rattle.std.proofs.Common.{◌≡◌, ◌<◌, ◌+◌, ◌*◌, ℕ, rules, sym, ap, ◌∙◌, length, arith}
+use Rattle.std.proofs.Common.{◌<◌, ℕ, sym, ap, ◌∙◌, length, arith}
 use Rattle.std.specs.Slots.{slots_items, slots_filled, slots_counts}
 use mathlib.Core.Option.{some}
 use lib.ListN.{get_elem?}
@@ -16,14 +16,18 @@ pub loop-t-preserved : goal.loop-t-preserved
 loop-t-preserved g c =
     let inv = c.loop-t.invariant in let t : ℕ = c.loop-t.t in let took = c.take_body.ensures in
     let fits : slot_at t BODY_SLOT < length (slots_filled c.loop-t.left.slots) =
-    (let a = c.requires.places in let b = inv.len in let d = (slots_counts c.loop-t.left.slots).1 in let e = c.loop-t-test.true in omega arith) in
+    (let a = c.requires.places in let b = inv.len in let d = (slots_counts c.loop-t.left.slots).1 in
+    let e = c.loop-t-test.true in omega arith) in
     record {
       items = took.items ∙ inv.items;
       len = took.len ∙ inv.len;
       words = took.words ∙ inv.words;
-      filled = one_taken t (slots_filled c.args.left.now.slots) (slots_filled c.loop-t.left.slots) (slots_filled c.take_body.new.left.slots) fits inv.filled took.filled;
-      bodies = one_read (λ b. some (Body b)) (λ (i : ℕ). get_elem? (slots_items c.args.left.now.slots) (slot_at i BODY_SLOT)) c.loop-t.bodies.items c.push_reserved.new.self.items c.take_body.result t inv.bodies c.push_reserved.ensures.items
+      filled = one_taken t (slots_filled c.args.left.now.slots) (slots_filled c.loop-t.left.slots)
+          (slots_filled c.take_body.new.left.slots) fits inv.filled took.filled;
+      bodies = one_read (λ b. some (Body b)) (λ (i : ℕ). get_elem? (slots_items c.args.left.now.slots)
+          (slot_at i BODY_SLOT)) c.loop-t.bodies.items c.push_reserved.new.self.items c.take_body.result t inv.bodies
+          c.push_reserved.ensures.items
           (sym took.body ∙ ap (λ z. get_elem? z (slot_at t BODY_SLOT)) inv.items);
-      full = c.push_reserved.ensures.len ∙ ap (λ (z : ℕ). z + 1) inv.full;
-      room = c.push_reserved.ensures.capacity ∙ inv.room;
+      full = (let len = c.push_reserved.ensures.len in omega arith);
+      room = (let more = c.push_reserved.ensures.capacity in omega arith);
     }

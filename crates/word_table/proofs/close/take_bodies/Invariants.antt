@@ -15,7 +15,8 @@ invariant-loop-t g l = record {
   len : slots_len l.left.slots ≡ slots_len l.initial.left.slots;
   words : l.left.words ≡ l.initial.left.words;
   filled : HasTaken l.t (slots_filled l.initial.left.slots) (slots_filled l.left.slots);
-  bodies : map (λ b. some (Body b)) l.bodies.items ≡ map (λ t. get_elem? (slots_items l.initial.left.slots) (slot_at t BODY_SLOT)) (range_with_len 0 l.t);
+  bodies : map (λ b. some (Body b)) l.bodies.items ≡ map
+      (λ t. get_elem? (slots_items l.initial.left.slots) (slot_at t BODY_SLOT)) (range_with_len 0 l.t);
   full : vec_len l.bodies ≡ l.t;
   room : vec_capacity l.bodies ≡ vec_capacity l.initial.bodies;
 }

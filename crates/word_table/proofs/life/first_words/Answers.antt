@@ -18,7 +18,11 @@ loop-t-preserved c =
 pub loop-c-preserved : goal.loop-c-preserved
 loop-c-preserved c =
     let inv = c.loop-c.invariant in let p : ℕ = c.loop-c.c in
-    record { words = cpu_stored c.loop-c.words.items c.args.shape.now.tasks p inv.words (omega arith); long = search rules }
+    record {
+      words = cpu_stored c.loop-c.words.items c.args.shape.now.tasks p inv.words (omega arith);
+      long = search
+          rules;
+    }
 
 pub returns-clause-words : goal.returns-clause-words
 returns-clause-words c = c.loop-c.invariant.words ∙ ap (words_with c.args.shape.now.tasks) (omega arith)

@@ -13,7 +13,8 @@ loop-body-preserved g c =
       can_next = tt;
       is_finite = tt;
       count = omega arith;
-      rows = body_laid c.args.shape.now c.args.mask c.loop-body.laid bodies c.in-Some.body c.loop-body.slots.items c.lay_row.new.slots.items (sym inv.count) long inv.rows c.in_ok-lay_row.ensures.row;
+      rows = body_laid c.args.shape.now c.args.mask c.loop-body.laid bodies c.in-Some.body c.loop-body.slots.items
+          c.lay_row.new.slots.items (sym inv.count) long inv.rows c.in_ok-lay_row.ensures.row;
       full = (let len = c.in_ok-lay_row.ensures.len in omega arith);
       space = c.lay_row.ensures.room ∙ inv.space;
     }
@@ -26,7 +27,8 @@ loop-n-preserved g c =
       low = omega arith;
       high = omega arith;
       all = omega arith;
-      rows = bare_laid c.args.shape.now c.args.mask c.loop-n.n c.args.bodies.items c.loop-n.slots.items c.lay_row-in-loop-n.new.slots.items inv.all long inv.rows c.in_ok-lay_row-2.ensures.row;
+      rows = bare_laid c.args.shape.now c.args.mask c.loop-n.n c.args.bodies.items c.loop-n.slots.items
+          c.lay_row-in-loop-n.new.slots.items inv.all long inv.rows c.in_ok-lay_row-2.ensures.row;
       full = (let len = c.in_ok-lay_row-2.ensures.len in omega arith);
       space = c.lay_row-in-loop-n.ensures.room ∙ inv.space;
     }
@@ -35,7 +37,8 @@ pub returns : goal.returns
 returns g c =
     let inv = c.loop-n.invariant in let bodies = c.args.bodies.items in let slots = c.loop-n.slots.items in
     let end : c.loop-n.n ≡ rows_of c.args.shape.now = omega arith in
-    let long : length slots ≡ SLOTS * rows_of c.args.shape.now = (let l : length slots ≡ SLOTS * c.loop-n.n = search rules in l ∙ ap (λ (z : ℕ). SLOTS * z) end) in
+    let long : length slots ≡ SLOTS * rows_of c.args.shape.now = (let l : length slots ≡ SLOTS * c.loop-n.n = search
+    rules in l ∙ ap (λ (z : ℕ). SLOTS * z) end) in
     all_laid c.args.shape.now c.args.mask bodies slots c.push_reserved.new.self.items c.in_ok-room.room long
     (subst (λ (z : ℕ). AreRows c.args.shape.now c.args.mask z bodies slots) end inv.rows)
     c.in_ok-room.ensures.items (omega (arith, c.in_ok-room.ensures.capacity)) c.push_reserved.ensures.items

@@ -7,7 +7,8 @@ use Rattle.word_table.proofs.steps.exchange.Goals as goal
 
 pub compare_exchange-found-requires : goal.compare_exchange-found-requires
 compare_exchange-found-requires g c = let p = c.args.token.now in let s = c.into_seat-seat in let K = g.K.Kind in
-    let is = opened c.token.inside p c.replace.result.views s.result.me c.token.invariant c.token.view_is (ap (λ b. b.views) c.replace.ensures.value) s.ensures.2 s.ensures.3 in let L = g.met.K.Kind in let w = c.args.words.now in
+    let is = opened c.token.inside p c.replace.result.views s.result.me c.token.invariant c.token.view_is (ap (λ b. b.views) c.replace.ensures.value) s.ensures.2 s.ensures.3 in
+    let L = g.met.K.Kind in let w = c.args.words.now in
     let row : c.args.n < rows_of w.shape = (let h = L.rows w.shape in let lt = c.requires.row in omega (arith, h, lt)) in (
       search rules,
       in_table w.shape _ _ c.args.n K.col _ c.words.invariant.0 (ap (λ z. z.shape) c.words.view_is) row L.low (ap (λ z. 64 * c.args.n + z) c.column.ensures),

@@ -13,7 +13,8 @@ use Rattle.word_table.proofs.Slotted.{low_slot, held_out}
 use Rattle.word_table.proofs.values.give_value.Goals as goal
 
 pub load-requires : goal.load-requires
-load-requires g c = let m = c.args.seat.now.me in let known = m.0.known in let tr = trace_in m.0.parts in let k : ℕ = c.args.number in let n : ℕ = c.args.n in let w = c.args.words.now in let sort = g.L.Lock.sort in
+load-requires g c = let m = c.args.seat.now.me in let known = m.0.known in let tr = trace_in m.0.parts in let k : ℕ = c.args.number in
+    let n : ℕ = c.args.n in let w = c.args.words.now in let sort = g.L.Lock.sort in
     let row : n < rows_of w.shape = (let h = count_rows sort w.shape in let lt = c.requires.row in omega (arith, h, lt)) in
     let v = has_value (held_of sort tr n) c.requires.held in (
       search rules,
@@ -22,7 +23,8 @@ load-requires g c = let m = c.args.seat.now.me in let known = m.0.known in let t
     )
 
 pub exchange-requires : goal.exchange-requires
-exchange-requires g c = let m = c.args.seat.now.me in let known = m.0.known in let tr = trace_in m.0.parts in let k : ℕ = c.args.number in let n : ℕ = c.args.n in let w = c.args.words.now in let sort = g.L.Lock.sort in
+exchange-requires g c = let m = c.args.seat.now.me in let known = m.0.known in let tr = trace_in m.0.parts in let k : ℕ = c.args.number in
+    let n : ℕ = c.args.n in let w = c.args.words.now in let sort = g.L.Lock.sort in
     let row : n < rows_of w.shape = (let h = count_rows sort w.shape in let lt = c.requires.row in omega (arith, h, lt)) in
     let v = has_value (held_of sort tr n) c.requires.held in
     let i : ℕ = c.slot_under.result in let j : ℕ = slot_at n (slot_of sort) in
@@ -30,7 +32,8 @@ exchange-requires g c = let m = c.args.seat.now.me in let known = m.0.known in l
     (search rules, (Empty, in_hand c.load.new.seat.me known k i tr Empty is))
 
 pub store-requires : goal.store-requires
-store-requires g c = let m = c.args.seat.now.me in let known = m.0.known in let tr = trace_in m.0.parts in let k : ℕ = c.args.number in let n : ℕ = c.args.n in let w = c.args.words.now in let sort = g.L.Lock.sort in
+store-requires g c = let m = c.args.seat.now.me in let known = m.0.known in let tr = trace_in m.0.parts in let k : ℕ = c.args.number in
+    let n : ℕ = c.args.n in let w = c.args.words.now in let sort = g.L.Lock.sort in
     let row : n < rows_of w.shape = (let h = count_rows sort w.shape in let lt = c.requires.row in omega (arith, h, lt)) in
     let v = has_value (held_of sort tr n) c.requires.held in
     let i : ℕ = c.slot_under.result in let j : ℕ = slot_at n (slot_of sort) in
@@ -43,7 +46,8 @@ store-requires g c = let m = c.args.seat.now.me in let known = m.0.known in let 
     )
 
 pub returns-clause-seat : goal.returns-clause-seat
-returns-clause-seat g c = let m = c.args.seat.now.me in let known = m.0.known in let tr = trace_in m.0.parts in let k : ℕ = c.args.number in let n : ℕ = c.args.n in let w = c.args.words.now in let sort = g.L.Lock.sort in
+returns-clause-seat g c = let m = c.args.seat.now.me in let known = m.0.known in let tr = trace_in m.0.parts in let k : ℕ = c.args.number in
+    let n : ℕ = c.args.n in let w = c.args.words.now in let sort = g.L.Lock.sort in
     let row : n < rows_of w.shape = (let h = count_rows sort w.shape in let lt = c.requires.row in omega (arith, h, lt)) in
     let v = has_value (held_of sort tr n) c.requires.held in
     let i : ℕ = c.slot_under.result in let j : ℕ = slot_at n (slot_of sort) in

@@ -12,7 +12,8 @@ use Rattle.word_table.proofs.Slotted.{body_out}
 use Rattle.word_table.proofs.values.put_body.Goals as goal
 
 pub load-requires : goal.load-requires
-load-requires g c = let m = c.args.seat.now.me in let known = m.0.known in let tr = trace_in m.0.parts in let k : ℕ = c.args.number in let t : ℕ = c.args.t in let j : ℕ = slot_at t BODY_SLOT in let w = c.args.words.now in
+load-requires g c = let m = c.args.seat.now.me in let known = m.0.known in let tr = trace_in m.0.parts in let k : ℕ = c.args.number in
+    let t : ℕ = c.args.t in let j : ℕ = slot_at t BODY_SLOT in let w = c.args.words.now in
     let row : t < rows_of w.shape = (let h = tasks_rows w.shape in let lt = c.requires.row in omega (arith, h, lt)) in (
       search rules,
       in_table w.shape _ _ t (BODY) _ c.words.invariant.0 (ap (λ z. z.shape) c.words.view_is) row (omega arith) (refl),
@@ -20,13 +21,15 @@ load-requires g c = let m = c.args.seat.now.me in let known = m.0.known in let t
     )
 
 pub exchange-requires : goal.exchange-requires
-exchange-requires g c = let m = c.args.seat.now.me in let known = m.0.known in let tr = trace_in m.0.parts in let k : ℕ = c.args.number in let t : ℕ = c.args.t in let j : ℕ = slot_at t BODY_SLOT in let w = c.args.words.now in
+exchange-requires g c = let m = c.args.seat.now.me in let known = m.0.known in let tr = trace_in m.0.parts in let k : ℕ = c.args.number in
+    let t : ℕ = c.args.t in let j : ℕ = slot_at t BODY_SLOT in let w = c.args.words.now in
     let row : t < rows_of w.shape = (let h = tasks_rows w.shape in let lt = c.requires.row in omega (arith, h, lt)) in
     let is = lifted_from m c.load.new.seat.me known k tr j j Empty c.requires.rest (c.load.ensures.2 t refl) refl in
     (search rules, (Empty, in_hand c.load.new.seat.me known k j tr Empty is))
 
 pub load-requires-2 : goal.load-requires-2
-load-requires-2 g c = let m = c.args.seat.now.me in let known = m.0.known in let tr = trace_in m.0.parts in let k : ℕ = c.args.number in let t : ℕ = c.args.t in let j : ℕ = slot_at t BODY_SLOT in let w = c.args.words.now in
+load-requires-2 g c = let m = c.args.seat.now.me in let known = m.0.known in let tr = trace_in m.0.parts in let k : ℕ = c.args.number in
+    let t : ℕ = c.args.t in let j : ℕ = slot_at t BODY_SLOT in let w = c.args.words.now in
     let row : t < rows_of w.shape = (let h = tasks_rows w.shape in let lt = c.requires.row in omega (arith, h, lt)) in
     let is = lifted_from m c.load.new.seat.me known k tr j j Empty c.requires.rest (c.load.ensures.2 t refl) refl in
     let e = swapped c.load.new.seat.me c.exchange.new.seat.me known k j tr Empty c.exchange.result (Body c.args.body) is c.exchange.ensures.2 c.exchange.ensures.3 in (
@@ -36,7 +39,8 @@ load-requires-2 g c = let m = c.args.seat.now.me in let known = m.0.known in let
     )
 
 pub returns-clause-seat : goal.returns-clause-seat
-returns-clause-seat g c = let m = c.args.seat.now.me in let known = m.0.known in let tr = trace_in m.0.parts in let k : ℕ = c.args.number in let t : ℕ = c.args.t in let j : ℕ = slot_at t BODY_SLOT in let w = c.args.words.now in
+returns-clause-seat g c = let m = c.args.seat.now.me in let known = m.0.known in let tr = trace_in m.0.parts in let k : ℕ = c.args.number in
+    let t : ℕ = c.args.t in let j : ℕ = slot_at t BODY_SLOT in let w = c.args.words.now in
     let row : t < rows_of w.shape = (let h = tasks_rows w.shape in let lt = c.requires.row in omega (arith, h, lt)) in
     let is = lifted_from m c.load.new.seat.me known k tr j j Empty c.requires.rest (c.load.ensures.2 t refl) refl in
     let e = swapped c.load.new.seat.me c.exchange.new.seat.me known k j tr Empty c.exchange.result (Body c.args.body) is c.exchange.ensures.2 c.exchange.ensures.3 in

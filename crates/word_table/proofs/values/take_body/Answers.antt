@@ -10,7 +10,8 @@ use Rattle.word_table.proofs.Rows.{tasks_rows}
 use Rattle.word_table.proofs.values.take_body.Goals as goal
 
 pub load-requires : goal.load-requires
-load-requires g c = let m = c.args.seat.now.me in let known = m.0.known in let tr = trace_in m.0.parts in let k : ℕ = c.args.number in let t : ℕ = c.args.t in let j : ℕ = slot_at t BODY_SLOT in let w = c.args.words.now in
+load-requires g c = let m = c.args.seat.now.me in let known = m.0.known in let tr = trace_in m.0.parts in let k : ℕ = c.args.number in
+    let t : ℕ = c.args.t in let j : ℕ = slot_at t BODY_SLOT in let w = c.args.words.now in
     let row : t < rows_of w.shape = (let h = tasks_rows w.shape in let lt = c.requires.row in omega (arith, h, lt)) in (
       search rules,
       in_table w.shape _ _ t (BODY) _ c.words.invariant.0 (ap (λ z. z.shape) c.words.view_is) row (omega arith) (refl),
@@ -18,14 +19,16 @@ load-requires g c = let m = c.args.seat.now.me in let known = m.0.known in let t
     )
 
 pub exchange-slot-requires : goal.exchange-slot-requires
-exchange-slot-requires g c = let m = c.args.seat.now.me in let known = m.0.known in let tr = trace_in m.0.parts in let k : ℕ = c.args.number in let t : ℕ = c.args.t in let j : ℕ = slot_at t BODY_SLOT in let w = c.args.words.now in
+exchange-slot-requires g c = let m = c.args.seat.now.me in let known = m.0.known in let tr = trace_in m.0.parts in let k : ℕ = c.args.number in
+    let t : ℕ = c.args.t in let j : ℕ = slot_at t BODY_SLOT in let w = c.args.words.now in
     let row : t < rows_of w.shape = (let h = tasks_rows w.shape in let lt = c.requires.row in omega (arith, h, lt)) in
     let z = c.load.ensures.2 t refl in let r = OutBody t (g.B.Kept.ended z.0) in
     let is = took_from m c.load.new.seat.me known k tr j j (Body z.0) r c.requires.rest z.1 refl in
     (search rules, (Body z.0, in_hand c.load.new.seat.me known k j (r ∷ tr) (Body z.0) is))
 
 pub unreachable-requires : goal.unreachable-requires
-unreachable-requires g c = let m = c.args.seat.now.me in let known = m.0.known in let tr = trace_in m.0.parts in let k : ℕ = c.args.number in let t : ℕ = c.args.t in let j : ℕ = slot_at t BODY_SLOT in let w = c.args.words.now in
+unreachable-requires g c = let m = c.args.seat.now.me in let known = m.0.known in let tr = trace_in m.0.parts in let k : ℕ = c.args.number in
+    let t : ℕ = c.args.t in let j : ℕ = slot_at t BODY_SLOT in let w = c.args.words.now in
     let row : t < rows_of w.shape = (let h = tasks_rows w.shape in let lt = c.requires.row in omega (arith, h, lt)) in
     let z = c.load.ensures.2 t refl in let r = OutBody t (g.B.Kept.ended z.0) in
     let is = took_from m c.load.new.seat.me known k tr j j (Body z.0) r c.requires.rest z.1 refl in
@@ -33,7 +36,8 @@ unreachable-requires g c = let m = c.args.seat.now.me in let known = m.0.known i
     c.in_default.not-Body z.0 e.0
 
 pub load-requires-2 : goal.load-requires-2
-load-requires-2 g c = let m = c.args.seat.now.me in let known = m.0.known in let tr = trace_in m.0.parts in let k : ℕ = c.args.number in let t : ℕ = c.args.t in let j : ℕ = slot_at t BODY_SLOT in let w = c.args.words.now in
+load-requires-2 g c = let m = c.args.seat.now.me in let known = m.0.known in let tr = trace_in m.0.parts in let k : ℕ = c.args.number in
+    let t : ℕ = c.args.t in let j : ℕ = slot_at t BODY_SLOT in let w = c.args.words.now in
     let row : t < rows_of w.shape = (let h = tasks_rows w.shape in let lt = c.requires.row in omega (arith, h, lt)) in
     let z = c.load.ensures.2 t refl in let r = OutBody t (g.B.Kept.ended z.0) in
     let is = took_from m c.load.new.seat.me known k tr j j (Body z.0) r c.requires.rest z.1 refl in
@@ -44,7 +48,8 @@ load-requires-2 g c = let m = c.args.seat.now.me in let known = m.0.known in let
     )
 
 pub returns-clause-seat : goal.returns-clause-seat
-returns-clause-seat g c = let m = c.args.seat.now.me in let known = m.0.known in let tr = trace_in m.0.parts in let k : ℕ = c.args.number in let t : ℕ = c.args.t in let j : ℕ = slot_at t BODY_SLOT in let w = c.args.words.now in
+returns-clause-seat g c = let m = c.args.seat.now.me in let known = m.0.known in let tr = trace_in m.0.parts in let k : ℕ = c.args.number in
+    let t : ℕ = c.args.t in let j : ℕ = slot_at t BODY_SLOT in let w = c.args.words.now in
     let row : t < rows_of w.shape = (let h = tasks_rows w.shape in let lt = c.requires.row in omega (arith, h, lt)) in
     let z = c.load.ensures.2 t refl in let r = OutBody t (g.B.Kept.ended z.0) in
     let is = took_from m c.load.new.seat.me known k tr j j (Body z.0) r c.requires.rest z.1 refl in
@@ -53,7 +58,8 @@ returns-clause-seat g c = let m = c.args.seat.now.me in let known = m.0.known in
     laid_from m c.exchange-slot.new.seat.me c.load-2.new.seat.me known k tr j Empty r c.requires.rest e.1 c.load-2.ensures.2 ∙ ap (λ b. push (OutBody t (g.B.Kept.ended b)) m) body
 
 pub returns-clause-lasting : goal.returns-clause-lasting
-returns-clause-lasting g c = let m = c.args.seat.now.me in let known = m.0.known in let tr = trace_in m.0.parts in let k : ℕ = c.args.number in let t : ℕ = c.args.t in let j : ℕ = slot_at t BODY_SLOT in let w = c.args.words.now in
+returns-clause-lasting g c = let m = c.args.seat.now.me in let known = m.0.known in let tr = trace_in m.0.parts in let k : ℕ = c.args.number in
+    let t : ℕ = c.args.t in let j : ℕ = slot_at t BODY_SLOT in let w = c.args.words.now in
     let row : t < rows_of w.shape = (let h = tasks_rows w.shape in let lt = c.requires.row in omega (arith, h, lt)) in
     let z = c.load.ensures.2 t refl in let r = OutBody t (g.B.Kept.ended z.0) in
     let is = took_from m c.load.new.seat.me known k tr j j (Body z.0) r c.requires.rest z.1 refl in

@@ -1,5 +1,5 @@
 use Rattle.std.proofs.Common.{◌≡◌, length}
-use Rattle.word_table.proofs.shape_tests.made_and_closed.Given as goal
+use Rattle.word_table.proofs.shape_tests.numbered_bodies.Given as goal
 
 abbrev pub invariant-loop-t : goal.invariant-loop-t
 invariant-loop-t l = length l.bodies.items ≡ l.t
