@@ -3,5 +3,4 @@ pub mod Ends
 mod Entered
 pub mod Firsts
 pub mod Sleepers
-mod Tokens
 pub mod Tokens

@@ -2,6 +2,8 @@
 #![tactic(auto)]
 
 mod locks;
+#[cfg(test)]
+mod run_tests;
 mod runs;
 mod sleeps;
 mod threads;

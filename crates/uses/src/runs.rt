@@ -1,5 +1,5 @@
 //! A task's way through a processor: started, picked, put back.
-ghost use Rattle.std.specs.Prelude.{◌≡◌, ◌≢◌, ℕ, ◌<◌, true, None, Some, IsSome};
+ghost use Rattle.std.specs.Prelude.{◌≡◌, ◌≢◌, ℕ, ◌<◌, true, None, Some, IfSome};
 ghost use Rattle.task_words.specs.Views.{IsOf, IsSame, IsSameSeat};
 ghost use Rattle.word_steps.specs.Folds.{body_held, current_task, queue_held, stays_queued, task_held, task_to_clear};
 
@@ -20,6 +20,10 @@ pub fn start<B: Kept, R: Wait>(rt: &R, wk: &Wk<B>, pass: &mut Pass, t: TaskNo) -
     requires spare { 0 < pass.old.turn.spare }
     ensures same { IsSameSeat pass.old pass.new }
     ensures free { task_held pass.new.trace t ≡ None }
+    ensures free_queues { (c : ℕ) → queue_held pass.new.trace c ≡ None }
+    ensures current { current_task pass.new.seat pass.new.trace ≡ current_task pass.old.seat pass.old.trace }
+    ensures clear { task_to_clear pass.new.seat pass.new.trace ≡ task_to_clear pass.old.seat pass.old.trace }
+    ensures home { body_held pass.new.trace ≡ body_held pass.old.trace }
 {
     let task = lock_task(rt, wk, pass, t);
     let seen = load_rq(wk, pass, t);
@@ -48,7 +52,10 @@ pub fn pick<B: Kept, R: Wait>(rt: &R, wk: &Wk<B>, pass: &mut Pass) -> Option<Tas
     requires spare { 0 < pass.old.turn.spare }
     ensures same { IsSameSeat pass.old pass.new }
     ensures current { current_task pass.new.seat pass.new.trace ≡ result }
+    ensures task { IfSome result (λ t. t < wk.now.shape.tasks) }
+    ensures stays { IfSome result (λ t. stays_queued pass.new.trace ≡ true) }
     ensures free { queue_held pass.new.trace pass.new.seat ≡ None }
+    ensures home { body_held pass.new.trace ≡ body_held pass.old.trace }
 {
     let c = pass.seat();
     let mut queue = lock_queue(rt, wk, pass, c);
@@ -72,6 +79,8 @@ pub fn run<B: Kept>(wk: &Wk<B>, pass: &mut Pass, t: TaskNo)
     requires home { body_held pass.old.trace ≡ None }
     ensures same { IsSame pass.old pass.new }
     ensures current { current_task pass.new.seat pass.new.trace ≡ Some t }
+    ensures stays { stays_queued pass.new.trace ≡ stays_queued pass.old.trace }
+    ensures queues { queue_held pass.new.trace ≡ queue_held pass.old.trace }
     ensures home { body_held pass.new.trace ≡ None }
 {
     let body = body_out(wk, pass);

@@ -1,0 +1,57 @@
+//! A task is started, picked, run and put back on the smallest shape.
+ghost use Rattle.std.specs.Prelude.{◌<◌};
+ghost use Rattle.task_words.specs.Closing.{IsDone};
+ghost use Rattle.task_words.specs.Views.{IsOf, IsSameSeat};
+
+use crate::{pick, put_back, run, start};
+use handoff_data::{Entry, Shape};
+use std::sync::Wait;
+use std::test::Fail;
+use task_words::{Kept, Pass, Wk};
+
+// Whether each step of it found what it should.
+fn ran<B: Kept, R: Wait>(rt: &R, wk: &Wk<B>, pass: &mut Pass) -> bool
+    requires of { IsOf wk.now pass.old }
+    requires idle { IsDone pass.old }
+    requires task { 0 < wk.now.shape.tasks }
+    requires processor { pass.old.seat < wk.now.shape.cpus }
+    ensures { IsSameSeat pass.old pass.new }
+{
+    if pass.spare() == 0 || !start(rt, wk, pass, 0) {
+        return false;
+    }
+    if pass.spare() == 0 {
+        return false;
+    }
+    let Some(t) = pick(rt, wk, pass) else {
+        return false;
+    };
+    run(wk, pass, t);
+    if pass.spare() == 0 {
+        return false;
+    }
+    put_back(rt, wk, pass, t)
+}
+
+#[test]
+fn a_task_runs_once(rt: HostRuntime) -> Result<(), Fail> {
+    let shape = Shape {
+        cpus: 1,
+        caches: 1,
+        tasks: 1,
+        conds: 0,
+        agents: 0,
+    };
+    let bodies = Vec::from_elem(rt.alloc(), (), 1)?;
+    let (wk, mut passes) = Wk::new(rt.alloc(), &shape, bodies)?;
+    let Some(mut pass) = passes.pop() else {
+        return Err(Fail::from("no pass"));
+    };
+    assert!(rt; pass.seat() == 0);
+    assert!(rt; ran(&rt, &wk, &mut pass));
+    assert!(rt; pass.turn().get(0) == Some(Entry::New { t: 0, m: 1, c: 0 }));
+    assert!(rt; pass.turn().get(1) == Some(Entry::Pick { t: 0, n: 1, c: 0 }));
+    assert!(rt; pass.turn().get(2) == Some(Entry::Finish { t: 0, n: 2, c: 0 }));
+    assert!(rt; pass.turn().get(3).is_none());
+    Ok(())
+}
