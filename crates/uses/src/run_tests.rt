@@ -1,5 +1,5 @@
 //! A task is started, picked, run and put back on the smallest shape.
-ghost use Rattle.std.specs.Prelude.{◌<◌};
+ghost use Rattle.std.specs.Prelude.{◌≡◌, ◌<◌, true};
 ghost use Rattle.task_words.specs.Closing.{IsDone};
 ghost use Rattle.task_words.specs.Views.{IsOf, IsSameSeat};
 
@@ -15,7 +15,8 @@ fn ran<B: Kept, R: Wait>(rt: &R, wk: &Wk<B>, pass: &mut Pass) -> bool
     requires idle { IsDone pass.old }
     requires task { 0 < wk.now.shape.tasks }
     requires processor { pass.old.seat < wk.now.shape.cpus }
-    ensures { IsSameSeat pass.old pass.new }
+    ensures same { IsSameSeat pass.old pass.new }
+    ensures done { result ≡ true → IsDone pass.new }
 {
     if pass.spare() == 0 || !start(rt, wk, pass, 0) {
         return false;
