@@ -1,13 +1,13 @@
 //! How values leave their slots and come back. Between two calls each slot is at home, and one whose value is out is
 //! empty.
-ghost use Rattle.std.specs.Prelude.{◌≡◌, ℕ, ◌<◌, IsSome, [], slice_index_or, unwrap_or};
+ghost use Rattle.std.specs.Prelude.{◌≡◌, ℕ, ◌<◌, ◌*◌, IsSome, [], slice_index_or, unwrap_or};
 ghost use Rattle.word_rule.specs.May.{MayGive, MayTakeBody, MayReturnBody};
 ghost use Rattle.word_rule.specs.Sorts.{lock_of, count_of, held_of, IsOf};
 ghost use Rattle.word_rule.specs.Told.{TakeTold};
 ghost use Rattle.word_steps.specs.Records.{Took, Gave, OutBody, HomeBody};
 ghost use Rattle.word_steps.specs.Words.{BODY};
 ghost use Rattle.word_steps.specs.declared.val.Val.{Val};
-ghost use Rattle.word_table.specs.Layout.{word_at, slot_at, slot_of, BODY_SLOT};
+ghost use Rattle.word_table.specs.Layout.{word_at, slot_at, slot_of, rows_of, BODY_SLOT};
 ghost use Rattle.word_table.specs.Plays.{IsRest, trace_in, push, lift};
 ghost use Rattle.word_table.specs.declared.slot.Slot.TheVariants.{Held};
 
@@ -20,7 +20,11 @@ use crate::words::Words;
 use atomic_table::Seat;
 use crossbeam_utils::Backoff;
 use std::sync::Wait;
+use std::time::Duration;
 use word_steps::Val;
+
+// How long a thread that waits for a lock sleeps at most before it tries again.
+const NAP_MICROS: u64 = 50;
 
 // The word of a lock.
 fn word_of<L: Lock>(n: u32) -> usize
@@ -53,17 +57,32 @@ fn acquire<B: Kept, L: Lock, R: Wait>(
     let backoff = Backoff::new();
     let word = word_of::<L>(n);
     for _ in rt.forever() {
-        if words
+        let found = words
             .table
             .shared
-            .compare_exchange::<Take<L>>(seat, word, 0, 1 + number as u64)
-            == 0
-        {
+            .compare_exchange::<Take<L>>(seat, word, 0, 1 + number as u64);
+        if found == 0 {
             return;
         }
-        backoff.snooze();
+        back_off(rt, words, &backoff, word, found);
     }
     unreachable!()
+}
+
+// Backs off, and after some tries sleeps while the lock's word is as it was found, for no longer than a nap: so who gives
+// the lock need not wake anybody.
+fn back_off<B: Kept, R: Wait>(rt: &R, words: &Words<B>, backoff: &Backoff, word: usize, found: u64)
+    requires word { word < STRIDE * rows_of words.now.shape }
+{
+    if !backoff.is_completed() {
+        backoff.snooze();
+        return;
+    }
+    let low = (found % (1 << 32)) as u32;
+    words
+        .table
+        .shared
+        .park_timeout(rt, word, low, Duration::from_micros(NAP_MICROS));
 }
 
 /// Takes a lock, and its value out.
