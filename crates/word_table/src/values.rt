@@ -131,12 +131,11 @@ pub(crate) fn give_value<B: Kept, L: Lock>(
 {
     let word = word_of::<L>(n);
     words.table.shared.load::<Lift<L>>(seat, word);
-    drop(
-        words
-            .table
-            .shared
-            .exchange(seat, slot_under::<L>(n), Slot::Held(val)),
-    );
+    let slot = words
+        .table
+        .shared
+        .exchange(seat, slot_under::<L>(n), Slot::Held(val));
+    let Slot::Empty = slot else { unreachable!() };
     words.table.shared.store::<Give<L>>(seat, word, 0);
 }
 
@@ -186,11 +185,10 @@ pub(crate) fn put_body<B: Kept>(
 {
     let word = STRIDE * t as usize + BODY;
     words.table.shared.load::<LiftBody>(seat, word);
-    drop(
-        words
-            .table
-            .shared
-            .exchange(seat, SLOTS * t as usize + BODY, Slot::Body(body)),
-    );
+    let slot = words
+        .table
+        .shared
+        .exchange(seat, SLOTS * t as usize + BODY, Slot::Body(body));
+    let Slot::Empty = slot else { unreachable!() };
     words.table.shared.load::<Come>(seat, word);
 }

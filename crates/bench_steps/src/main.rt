@@ -1,0 +1,35 @@
+//! How long each step of the shared table takes, beside the plain atomic operation.
+//!
+//! Usage: bench_steps [NAME COUNT THREADS]. With no words it makes each step some times and prints how many kinds there
+//! are; with them it prints the nanoseconds of one step and of one plain operation.
+#![tactic(auto)]
+
+mod measure;
+mod plain;
+mod step;
+mod steps;
+
+use crate::measure::{kinds, pick};
+use std::env;
+use std::process::ExitCode;
+use std::rt::Runtime;
+use std::sync::Wait;
+use std::thread::Threads;
+
+fn main(rt: HostRuntime) -> ExitCode {
+    match run(&rt) {
+        Some(()) => ExitCode::SUCCESS,
+        None => ExitCode::FAILURE,
+    }
+}
+
+fn run<R: Runtime + AllocGlobal + Threads + Wait + Sync>(rt: &R) -> Option<()> {
+    let mut words = env::args(rt).ok()?.skip(1);
+    let Some(name) = words.next() else {
+        return kinds(rt);
+    };
+    let count = words.next()?.parse::<u32>().ok()?;
+    let took = pick(rt, name.as_str(), count)?;
+    println!(rt; "{name}: {:.3} ns, plain {:.3} ns", took.step, took.plain).ok()?;
+    Some(())
+}
