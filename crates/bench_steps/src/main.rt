@@ -1,14 +1,18 @@
 //! How long each step of the shared table takes, beside the plain atomic operation.
 //!
-//! Usage: bench_steps [NAME COUNT THREADS]. With no words it makes each step some times and prints how many kinds there
-//! are; with them it prints the nanoseconds of one step and of one plain operation.
+//! Usage: bench_steps [NAME COUNT [SEATS]]. With no words it makes each step some times and prints how many kinds there
+//! are. With two it prints the nanoseconds of one step and of one plain operation; where NAME is `crowd`, so many seats,
+//! each in a thread, take and give one lock so many times each.
 #![tactic(auto)]
 
+mod crowd;
 mod measure;
 mod plain;
 mod step;
 mod steps;
+mod table;
 
+use crate::crowd::crowd;
 use crate::measure::{kinds, pick};
 use std::env;
 use std::process::ExitCode;
@@ -26,9 +30,15 @@ fn main(rt: HostRuntime) -> ExitCode {
 fn run<R: Runtime + AllocGlobal + Threads + Wait + Sync>(rt: &R) -> Option<()> {
     let mut words = env::args(rt).ok()?.skip(1);
     let Some(name) = words.next() else {
+        crowd(rt, 2, 3)?;
         return kinds(rt);
     };
     let count = words.next()?.parse::<u32>().ok()?;
+    if let Some(seats) = words.next() {
+        let took = crowd(rt, seats.parse::<u32>().ok()?, count)?;
+        println!(rt; "{name}: {took:.1} ns").ok()?;
+        return Some(());
+    }
     let took = pick(rt, name.as_str(), count)?;
     println!(rt; "{name}: {:.3} ns, plain {:.3} ns", took.step, took.plain).ok()?;
     Some(())

@@ -3,14 +3,13 @@ ghost use Rattle.std.specs.Prelude.{◌≡◌, ◌<◌};
 ghost use Rattle.word_table.specs.Views.{IsOf, IsSame};
 
 use crate::plain::{Plain, repeat_plain};
-use crate::step::{Idle, Step, repeat};
+use crate::step::{Step, repeat};
 use crate::steps::{Bump, Busy, Cond, Cpu, LoadState, Match, Queue, Rq, Task, WaitQueue, Works};
-use handoff_data::Shape;
+use crate::table::small_table;
 use std::rt::Runtime;
 use std::sync::Wait;
 use std::sync::atomic::AtomicU64;
 use std::time::Instant;
-use word_table::Words;
 
 /// Nanoseconds of one step, and of the plain operation beside it.
 #[derive(Clone, Copy, Drop)]
@@ -66,16 +65,9 @@ fn time<S: Step, R: Runtime + AllocGlobal + Wait>(
     plain: Plain,
     count: u32,
 ) -> Option<Took> {
-    let mut bodies = Vec::with_capacity(rt.alloc(), 1).ok()?;
-    bodies.push_reserved(Idle);
-    let shape = Shape {
-        cpus: 1,
-        caches: 1,
-        tasks: 1,
-        conds: 1,
-        agents: 0,
+    let Ok((words, mut tokens)) = small_table(rt.alloc(), 1) else {
+        return None;
     };
-    let (words, mut tokens) = Words::new(rt.alloc(), &shape, bodies).ok()?;
     let mut token = tokens.pop()?;
     let begun = Instant::now(rt).ok()?;
     repeat::<S, R>(rt, &words, &mut token, count);

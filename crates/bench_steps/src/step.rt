@@ -1,19 +1,10 @@
 //! A step that one thread can repeat.
-ghost use Rattle.std.specs.Prelude.{◌<◌, [], false};
+ghost use Rattle.std.specs.Prelude.{◌<◌};
 ghost use Rattle.word_table.specs.Views.{IsOf, IsSame};
 
+use crate::table::Idle;
 use std::sync::Wait;
-use word_table::{Kept, Token, Words};
-
-/// The body of a task that does nothing.
-#[derive(Drop)]
-pub struct Idle;
-
-impl Kept for Idle {
-    ghost lasting = { λ _. [] };
-
-    ghost ended = { λ _. false };
-}
+use word_table::{Token, Words};
 
 /// A step, or some that leave the seat as it was, of the first task, processor and condition.
 pub trait Step {

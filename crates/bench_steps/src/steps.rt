@@ -2,7 +2,8 @@
 ghost use Rattle.std.specs.Prelude.{◌<◌};
 ghost use Rattle.word_table.specs.Views.{IsOf, IsSame};
 
-use crate::step::{Idle, Step};
+use crate::step::Step;
+use crate::table::Idle;
 use std::sync::Wait;
 use word_kinds::{
     BumpCond, LoadBusy, LoadCond, LoadCpu, LoadRq, LoadState as LoadsState, MatchState, Normal,
