@@ -1,8 +1,8 @@
 //! How long each step of the shared table takes, beside the plain atomic operation.
 //!
 //! Usage: bench_steps [NAME COUNT [SEATS]]. With no words it makes each step some times and prints how many kinds there
-//! are. With two it prints the nanoseconds of one step and of one plain operation; where NAME is `crowd`, so many seats,
-//! each in a thread, take and give one lock so many times each.
+//! are. With two it prints the nanoseconds of one step and of one plain operation; `beside` is two seats, each in a thread,
+//! at locks that lie side by side. With three, so many seats, each in a thread, take and give one lock so many times each.
 #![tactic(auto)]
 
 mod crowd;
@@ -12,7 +12,7 @@ mod step;
 mod steps;
 mod table;
 
-use crate::crowd::crowd;
+use crate::crowd::{beside, crowd};
 use crate::measure::{kinds, pick};
 use std::env;
 use std::process::ExitCode;
@@ -31,11 +31,17 @@ fn run<R: Runtime + AllocGlobal + Threads + Wait + Sync>(rt: &R) -> Option<()> {
     let mut words = env::args(rt).ok()?.skip(1);
     let Some(name) = words.next() else {
         crowd(rt, 2, 3)?;
+        beside(rt, 3)?;
         return kinds(rt);
     };
     let count = words.next()?.parse::<u32>().ok()?;
     if let Some(seats) = words.next() {
         let took = crowd(rt, seats.parse::<u32>().ok()?, count)?;
+        println!(rt; "{name}: {took:.1} ns").ok()?;
+        return Some(());
+    }
+    if name.as_str() == "beside" {
+        let took = beside(rt, count)?;
         println!(rt; "{name}: {took:.1} ns").ok()?;
         return Some(());
     }
