@@ -35,11 +35,12 @@ def step(name, count):
     print(f"{name}: {own:.2f} ns, plain {plain:.2f} ns, ratio {own / plain:.2f}")
 
 
-def shared(label, words, turns):
-    """The least time of a turn, and the least processor time."""
+def shared(label, words, turns, count):
+    """The least wall time of a turn, and the least processor time."""
     runs = [run(words) for _ in range(turns)]
-    least = min(float(re.search(r": ([\d.]+) ns", text).group(1)) for text, _ in runs)
-    print(f"{label}: {least:.1f} ns, {min(took for _, took in runs):.2f} s of processor time")
+    wall = min(float(re.search(r": ([\d.]+) ns", text).group(1)) for text, _ in runs)
+    took = min(took for _, took in runs) * 1e9 / count
+    print(f"{label}: {wall:.1f} ns of wall time, {took:.1f} ns of processor time a turn")
 
 
 def main():
@@ -47,8 +48,8 @@ def main():
     for name in STEPS:
         step(name, count)
     for seats in SEATS:
-        shared(f"{seats} seats at one lock", ["crowd", 4 * count // seats, seats], 3)
-    shared("two seats side by side", ["beside", count], TURNS)
+        shared(f"{seats} seats at one lock", ["crowd", 4 * count // seats, seats], 3, 4 * count)
+    shared("two seats side by side", ["beside", count], TURNS, 2 * count)
 
 
 main()

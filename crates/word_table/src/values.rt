@@ -85,32 +85,30 @@ fn back_off<B: Kept, R: Wait>(rt: &R, words: &Words<B>, backoff: &Backoff, word:
         .park_timeout(rt, word, low, Duration::from_micros(NAP_MICROS));
 }
 
-/// Takes a lock, and its value out.
+/// Takes a lock, and what is in its slot out: the lock's value.
 pub(crate) fn take_value<B: Kept, L: Lock, R: Wait>(
     rt: &R,
     words: &Words<B>,
     seat: &mut Seat<Slot<B>, View>,
     number: u32,
     n: u32,
-) -> Val
+) -> Slot<B>
     requires id { seat.old.table_id ≡ words.now.name }
     requires row { n < count_of L.sort words.now.shape }
     requires rest { IsRest seat.old.me number }
     ensures id { seat.new.table_id ≡ seat.old.table_id }
-    ensures sort { IsOf L.sort result }
-    ensures told { TakeTold seat.old.me.0.known.shape number (trace_in seat.old.me.0.parts) L.sort n result }
-    ensures seat { seat.new.me ≡ push (Took n result) seat.old.me }
+    ensures held { (v : Val) × (result ≡ Held v) }
+    ensures sort { (v : Val) → result ≡ Held v → IsOf L.sort v }
+    ensures told { (v : Val) → result ≡ Held v → TakeTold seat.old.me.0.known.shape number (trace_in seat.old.me.0.parts) L.sort n v }
+    ensures seat { (v : Val) → result ≡ Held v → seat.new.me ≡ push (Took n v) seat.old.me }
 {
     acquire::<B, L, R>(rt, words, seat, number, n);
     let slot = words
         .table
         .shared
         .exchange(seat, slot_under::<L>(n), Slot::Empty);
-    let Slot::Held(val) = slot else {
-        unreachable!()
-    };
     words.table.shared.load::<Lay>(seat, word_of::<L>(n));
-    val
+    slot
 }
 
 /// Puts the value home, and gives its lock.
