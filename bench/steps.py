@@ -1,8 +1,9 @@
 #!/usr/bin/env python3
 """Measures nanoseconds of each step on the shared table beside the plain atomic operation, on one processor; and of a
-lock that many threads take and give, and of two threads at words that lie side by side: the least of several turns.
+lock that many threads take and give, and of two threads at words that lie side by side: the least of several turns, which
+are short, so that some aren't interrupted.
 
-Usage: bench/steps.py [COUNT]     (default: 2000000)
+Usage: bench/steps.py [COUNT]     (default: 200000)
 The program must have been built: `rt run` in crates/bench_steps does it.
 """
 import os
@@ -16,7 +17,7 @@ PROGRAM = os.path.join(TOP, "crates", "bench_steps", "out", "bench_steps")
 STEPS = ["load_state", "match_state", "load_rq", "load_busy", "load_cpu", "load_cond", "bump_cond", "lock_task",
          "lock_queue", "lock_works", "lock_wait"]
 SEATS = [1, 2, 4, 8, 16]
-TURNS = 10
+TURNS = 40
 
 
 def run(words, cpu=None):
@@ -44,12 +45,12 @@ def shared(label, words, turns, count):
 
 
 def main():
-    count = int(sys.argv[1]) if len(sys.argv) > 1 else 2_000_000
+    count = int(sys.argv[1]) if len(sys.argv) > 1 else 200_000
     for name in STEPS:
         step(name, count)
     for seats in SEATS:
-        shared(f"{seats} seats at one lock", ["crowd", 4 * count // seats, seats], 3, 4 * count)
-    shared("two seats side by side", ["beside", count], TURNS, 2 * count)
+        shared(f"{seats} seats at one lock", ["crowd", 40 * count // seats, seats], 7, 40 * count)
+    shared("two seats side by side", ["beside", 5 * count], 12, 10 * count)
 
 
 main()
