@@ -1,7 +1,7 @@
 #!/usr/bin/env python3
 """Measures nanoseconds of each step on the shared table beside the plain atomic operation, on one processor; and of a
-lock that many threads take and give, and of two threads at words that lie side by side: the least of several turns, which
-are short, so that some aren't interrupted.
+lock that many threads take and give, and of two threads at words that lie side by side: the least of several turns,
+which are short, so that some aren't interrupted.
 
 Usage: bench/steps.py [COUNT]     (default: 200000)
 The program must have been built: `rt run` in crates/bench_steps does it.
