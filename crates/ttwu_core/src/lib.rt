@@ -2,7 +2,11 @@
 #![tactic(auto)]
 
 mod answers;
+mod claiming;
+mod finding;
 mod own;
+mod waking;
 
 pub use answers::{How, Wake};
 pub use own::wake_own;
+pub use waking::wake;

@@ -1,7 +1,8 @@
 use Rattle.std.proofs.Common.{◌∙◌, ℕ, ◌∷◌, List, sym, subst, ap, inr}
 use Rattle.core_data.specs.Queue.{Queue}
 use Rattle.handoff_data.specs.declared.shape.Shape.{Shape}
-use Rattle.run_queue.proofs.Steps.{absent_room, queue_new_may, give_new_may, new_told}
+use Rattle.run_queue.proofs.Guards.{absent_room}
+use Rattle.run_queue.proofs.Steps.{queue_new_may, give_new_may, new_told}
 use Rattle.run_queue.proofs.starting.queue_new.Goals as goal
 use Rattle.word_rule.specs.May.{MayQueueWord, MayGiveQueueVal, next_rq}
 use Rattle.word_rule.specs.Told.{TakenQueue}

@@ -4,7 +4,8 @@ use Rattle.core_kinds.specs.Steps.{fresh}
 use Rattle.handoff_data.specs.declared.state.State.{State}
 use Rattle.run_queue.specs.Queueing.{placed}
 use Rattle.run_queue.specs.Starts.{queued_new}
-use Rattle.run_queue.proofs.Steps.{gave_task, held_there, held_started}
+use Rattle.run_queue.proofs.Guards.{gave_task, held_there}
+use Rattle.run_queue.proofs.Steps.{held_started}
 use Rattle.run_queue.proofs.starting.start.Goals as goal
 use Rattle.run_queue.proofs.starting.start.Goals.{then-ne-via-then-ne, then-ne-via-else-ne+then-load_rq-ne0}
 use Rattle.handoff_data.specs.declared.entry.Entry.TheVariants as entry
