@@ -1,1 +1,5 @@
-mod Tokens
+mod Allowed
+pub mod Ends
+pub mod Firsts
+pub mod Sleepers
+pub mod Tokens

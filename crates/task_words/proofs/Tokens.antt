@@ -1,6 +1,8 @@
 -- A token from one step to the next.
-use Rattle.std.proofs.Common.{◌≡◌, ◌∙◌, sym, ap, refl, List}
-use Rattle.word_steps.specs.Records.{Rec}
+use Rattle.std.proofs.Common.{◌≡◌, ◌∙◌, sym, ap, refl}
+use Rattle.task_words.specs.Closing.{token_of}
+use Rattle.task_words.specs.Views.{PassView}
+use Rattle.task_words.specs.Views.{IsOf as IsPassOf}
 use Rattle.word_table.specs.Views.{WordsView, TokenView, IsOf, IsSame}
 
 -- nothing was done
@@ -24,4 +26,13 @@ still_of wk view a b is of x =
       table = x.same.table ∙ of.table ∙ ap (λ (w : WordsView). w.name) (sym is);
       same_shape = x.same.same_shape ∙ of.same_shape ∙ ap (λ (w : WordsView). w.shape) (sym is);
       same_lasting = x.same.same_lasting ∙ of.same_lasting ∙ ap (λ (w : WordsView). w.lasting) (sym is);
+    }
+
+-- the token of a pass is of the table that the pass is of
+pub token_is_of : (words : WordsView) (pass : PassView) (token : TokenView) → token ≡ token_of pass → IsPassOf words pass → IsOf words token
+token_is_of words pass token is of =
+    record {
+      table = ap (λ (t : TokenView). t.of) is ∙ of.table;
+      same_shape = ap (λ (t : TokenView). t.shape) is ∙ of.same_shape;
+      same_lasting = ap (λ (t : TokenView). t.lasting) is ∙ of.same_lasting;
     }

@@ -1,4 +1,7 @@
 pub mod Bodies
+pub mod Closing
+pub mod Gives
 pub mod Shown
 pub mod States
 pub mod Views
+pub mod Waited

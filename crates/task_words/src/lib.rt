@@ -3,13 +3,19 @@
 #![tactic(auto)]
 
 mod bodies;
+mod close;
 mod conds;
+mod gives;
 mod guards;
+mod life;
 mod loads;
 mod locks;
 mod pass;
 mod runs;
+#[cfg(test)]
+mod shape_tests;
 mod states;
+mod waits;
 mod wk;
 
 pub use bodies::{body_home, body_out};
@@ -20,5 +26,6 @@ pub use locks::{lock_queue, lock_task, lock_wait, lock_works};
 pub use pass::{Pass, Turn};
 pub use runs::{clear_busy, dequeue_task, move_task, queue_task, set_busy};
 pub use states::{match_state, set_running, set_state, store_cpu, store_running, store_waking};
+pub use waits::wait_clear;
 pub use wk::Wk;
-pub use word_table::Kept;
+pub use word_table::{Closed, Kept};

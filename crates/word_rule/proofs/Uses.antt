@@ -81,10 +81,10 @@ module _ (shape : Shape) (s c : ℕ) (v : Queue) (rs : List Rec) (told : TakenQu
       ]
 
   -- t was woken: put at its back, and then stored as running
-  pub gives_woken : (t m : ℕ) (given : Queue) → IsPushed v.waiting given.waiting t → given.cur ≡ v.cur
+  pub gives_woken : (t on m : ℕ) (given : Queue) → IsPushed v.waiting given.waiting t → given.cur ≡ v.cur
       → given.left ≡ v.left
-      → MayGiveQueueVal s (Released t ∷ Queued t c 0 m ∷ Took c (val.Queue v) ∷ rs) shape c given
-  gives_woken t m given pushed cur left = record {
+      → MayGiveQueueVal s (Released t ∷ Queued t c on m ∷ Took c (val.Queue v) ∷ rs) shape c given
+  gives_woken t on m given pushed cur left = record {
     taken = v;
     held = grind (arith, nat_tests);
     stands = λ u. next_count (times_in given.waiting u) v.cur given.cur u cur
@@ -99,11 +99,11 @@ module _ (shape : Shape) (s c : ℕ) (v : Queue) (rs : List Rec) (told : TakenQu
   }
     where
       waits : (u : ℕ) → times_in given.waiting u ≢ 0
-          → may_run s (Released t ∷ Queued t c 0 m ∷ Took c (val.Queue v) ∷ rs) c u ≡ true
+          → may_run s (Released t ∷ Queued t c on m ∷ Took c (val.Queue v) ∷ rs) c u ≡ true
       waits u w = grind (arith, nat_tests, w, pushed u)
 
-      next : (u : ℕ) → (may_run s (Released t ∷ Queued t c 0 m ∷ Took c (val.Queue v) ∷ rs) c u ≡ true)
-          ⊎ (has_added (Released t ∷ Queued t c 0 m ∷ Took c (val.Queue v) ∷ rs) c u ≡ false)
+      next : (u : ℕ) → (may_run s (Released t ∷ Queued t c on m ∷ Took c (val.Queue v) ∷ rs) c u ≡ true)
+          ⊎ (has_added (Released t ∷ Queued t c on m ∷ Took c (val.Queue v) ∷ rs) c u ≡ false)
       next u = elim (cases_eq u t) [
         | inl same ↦ inl (grind (arith, nat_tests, same))
         | inr apart ↦ inr (grind (arith, nat_tests, apart))

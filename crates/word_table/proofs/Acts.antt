@@ -10,17 +10,23 @@ use Rattle.atomic_table.specs.Table.{State}
 use Rattle.atomic_table.proofs.Lists.{at_set, set_here, set_else}
 use Rattle.core_data.specs.Table.{put}
 use Rattle.core_stores.proofs.Columns.{put_there, put_other}
+use Rattle.core_data.specs.Entries.{has_entry}
+use Rattle.core_data.specs.declared.values.WaitEntry.{WaitEntry}
 use Rattle.word_rule.specs.Kept.{Kept}
+use Rattle.word_rule.specs.Sorts.{OfWait}
 use Rattle.word_steps.specs.Records.{Rec}
 use Rattle.word_steps.specs.Words.{words_of}
-use Rattle.word_table.specs.Layout.{SLOTS, BODY_SLOT, rows_of, slot_at}
+use Rattle.word_steps.specs.declared.val.Val.TheVariants as val
+use Rattle.word_table.proofs.Exclusives.{TellsAll, told_still, told_gone, told_put}
+use Rattle.word_table.specs.Exclusives.{exclusive_entry, gave_exclusive, ExclusivesTold}
+use Rattle.word_table.specs.Layout.{SLOTS, BODY_SLOT, rows_of, slot_of, slot_at}
 use Rattle.word_table.specs.Outs.{has_out}
 use Rattle.word_table.specs.Parts.{Known}
 use Rattle.word_table.specs.Plays.{one, part}
 use Rattle.word_table.specs.Ruled.{Each, Fits, SlotOut, IsRoomed, IsBody, homes_of, known_of, Ruled}
 use Rattle.word_table.specs.declared.slot.Key.{Key}
 use Rattle.word_table.specs.declared.slot.Slot.{Slot}
-use Rattle.word_table.specs.declared.slot.Slot.TheVariants.{Empty, Body}
+use Rattle.word_table.specs.declared.slot.Slot.TheVariants.{Empty, Held, Body}
 use Rattle.word_table.specs.declared.view.View.{View}
 
 pub each_map : {A : Type 0} (P Q : A → Type 0) (xs : List A) → ((x : A) → P x → Q x) → Each P xs → Each Q xs
@@ -84,9 +90,10 @@ module _ {B : Type 0} (lasting : B → List ℕ) (ended_of : B → Bool) (key : 
   moved : (s : St) (r : R s) (id k : ℕ) (known : Known) (tr tr' : List Rec) (h h' i x : ℕ) (homes' : Lying) (keeper' : ℕ → ℕ) (ended' : ℕ → Bool)
       → get_elem? s.views id ≡ some (one known (part k tr h)) → length homes' ≡ length s.homes
       → get_elem? homes' last ≡ get_elem? s.homes last
-      → SlotsAfter s r k tr' h' homes' keeper' → HandsAfter s r k tr' h' → BodiesAfter homes' ended' → KeptAfter s r k tr' i x homes' ended'
+      → SlotsAfter s r k tr' h' homes' keeper' → HandsAfter s r k tr' h' → BodiesAfter homes' ended'
+      → ExclusivesTold (put r.trace k tr') (homes_of homes' ended').wait → KeptAfter s r k tr' i x homes' ended'
       → R record { words = set s.words i x; homes = homes'; views = set s.views id (one known (part k tr' h')) }
-  moved s r id k known tr tr' h h' i x homes' keeper' ended' at as_long same_room slots hands bodies inv = let me = mine s r id k known tr h at in record {
+  moved s r id k known tr tr' h h' i x homes' keeper' ended' at as_long same_room slots hands bodies told inv = let me = mine s r id k known tr h at in record {
     trace = put r.trace k tr';
     hand = put r.hand k h';
     owner = r.owner;
@@ -115,6 +122,7 @@ module _ {B : Type 0} (lasting : B → List ℕ) (ended_of : B → Bool) (key : 
     hands = hands;
     bodies = bodies;
     inv = inv;
+    exclusives = told;
   }
 
   -- another slot of the seat q, after the seat k did something with the slot i
@@ -134,9 +142,9 @@ module _ {B : Type 0} (lasting : B → List ℕ) (ended_of : B → Bool) (key : 
   -- A step on a word alone
   pub steady : (s : St) (r : R s) (id k : ℕ) (known : Known) (tr tr' : List Rec) (i x : ℕ)
       → get_elem? s.views id ≡ some (one known (part k tr 0))
-      → ((j : ℕ) → has_out j tr' ≡ has_out j tr) → KeptAfter s r k tr' i x s.homes r.ended
+      → ((j : ℕ) → has_out j tr' ≡ has_out j tr) → TellsAll tr tr' → KeptAfter s r k tr' i x s.homes r.ended
       → R record { words = set s.words i x; homes = s.homes; views = set s.views id (one known (part k tr' 0)) }
-  steady s r id k known tr tr' i x at quiet inv = let me = mine s r id k known tr 0 at in
+  steady s r id k known tr tr' i x at quiet more inv = let me = mine s r id k known tr 0 at in
       let same : (j q : ℕ) → has_out j (put r.trace k tr' q) ≡ has_out j (r.trace q) = λ j. put_unseen (has_out j) r.trace k tr' (quiet j ∙ ap (has_out j) me.trace_is) in
       let hand : (q : ℕ) → put r.hand k 0 q ≡ r.hand q = put_unseen (λ (n : ℕ). n) r.hand k 0 me.hand_is in
       moved s r id k known tr tr' 0 0 i x s.homes r.keeper r.ended at refl refl
@@ -145,16 +153,16 @@ module _ {B : Type 0} (lasting : B → List ℕ) (ended_of : B → Bool) (key : 
         lies = ⊎_elim (λ t. inl (hand q ∙ t.0, t.1)) (λ t. inr ((λ e. t.0 (sym (hand q) ∙ e)), t.1)) old.lies;
       })
       (λ j q near e. same j q ∙ r.hands j q near (sym (hand q) ∙ e))
-      r.bodies inv
+      r.bodies (told_still r.trace k tr tr' me.trace_is more (homes_of s.homes r.ended).wait r.exclusives) inv
 
   -- The slot j comes into the seat's hand, which nobody else has
   pub ups : (s : St) (r : R s) (id k : ℕ) (known : Known) (tr tr' : List Rec) (j i x : ℕ)
       → get_elem? s.views id ≡ some (one known (part k tr 0)) → j < length s.homes → j < last
       → ((o : ℕ) → o ≢ j → has_out o tr' ≡ has_out o tr) → has_out j tr' ≡ true
       → ((q : ℕ) → q < seats → q ≢ k → has_out j (r.trace q) ≡ true → ⊥)
-      → KeptAfter s r k tr' i x (set s.homes j none) r.ended
+      → TellsAll tr tr' → KeptAfter s r k tr' i x (set s.homes j none) r.ended
       → R record { words = set s.words i x; homes = set s.homes j none; views = set s.views id (one known (part k tr' (suc j))) }
-  ups s r id k known tr tr' j i x at there below quiet out alone inv = let me = mine s r id k known tr 0 at in
+  ups s r id k known tr tr' j i x at there below quiet out alone more inv = let me = mine s r id k known tr 0 at in
       let same : (o q : ℕ) → o ≢ j → has_out o (put r.trace k tr' q) ≡ has_out o (r.trace q) = λ o q ne. put_unseen (has_out o) r.trace k tr' (quiet o ne ∙ ap (has_out o) me.trace_is) q in
       let out_now : has_out j (put r.trace k tr' k) ≡ true = ap (has_out j) (put_same r.trace k tr') ∙ out in
       moved s r id k known tr tr' 0 (suc j) i x (set s.homes j none) (put r.keeper j k) r.ended at (length-set s.homes j none) (set_else s.homes j last none (λ e. omega (arith, e, below)))
@@ -171,7 +179,7 @@ module _ {B : Type 0} (lasting : B → List ℕ) (ended_of : B → Bool) (key : 
       subst (λ (z : ℕ). has_out z (put r.trace k tr' q) ≡ true) is' (subst (λ (z : ℕ). has_out j (put r.trace k tr' z) ≡ true) (sym mine_too) out_now))
       (λ other. ap (has_out o) (put_other r.trace k tr' q other) ∙ r.hands o q near (sym (put_other r.hand k (suc j) q other) ∙ e)))
       (λ t b is. ⊎_elim (λ e. absurd (some-ne-none (Body b) (sym e.1))) (λ e. r.bodies t b e.1) (at_set s.homes j (slot_at t BODY_SLOT) none (some (Body b)) is))
-      inv
+      (told_gone r.trace k tr tr' me.trace_is more s.homes r.ended r.exclusives j) inv
 
   -- The slot j goes from the seat's hand to its place, with y in it
   pub downs : (s : St) (r : R s) (id k : ℕ) (known : Known) (tr tr' : List Rec) (j i x : ℕ) (y : Slot B) (ended' : ℕ → Bool)
@@ -179,9 +187,12 @@ module _ {B : Type 0} (lasting : B → List ℕ) (ended_of : B → Bool) (key : 
       → ((o : ℕ) → o ≢ j → has_out o tr' ≡ has_out o tr) → (has_out j tr' ≡ true → y ≡ Empty)
       → ((t : ℕ) (b : B) → slot_at t BODY_SLOT ≡ j → y ≡ Body b → IsBody lasting key ended_of ended' t b)
       → ((t : ℕ) → slot_at t BODY_SLOT ≢ j → r.ended t ≡ ended' t)
+      → TellsAll tr tr'
+      → ((l t : ℕ) (entries : List WaitEntry) → slot_at l (slot_of OfWait) ≡ j → y ≡ Held (val.Wait entries)
+      → has_entry entries (exclusive_entry t) ≡ true → gave_exclusive tr' l t ≡ true)
       → KeptAfter s r k tr' i x (set s.homes j (some y)) ended'
       → R record { words = set s.words i x; homes = set s.homes j (some y); views = set s.views id (one known (part k tr' 0)) }
-  downs s r id k known tr tr' j i x y ended' at there below quiet empty body others inv = let me = mine s r id k known tr (suc j) at in
+  downs s r id k known tr tr' j i x y ended' at there below quiet empty body others more new inv = let me = mine s r id k known tr (suc j) at in
       let same : (o q : ℕ) → o ≢ j → has_out o (put r.trace k tr' q) ≡ has_out o (r.trace q) = λ o q ne. put_unseen (has_out o) r.trace k tr' (quiet o ne ∙ ap (has_out o) me.trace_is) q in
       let had : has_out j (r.trace k) ≡ true = r.hands j k me.near (sym me.hand_is) in
       moved s r id k known tr tr' (suc j) 0 i x (set s.homes j (some y)) r.keeper ended' at (length-set s.homes j (some y)) (set_else s.homes j last (some y) (λ e. omega (arith, e, below)))
@@ -202,4 +213,4 @@ module _ {B : Type 0} (lasting : B → List ℕ) (ended_of : B → Bool) (key : 
       (λ t b is. ⊎_elim (λ e. body t b e.0 (some-injective y (Body b) e.1))
       (λ e. let old = r.bodies t b e.1 in record { lasts = old.lasts; ends = old.ends ∙ others t e.0 })
       (at_set s.homes j (slot_at t BODY_SLOT) (some y) (some (Body b)) is))
-      inv
+      (told_put r.trace k tr tr' me.trace_is more s.homes r.ended r.exclusives j y ended' new) inv

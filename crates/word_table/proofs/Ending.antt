@@ -14,6 +14,7 @@ use Rattle.word_steps.specs.Words.{words_of}
 use Rattle.word_table.proofs.Decoded.{body_there}
 use Rattle.word_table.proofs.Opening.{room_there}
 use Rattle.word_table.specs.End.{HasEachSeat, IsIdle, IsLeft, traces_of, part_of}
+use Rattle.word_table.specs.Exclusives.{ExclusivesTold}
 use Rattle.word_table.specs.Layout.{SLOTS, BODY_SLOT, rows_of, slot_at}
 use Rattle.word_table.specs.Ruled.{Each, Fits, homes_of, known_of, Ruled}
 use Rattle.word_table.specs.Views.{TokenView}
@@ -97,6 +98,7 @@ module _ {B : Type 0} (lasting : B → List ℕ) (ended_of : B → Bool) (key : 
       record {
         homes = homes;
         kept = kept;
+        exclusives = subst (λ (z : ℕ → List Rec). ExclusivesTold z homes.wait) traces r.exclusives;
         room = (
           room.0,
           final.4 (SLOTS * rows_of key.shape) (Room room.0) room.1,

@@ -3,6 +3,8 @@ pub mod Carries
 pub mod Decoded
 pub mod Emptying
 pub mod Ending
+pub mod Exclusives
+pub mod Gatherings
 pub mod Laying
 pub mod Moves
 pub mod Opened

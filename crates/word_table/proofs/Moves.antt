@@ -35,6 +35,7 @@ use Rattle.word_table.specs.declared.slot.Slot.{Slot}
 use Rattle.word_table.specs.declared.slot.Slot.TheVariants.{Empty, Held, Body}
 use Rattle.word_table.specs.declared.view.View.{View}
 use Rattle.word_table.proofs.Acts.{St, R, seats, mine, steady, ups, downs}
+use Rattle.word_table.proofs.Exclusives.{tells_more, tells_same, given_told}
 use Rattle.word_table.proofs.Decoded.{without_shown, home_shown, body_shown, still_shown, value_there, body_there}
 use Rattle.word_table.proofs.Rows.{count_rows, tasks_rows}
 use Rattle.word_table.proofs.Slotted.{sort_is, held_is, low_slot, quiet_out, took_out, took_else, gave_back, gave_else, left_out, left_else, came_back, came_else}
@@ -117,7 +118,7 @@ module _ {B : Type 0} (lasting : B → List ℕ) (ended_of : B → Bool) (key : 
         let homes = homes_of s.homes r.ended in
         let kept = keep key.shape (words_of s.words) homes r.trace k n y r.inv m.near lt (subst (λ (z : ℕ × List Rec). may key.shape k z.1 n z.0 y) (λ j. (sym is j, m.trace_is j)) ok) in
         let shown = words_of-set s.words n col y low (in_words s r n col row low) in (
-          steady lasting ended_of key s r id k known tr (note k tr n y x ∷ tr) (word_at n col) y at (quiet_out (note k tr n y x) tr (quiet k tr n y x))
+          steady lasting ended_of key s r id k known tr (note k tr n y x ∷ tr) (word_at n col) y at (quiet_out (note k tr n y x) tr (quiet k tr n y x)) (tells_more (note k tr n y x) tr)
               (subst (λ (z : (ℕ → ℕ → ℕ) × List Rec × ℕ). Kept key.shape z.0 homes (put r.trace k (note k z.1 n y z.2 ∷ z.1))) (λ j. (sym shown j, sym m.trace_is j, is j)) kept.0),
           subst (λ (z : Known × ℕ). told z.0.shape z.1) (λ j. (sym m.known_is j, is j)) kept.1,
         )
@@ -177,6 +178,7 @@ module _ {B : Type 0} (lasting : B → List ℕ) (ended_of : B → Bool) (key : 
         gives,
         tt,
         downs lasting ended_of key s r id k known tr tr j i (get_or s.words i 0) Empty r.ended at room (before_room n c lt low) (λ o ne. refl) (λ out. refl) (λ u b e d. let no : Empty ≡ Body b = d in cc) (λ u ne. refl)
+            (tells_same tr) (λ l u es e d has. let no : Empty ≡ Held (val.Wait es) = d in cc)
             (still_kept s r k i j (some Empty) tr m.trace_is room (sym (ap val_in gone)) (sym (ap has_body gone))),
         refl,
       )
@@ -192,7 +194,7 @@ module _ {B : Type 0} (lasting : B → List ℕ) (ended_of : B → Bool) (key : 
         one known (part k tr (suc j)),
         takes j Empty,
         lies,
-        ups lasting ended_of key s r id k known tr tr j (word_at n col) (get_or s.words (word_at n col) 0) at room (before_room n c lt low) (λ o ne. refl) out (λ q near other theirs. other (sym (r.slots j q near theirs).kept ∙ was.kept))
+        ups lasting ended_of key s r id k known tr tr j (word_at n col) (get_or s.words (word_at n col) 0) at room (before_room n c lt low) (λ o ne. refl) out (λ q near other theirs. other (sym (r.slots j q near theirs).kept ∙ was.kept)) (tells_same tr)
             (still_kept s r k (word_at n col) j none tr m.trace_is room (sym (ap val_in lies)) (sym (ap has_body lies))),
         λ u same. let e : n ≡ u = omega (arith, same) in λ h. lift (slot_at (e h) c) Empty (sat known k tr),
       )
@@ -226,7 +228,7 @@ module _ {B : Type 0} (lasting : B → List ℕ) (ended_of : B → Bool) (key : 
         takes j (Held v),
         lies,
         ups lasting ended_of key s r id k known tr (Took n v ∷ tr) j i (suc k) at room (before_room n (slot_of sort) row (low_slot sort)) (took_else sort n v there.2 tr) (took_out sort n v there.2 tr)
-            (λ q near other out. at_home s r j q (Held v) lies (λ e. let no : Empty ≡ Held v = e in cc) near out)
+            (λ q near other out. at_home s r j q (Held v) lies (λ e. let no : Empty ≡ Held v = e in cc) near out) (tells_more (Took n v) tr)
             (subst (λ (z : (ℕ → ℕ → ℕ) × Homes × List Rec). Kept key.shape z.0 z.1 (put r.trace k (Took n v ∷ z.2)))
             (λ h. (sym (words_of-set s.words n (lock_of sort) (suc k) (lock_low sort) (in_words s r n (lock_of sort) row (lock_low sort))) h, sym (without_shown s.homes r.ended sort n room) h, sym m.trace_is h))
             (take_law sort key.shape (words_of s.words) homes r.trace k n v r.inv m.near lt free there.1)),
@@ -249,7 +251,8 @@ module _ {B : Type 0} (lasting : B → List ℕ) (ended_of : B → Bool) (key : 
         gives,
         tt,
         downs lasting ended_of key s r id k known tr (Gave n v w ∷ tr) j i 0 (Held w) r.ended at room (before_room n (slot_of sort) row (low_slot sort)) (gave_else sort n v of w tr)
-            (λ out. let no : false ≡ true = sym (gave_back sort n v of w tr) ∙ out in cc) (λ u b e d. let no : Held w ≡ Body b = d in cc) (λ u ne. refl)
+            (λ out. let no : false ≡ true = sym (gave_back sort n v of w tr) ∙ out in cc) (λ u b e d. let no : Held w ≡ Body b = d in cc) (λ u ne. refl) (tells_more (Gave n v w) tr)
+            (λ l u es e d has. let x : Slot B = Held w in let y : Slot B = Held (val.Wait es) in let f : x ≡ y = d in let w' : w ≡ val.Wait es = cc in given_told n v w tr sort l u es e w' has)
             (subst (λ (z : (ℕ → ℕ → ℕ) × Homes × List Rec). Kept key.shape z.0 z.1 (put r.trace k (Gave n v w ∷ z.2)))
             (λ h. (sym (words_of-set s.words n (lock_of sort) 0 (lock_low sort) (in_words s r n (lock_of sort) row (lock_low sort))) h, sym shown h, sym m.trace_is h))
             (give_law sort key.shape (words_of s.words) homes r.trace k n v w r.inv m.near lt (ap (λ (z : List Rec). held_of sort z n) (sym m.trace_is) ∙ has) (subst (λ (z : List Rec). MayGive k z key.shape sort n w) m.trace_is may))),
@@ -274,7 +277,7 @@ module _ {B : Type 0} (lasting : B → List ℕ) (ended_of : B → Bool) (key : 
         takes j (Body b),
         there.1,
         ups lasting ended_of key s r id k known tr (OutBody t (ended_of b) ∷ tr) j i (get_or s.words i 0) at room (before_room t BODY_SLOT row (omega arith)) (left_else t (ended_of b) tr may.home) (left_out t (ended_of b) tr)
-            (λ q near other out. at_home s r j q (Body b) there.1 (λ e. let no : Empty ≡ Body b = e in cc) near out)
+            (λ q near other out. at_home s r j q (Body b) there.1 (λ e. let no : Empty ≡ Body b = e in cc) near out) (tells_more (OutBody t (ended_of b)) tr)
             (subst (λ (z : List ℕ × Homes × List Rec × Bool). Kept key.shape (words_of z.0) z.1 (put r.trace k (OutBody t z.3 ∷ z.2)))
             (λ h. (sym (set-get_or s.words i 0) h, sym (body_shown s.homes r.ended t none room) h, sym m.trace_is h, sym is.ends h)) law.1),
         λ u same. let e : t ≡ u = omega (arith, same) in (
@@ -302,6 +305,7 @@ module _ {B : Type 0} (lasting : B → List ℕ) (ended_of : B → Bool) (key : 
             (λ out. let no : false ≡ true = sym (came_back t (ended_of b) tr) ∙ out in cc)
             (λ u c e d. let e' : t ≡ u = omega (arith, e) in let d' : b ≡ c = cc in subst (λ (z : ℕ × B). IsBody lasting key ended_of ended' z.0 z.1) (λ h. (e' h, d' h)) record { lasts = lasts; ends = sym (put_there r.ended t (ended_of b) t refl) })
             (λ u ne. sym (put_other r.ended t (ended_of b) u (λ e. ne (omega (arith, e)))))
+            (tells_more (HomeBody t (ended_of b)) tr) (λ l u es e d has. let no : Body b ≡ Held (val.Wait es) = d in cc)
             (subst (λ (z : List ℕ × Homes × List Rec). Kept key.shape (words_of z.0) z.1 (put r.trace k (HomeBody t (ended_of b) ∷ z.2)))
             (λ h. (sym (set-get_or s.words i 0) h, sym (body_shown s.homes ended' t (some (Body b)) room) h, sym m.trace_is h)) law.1),
         λ u c same holds. let e : t ≡ u = omega (arith, same) in let d : Body b ≡ Body c = ap (λ (z : List (ℕ × Slot B)). slot_in z) holds in

@@ -137,6 +137,7 @@ module _ {B : Type 0} (lasting : B → List ℕ) (ended_of : B → Bool) (key : 
       words = words_of words;
       homes = end.homes;
       kept = end.kept;
+      exclusives = end.exclusives;
       state = λ t lt. ap (λ z. slice_get z t) states_are
           ∙ read_off (λ (t : ℕ). let s : State = record { 0 = words_of words t STATE } in s) key.shape.tasks t lt;
       cond = λ k lt. ap (λ z. slice_get z k) conds_are

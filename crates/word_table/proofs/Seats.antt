@@ -107,6 +107,7 @@ module _ {B : Type 0} (lasting : B → List ℕ) (ended_of : B → Bool) (key : 
     hands = r.hands;
     bodies = r.bodies;
     inv = r.inv;
+    exclusives = r.exclusives;
   }
 
   -- the seat has the parts from k on, and deals the first

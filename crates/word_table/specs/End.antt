@@ -12,6 +12,7 @@ use Rattle.word_steps.specs.Decode.{Homes}
 use Rattle.word_steps.specs.Folds.{task_held, queue_held, works_held, wait_held, body_held, current_task, task_to_clear}
 use Rattle.word_steps.specs.Records.{Rec}
 use Rattle.word_steps.specs.Words.{STATE, COND, words_of}
+use Rattle.word_table.specs.Exclusives.{ExclusivesTold}
 use Rattle.word_table.specs.Layout.{SLOTS, BODY_SLOT, rows_of, slot_at}
 use Rattle.word_table.specs.Parts.{Part}
 use Rattle.word_table.specs.Ruled.{lastings}
@@ -63,6 +64,7 @@ pub record IsLeft
     : Type 0 where
   pub homes : Homes
   pub kept : Kept key.shape (words_of words) homes (traces_of tokens)
+  pub exclusives : ExclusivesTold (traces_of tokens) homes.wait
   pub room : (v : Vec B Global) × (get_elem? slots (SLOTS * rows_of key.shape) ≡ some (Room v)) × HasRoom key.shape.tasks v
   pub bodies :
       (t : ℕ) → t < key.shape.tasks
@@ -82,6 +84,7 @@ pub record IsEnd
   pub words : ℕ → ℕ → ℕ
   pub homes : Homes
   pub kept : Kept shape words homes (traces_of tokens)
+  pub exclusives : ExclusivesTold (traces_of tokens) homes.wait
   pub state : (t : ℕ) → t < shape.tasks → slice_get states t ≡ Some (record { 0 = words t STATE })
   pub cond : (k : ℕ) → k < shape.conds → slice_get conds k ≡ Some (words k COND)
   pub ended : (t : ℕ) (b : B) → slice_get bodies t ≡ Some b → ended_of b ≡ homes.ended t

@@ -1,5 +1,7 @@
 pub mod Begin
 pub mod End
+pub mod Exclusives
+pub mod Gathered
 pub mod Kinds
 pub mod Layout
 pub mod Outs

@@ -16,6 +16,7 @@ use Rattle.word_steps.specs.Records.{Rec}
 use Rattle.word_steps.specs.Words.{STRIDE, words_of}
 use Rattle.word_steps.specs.declared.val.Val.{Val}
 use Rattle.word_steps.specs.declared.val.Val.TheVariants as val
+use Rattle.word_table.specs.Exclusives.{ExclusivesTold}
 use Rattle.word_table.specs.Layout.{SLOTS, BODY_SLOT, rows_of, slot_of, slot_at}
 use Rattle.word_table.specs.Outs.{has_out}
 use Rattle.word_table.specs.Parts.{Part, Known}
@@ -130,6 +131,7 @@ module _ {B : Type 0} (lasting : B → List ℕ) where
       pub hands : (i q : ℕ) → q < key.shape.cpus + key.shape.agents → hand q ≡ suc i → has_out i (trace q) ≡ true
       pub bodies : (t : ℕ) (b : B) → get_elem? s.homes (slot_at t BODY_SLOT) ≡ some (some (Body b)) → IsBody key ended_of ended t b
       pub inv : Kept key.shape (words_of s.words) (homes_of s.homes ended) trace
+      pub exclusives : ExclusivesTold trace (homes_of s.homes ended).wait
 
 -- parts with empty traces, numbered from k on
 abbrev pub fresh : ℕ → ℕ → List Part

@@ -7,21 +7,17 @@ ghost use mathlib.Core.Option.{some};
 ghost use lib.ListN.{get_elem?};
 ghost use Rattle.handoff_data.specs.Shape.{IsShape};
 ghost use Rattle.word_steps.specs.Words.{STRIDE, STATE, COND, words_of};
-ghost use Rattle.word_table.specs.End.{HasRoom, HasEachSeat, IsIdle, IsLeft, IsEnd, part_of, is_body};
+ghost use Rattle.word_table.specs.End.{HasRoom, HasEachSeat, IsIdle, IsLeft, IsEnd, is_body};
+ghost use Rattle.word_table.specs.Gathered.{IsGatheredOf};
 ghost use Rattle.word_table.specs.Layout.{SLOTS, BODY_SLOT, rows_of, slot_at};
-ghost use Rattle.word_table.specs.Plays.{sat};
-ghost use Rattle.word_table.specs.Ruled.{known_of, lastings};
-ghost use Rattle.word_table.specs.Views.{IsFor, IsOf};
+ghost use Rattle.word_table.specs.Ruled.{lastings};
 ghost use Rattle.word_table.specs.declared.slot.Slot.TheVariants.{Body, Room};
 
+use crate::gathered::Gathered;
 use crate::layout::{BODY_SLOT, COND, SLOTS, STATE, STRIDE, rows_of};
-use crate::plays::{Enter, Gather};
 use crate::rule::Board;
 use crate::slot::{Kept, Slot};
-use crate::token::Token;
-use crate::view::View;
 use crate::words::Words;
-use atomic_table::Seat;
 use handoff_data::State;
 use std::alloc::Global;
 
@@ -35,41 +31,17 @@ pub struct Closed<B> {
 
 type Left<B> = atomic_table::Closed<Slot<B>, Global>;
 
-fn seat_of<B: Kept>(token: Token) -> Seat<Slot<B>, View>
-    ensures id { result.table_id ≡ token.of }
-    ensures me { result.me ≡ sat (record { shape = token.shape; lasting = token.lasting }) token.seat token.trace }
-{
-    let Token { badge, seat: _ } = token;
-    badge.into_seat()
-}
-
-// One seat that has the parts of all.
-fn gather<B: Kept>(board: &Board<B>, tokens: Vec<Token>) -> Seat<Slot<B>, View>
-    requires words { 0 < board.now.shared.table_id.words }
-    requires of { All (IsFor board.now.shared.table_id board.now.shared.key.shape (lastings B.lasting board.now.shared.key)) tokens.items }
-    ensures id { result.table_id ≡ board.now.shared.table_id }
-    ensures me { result.me ≡ (record { parts = map part_of tokens.items; known = known_of B.lasting board.now.shared.key }, []) }
-{
-    let mut tokens = tokens;
-    let (_, mut all) = board.shared.load_new_seat::<Enter>(0);
-    while let Some(token) = tokens.pop() {
-        board.shared.join_seat::<Gather>(&mut all, seat_of(token));
-    }
-    all
-}
-
 // The words and slots of a table whose tokens are all there.
-fn end_of<B: Kept>(board: Board<B>, tokens: Vec<Token>) -> Left<B>
-    requires words { 0 < board.shared.table_id.words }
-    requires of { All (IsFor board.shared.table_id board.shared.key.shape (lastings B.lasting board.shared.key)) tokens.items }
-    requires all { HasEachSeat (board.shared.key.shape.cpus + board.shared.key.shape.agents) (map (λ t. t.seat) tokens.items) }
-    requires idle { All IsIdle tokens.items }
+fn end_of<B: Kept>(board: Board<B>, gathered: Gathered<B>) -> Left<B>
+    requires of { IsGatheredOf (record { name = board.shared.table_id; shape = board.shared.key.shape; lasting = lastings B.lasting board.shared.key }) gathered }
+    requires all { HasEachSeat (board.shared.key.shape.cpus + board.shared.key.shape.agents) (map (λ t. t.seat) gathered.tokens) }
+    requires idle { All IsIdle gathered.tokens }
     ensures counts { (slots_len result.words ≡ board.shared.table_id.words) × (slots_len result.slots ≡ board.shared.table_id.slots) }
     ensures words { IsFull result.words }
     ensures slots { IsFull result.slots }
-    ensures left { IsLeft B.lasting B.ended board.shared.key tokens.items (slots_items result.words) (slots_items result.slots) }
+    ensures left { IsLeft B.lasting B.ended board.shared.key gathered.tokens (slots_items result.words) (slots_items result.slots) }
 {
-    let seat = gather(&board, tokens);
+    let Gathered { seat } = gathered;
     board.close_with(seat)
 }
 
@@ -176,15 +148,15 @@ fn drop_rest<B: Kept>(mut left: Left<B>, rows: u32, tasks: u32)
 }
 
 impl<B: Kept> Words<B> {
-    /// Ends a table, once the tokens of all its seats are there, in any order, and each has given all back. It takes no
-    /// memory.
-    pub fn close(self, tokens: Vec<Token>) -> Closed<B>
-        requires of { All (IsOf self) tokens.items }
-        requires all { HasEachSeat (self.shape.cpus + self.shape.agents) (map (λ t. t.seat) tokens.items) }
-        requires idle { All IsIdle tokens.items }
+    /// Ends a table, once the tokens of all its seats have come back, in any order, and each has given all back. It takes
+    /// no memory.
+    pub fn close(self, gathered: Gathered<B>) -> Closed<B>
+        requires of { IsGatheredOf self gathered }
+        requires all { HasEachSeat (self.shape.cpus + self.shape.agents) (map (λ t. t.seat) gathered.tokens) }
+        requires idle { All IsIdle gathered.tokens }
         ensures lasting { map B.lasting result.bodies.items ≡ self.lasting }
         ensures sizes { (length result.bodies.items ≡ self.shape.tasks) × (length result.states.items ≡ self.shape.tasks) × (length result.conds.items ≡ self.shape.conds) }
-        ensures end { IsEnd B.ended self.shape tokens.items result.bodies.items result.states.items result.conds.items }
+        ensures end { IsEnd B.ended self.shape gathered.tokens result.bodies.items result.states.items result.conds.items }
     {
         let Words {
             table,
@@ -193,7 +165,7 @@ impl<B: Kept> Words<B> {
             conds,
         } = self;
         let rows = rows_of(&shape);
-        let mut left = end_of(table, tokens);
+        let mut left = end_of(table, gathered);
         let room = take_room(&mut left, rows, shape.tasks);
         let bodies = take_bodies(&mut left, shape.tasks, room);
         let states = read_states(&left, shape.tasks, states);

@@ -4,6 +4,7 @@
 
 mod carrying;
 mod close;
+mod gathered;
 mod kind;
 mod layout;
 mod life;
@@ -23,6 +24,7 @@ mod words;
 
 pub use carrying::{body_home, body_out, give, take};
 pub use close::Closed;
+pub use gathered::Gathered;
 pub use kind::Kind;
 pub use lock::{Lock, QueueLock, TaskLock, WaitLock, WorksLock};
 pub use slot::Kept;

@@ -1,8 +1,11 @@
 //! Tables of the smallest and the largest shape, and one of bodies that have ended, are made and closed.
 ghost use Rattle.std.specs.Prelude.{◌≡◌, [], ◌∷◌, false, length, IfOk};
+ghost use Rattle.std.specs.List.{All};
 ghost use Rattle.handoff_data.specs.Shape.{IsShape};
+ghost use Rattle.word_table.specs.Gathered.{IsGatheredOf};
+ghost use Rattle.word_table.specs.Views.{IsOf};
 
-use crate::{Closed, Kept, Words};
+use crate::{Closed, Gathered, Kept, Token, Words};
 use handoff_data::{NoMemory, Shape, State};
 use std::alloc::Global;
 use std::test::Fail;
@@ -27,6 +30,20 @@ fn numbered_bodies(alloc: Global, tasks: u32) -> Result<Vec<Numbered>, NoMemory>
     Ok(bodies)
 }
 
+// All tokens back.
+fn gather_all<B: Kept>(words: &Words<B>, tokens: Vec<Token>) -> Gathered<B>
+    requires of { All (IsOf words.now) tokens.items }
+    ensures of { IsGatheredOf words.now result }
+    ensures tokens { result.tokens ≡ tokens.items }
+{
+    let mut tokens = tokens;
+    let mut gathered = words.gather();
+    while let Some(token) = tokens.pop() {
+        words.take_back(&mut gathered, token);
+    }
+    gathered
+}
+
 fn made_and_closed<B: Kept>(
     alloc: Global,
     shape: &Shape,
@@ -39,7 +56,8 @@ fn made_and_closed<B: Kept>(
     ensures conds { IfOk result (λ c. length c.conds.items ≡ shape.now.conds) }
 {
     let (words, tokens) = Words::new(alloc, shape, bodies)?;
-    Ok(words.close(tokens))
+    let gathered = gather_all(&words, tokens);
+    Ok(words.close(gathered))
 }
 
 #[test]

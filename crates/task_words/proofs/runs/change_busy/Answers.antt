@@ -1,5 +1,5 @@
-use Rattle.std.proofs.Common.{◌≡◌, ◌∙◌, ◌∷◌, ℕ, sym, subst, ap, List}
-use Rattle.std.specs.Prelude.{◌^◌, ◌/◌, ◌<◌}
+use Rattle.std.proofs.Common.{◌∙◌, ◌∷◌, ℕ, sym, subst, ap, List}
+use Rattle.std.specs.Prelude.{◌/◌}
 use Rattle.task_words.proofs.Tokens.{IsStill, still, still_again, still_of, same_again}
 use Rattle.task_words.proofs.runs.change_busy.Goals as goal
 use Rattle.task_words.proofs.runs.change_busy.Goals.{then-n-lt-END+else-exchange-found, else-n-lt-END}

@@ -1,5 +1,4 @@
-use Rattle.std.proofs.Common.{◌≡◌, ◌∙◌, ◌∷◌, ℕ, sym, subst, ap, List}
-use Rattle.std.specs.Prelude.{◌^◌, ◌/◌, ◌<◌}
+use Rattle.std.proofs.Common.{◌∙◌, ◌∷◌, ℕ, sym, subst, ap, List}
 use Rattle.task_words.proofs.Tokens.{IsStill, still, still_again, still_of, same_again}
 use Rattle.task_words.proofs.runs.change_rq.Goals as goal
 use Rattle.task_words.proofs.runs.change_rq.Goals.{then-found-lt-END+else-exchange-found, else-found-lt-END}

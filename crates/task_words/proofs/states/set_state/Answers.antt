@@ -13,8 +13,8 @@ unreachable-requires g c =
 pub store-requires-clause-may : goal.store-requires-clause-may
 store-requires-clause-may g c κs within =
     let named : current_task c.pass.inside.token.seat c.pass.inside.token.trace ≡ Some c.requires.may.0 =
-      subst (λ (p : PassView). current_task p.seat p.trace ≡ Some c.requires.may.0) (sym c.pass.view_is) (c.requires.may.1 0).current in
+    subst (λ (p : PassView). current_task p.seat p.trace ≡ Some c.requires.may.0) (sym c.pass.view_is) (c.requires.may.1 0).current in
     let same : c.requires.may.0 ≡ c.in-Some.t =
-      ap (λ (o : Option ℕ). unwrap_or o 0) (sym named ∙ sym c.pass.invariant.current ∙ c.in-Some.is) in
+    ap (λ (o : Option ℕ). unwrap_or o 0) (sym named ∙ sym c.pass.invariant.current ∙ c.in-Some.is) in
     subst (λ (z : PassView × ℕ). (x : ℕ) → MayOwnWord z.0.seat z.0.trace z.1 x c.args.state.0)
     (λ i. (sym c.pass.view_is i, same i)) c.requires.may.1

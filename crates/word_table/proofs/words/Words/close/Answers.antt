@@ -12,8 +12,16 @@ use Rattle.word_table.proofs.words.Words.close.Goals as goal
 
 pub end_of-left-requires-clause-all : goal.end_of-left-requires-clause-all
 end_of-left-requires-clause-all g c κs live =
-    subst (λ (z : Shape). HasEachSeat (z.cpus + z.agents) (map (λ (t : TokenView). t.seat) c.args.tokens.items))
+    subst (λ (z : Shape). HasEachSeat (z.cpus + z.agents) (map (λ (t : TokenView). t.seat) c.args.gathered.tokens))
     (sym (c.self.invariant.3 ∙ ap (λ w. w.shape) c.self.view_is)) c.requires.all
+
+pub end_of-left-requires-clause-of : goal.end_of-left-requires-clause-of
+end_of-left-requires-clause-of g c κs live =
+    let seen = sym c.self.view_is in let of = c.requires.of in record {
+      table = of.table ∙ ap (λ w. w.name) seen;
+      same_shape = of.same_shape ∙ ap (λ w. w.shape) seen ∙ sym c.self.invariant.3;
+      same_lasting = of.same_lasting ∙ ap (λ w. w.lasting) seen;
+    }
 
 pub take_room-room-requires-clause-room : goal.take_room-room-requires-clause-room
 take_room-room-requires-clause-room g c κs live =
@@ -73,7 +81,7 @@ returns-clause-lasting g c =
     let slots = slots_items left.result.slots in let bodies = c.take_bodies-bodies.result.items in
     let read = all_read slots (slots_items c.take_room-room.new.left.slots) inner.shape key.shape bodies
     c.take_room-room.ensures.items kept.3 c.take_bodies-bodies.ensures.bodies in
-    bodies_last g.B.Kept.lasting g.B.Kept.ended key c.args.tokens.items (slots_items left.result.words) slots
+    bodies_last g.B.Kept.lasting g.B.Kept.ended key c.args.gathered.tokens (slots_items left.result.words) slots
     left.ensures.left bodies read (kept.2 ∙ ap (λ (z : Shape). z.tasks) (sym kept.3))
     ∙ ap (λ w. w.lasting) c.self.view_is
 
@@ -98,7 +106,7 @@ returns-clause-end g c =
     let same = ap slots_items (c.take_bodies-bodies.ensures.words ∙ c.take_room-room.ensures.words) in
     let states = c.read_states-states.ensures ∙ λ j. states_in (same j) (sym kept.3 j) in
     let conds = c.read_conds-conds.ensures ∙ λ j. conds_in (same j) (sym kept.3 j) in
-    subst (λ (z : Shape). IsEnd g.B.Kept.ended z c.args.tokens.items bodies c.read_states-states.result.items
+    subst (λ (z : Shape). IsEnd g.B.Kept.ended z c.args.gathered.tokens bodies c.read_states-states.result.items
     c.read_conds-conds.result.items) (kept.3 ∙ ap (λ w. w.shape) c.self.view_is)
-    (ends g.B.Kept.lasting g.B.Kept.ended key c.args.tokens.items (slots_items left.result.words) slots
+    (ends g.B.Kept.lasting g.B.Kept.ended key c.args.gathered.tokens (slots_items left.result.words) slots
     left.ensures.left bodies read c.read_states-states.result.items c.read_conds-conds.result.items states conds)

@@ -14,10 +14,13 @@ use Rattle.word_table.proofs.words.Words.new.Goals as goal
 pub new-requires : goal.new-requires
 new-requires g c =
     let seen = ap (λ v. v.items) c.of.ensures in let words = c.as_slice.ensures.value in
-    opens g.B.Kept.lasting g.B.Kept.ended record { shape = c.args.shape.now; bodies = c.of.result } c.all-mask.result c.as_slice.result.now c.in_ok-slots.slots.items
+    opens g.B.Kept.lasting g.B.Kept.ended record { shape = c.args.shape.now; bodies = c.of.result } c.all-mask.result
+    c.as_slice.result.now c.in_ok-slots.slots.items
     c.requires.shape c.all-mask.ensures (ap length seen ∙ c.requires.tasks)
-    (ap words_of words ∙ c.in_ok-words.ensures.words) (ap length words ∙ c.in_ok-words.ensures.long ∙ ap (λ (n : ℕ). 64 * n) c.rows_of-rows.ensures)
-    (subst (λ bodies. IsLaid c.args.shape.now c.all-mask.result bodies c.in_ok-slots.slots.items) (sym seen) c.in_ok-slots.ensures)
+    (ap words_of words ∙ c.in_ok-words.ensures.words)
+    (ap length words ∙ c.in_ok-words.ensures.long ∙ ap (λ (n : ℕ). 64 * n) c.rows_of-rows.ensures)
+    (subst (λ bodies. IsLaid c.args.shape.now c.all-mask.result bodies c.in_ok-slots.slots.items) (sym seen)
+    c.in_ok-slots.ensures)
 
 pub returns-clause-of : goal.returns-clause-of
 returns-clause-of g c =

@@ -1,0 +1,121 @@
+-- What a seat has done with a queue since it took the queue's lock, step by step: each shape of it allows the give. v is the
+-- queue as it was taken, and rs the trace before.
+use Rattle.std.specs.Prelude.{◌≡◌, ℕ, ◌<◌, ◌++◌, ◌∷◌, [], ◌⊎◌, Bool, true, false, List, Option, Some, None, if◌then◌else◌}
+use Rattle.core_data.specs.Queue.{Queue}
+use Rattle.core_data.specs.declared.values.TaskVal.{TaskVal}
+use Rattle.core_kinds.specs.Locks.{IsKept}
+use Rattle.handoff_data.specs.declared.shape.Shape.{Shape}
+use Rattle.handoff_data.specs.declared.state.State.{State}
+use Rattle.word_rule.specs.May.{number_of}
+use Rattle.word_rule.specs.Told.{TakenQueue, IsOff}
+use Rattle.word_steps.specs.Folds.{task_held, current_task, stays_queued, body_held, task_to_clear, is_claimed, is_moving}
+use Rattle.word_steps.specs.Records.{Rec, Took, Queued, Dequeued, SetBusy, Released, LoadedState, LoadedRq, LoadedBusy, LoadedCpu, LoadedCond}
+use Rattle.word_steps.specs.declared.val.Val.TheVariants as val
+
+-- loads, and TASK_RUNNING stored of another task, change nothing of a queue
+abbrev pub is_quiet : Rec → Bool
+is_quiet (LoadedState t mask state) = true
+is_quiet (LoadedRq t on m) = true
+is_quiet (LoadedBusy t busy n) = true
+is_quiet (LoadedCpu t c) = true
+is_quiet (LoadedCond k v) = true
+is_quiet (Released t) = true
+is_quiet r = false
+
+-- the trace before the newest of those
+abbrev pub unquiet : List Rec → List Rec
+unquiet [] = []
+unquiet (r ∷ rs) = if is_quiet r then unquiet rs else r ∷ rs
+
+module _ (shape : Shape) (s : ℕ) (trace : List Rec) (c : ℕ) where
+  -- it is as it was taken
+  pub record IsAsTaken (given : Queue) : Type 0 where
+    pub rs : List Rec
+    pub did : unquiet trace ≡ Took c (val.Queue given) ∷ rs
+    pub told : TakenQueue shape s rs c given
+
+  -- nothing was done since it was taken
+  pub record IsJustTaken (given : Queue) : Type 0 where
+    pub rs : List Rec
+    pub did : trace ≡ Took c (val.Queue given) ∷ rs
+    pub told : TakenQueue shape s rs c given
+
+  -- t was queued on it, put at the back, and stored as running
+  pub record IsWoken (given : Queue) : Type 0 where
+    pub t : ℕ
+    pub on : ℕ
+    pub m : ℕ
+    pub v : Queue
+    pub rs : List Rec
+    pub did : trace ≡ Released t ∷ Queued t c on m ∷ Took c (val.Queue v) ∷ rs
+    pub told : TakenQueue shape s rs c v
+    pub put : given ≡ record v { waiting = v.waiting ++ t ∷ [] }
+
+module _ (shape : Shape) (s : ℕ) (trace : List Rec) where
+  -- the first that waited was picked from the seat's own queue
+  pub record IsPicked (given : Queue) : Type 0 where
+    pub t : ℕ
+    pub n : ℕ
+    pub v : Queue
+    pub rs : List Rec
+    pub did : trace ≡ SetBusy t s n ∷ Took s (val.Queue v) ∷ rs
+    pub told : TakenQueue shape s rs s v
+    pub clear : task_to_clear s rs ≡ None
+    pub none : v.cur ≡ None
+    pub first : v.waiting ≡ t ∷ given.waiting
+    pub next : given ≡ record v { waiting = given.waiting; cur = Some t }
+
+  -- the seat's current task, which runs, was put back at the end
+  pub record IsPutBack (given : Queue) : Type 0 where
+    pub t : ℕ
+    pub v : Queue
+    pub rs : List Rec
+    pub did : trace ≡ LoadedState t None (record { 0 = 0 }) ∷ Took s (val.Queue v) ∷ rs
+    pub told : TakenQueue shape s rs s v
+    pub current : current_task s rs ≡ Some t
+    pub stays : stays_queued rs ≡ true
+    pub home : body_held rs ≡ None
+    pub back : given ≡ record v { waiting = v.waiting ++ t ∷ []; cur = None; left = Some t }
+
+  -- it left the queue to sleep, or to die
+  pub record IsAsleep (given : Queue) : Type 0 where
+    pub t : ℕ
+    pub m : ℕ
+    pub state : State
+    pub v : Queue
+    pub rs : List Rec
+    pub did : trace ≡ Dequeued t s m ∷ LoadedState t None state ∷ Took s (val.Queue v) ∷ rs
+    pub told : TakenQueue shape s rs s v
+    pub current : current_task s rs ≡ Some t
+    pub home : body_held rs ≡ None
+    pub gone : given ≡ record v { cur = None; left = Some t }
+
+  -- there is room for t at the back: it was on no queue and was queued on this one, or it is the seat's own current task
+  pub record IsQueuedHere (c t : ℕ) (now : Queue) : Type 0 where
+    pub rs : List Rec
+    pub on : ℕ
+    pub m : ℕ
+    pub did : trace ≡ Queued t c on m ∷ Took c (val.Queue now) ∷ rs
+    pub told : TakenQueue shape s rs c now
+    pub off : IsOff rs t
+
+  pub record IsCurrentHere (c t : ℕ) (now : Queue) : Type 0 where
+    pub rs : List Rec
+    pub did : unquiet trace ≡ Took c (val.Queue now) ∷ rs
+    pub own : s ≡ c
+    pub told : TakenQueue shape s rs c now
+    pub current : current_task s rs ≡ Some t
+
+  abbrev pub HasRoomFor : ℕ → ℕ → Queue → Type 0
+  HasRoomFor c t now = IsQueuedHere c t now ⊎ IsCurrentHere c t now
+
+-- a task that was queued under its lock, and isn't half way to a queue
+pub record IsQueuedUnder (shape : Shape) (trace : List Rec) (t : ℕ) (given : TaskVal) : Type 0 where
+  pub taken : TaskVal
+  pub held : task_held trace t ≡ Some taken
+  pub kept : IsKept taken given
+  pub wake_cpu : given.wake_cpu < shape.cpus
+  pub dest : given.dest < shape.cpus
+  pub unclaimed : is_claimed trace t ≡ false
+  pub unmoved : is_moving trace t ≡ false
+  pub number : 0 < number_of trace t

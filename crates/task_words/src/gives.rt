@@ -1,0 +1,142 @@
+//! Queues put and given after what a seat has done with them since it took their lock.
+ghost use Rattle.std.specs.Prelude.{◌≡◌, ◌++◌, ◌∷◌, [], ◌<◌, ◌≤◌, true, Some, None, ◌+◌, MatchOption, IfSome, IsSome, unwrap_or};
+ghost use Rattle.handoff_data.specs.declared.entry.Entry.TheVariants as entry;
+ghost use Rattle.task_words.specs.Gives.{HasRoomFor, IsAsTaken, IsWoken, IsPicked, IsPutBack, IsAsleep, IsJustTaken, IsQueuedUnder};
+ghost use Rattle.task_words.specs.Views.{IsOf, IsSame, IsSameSeat, logged};
+ghost use Rattle.word_rule.specs.Standing.{may_run};
+ghost use Rattle.word_steps.specs.Folds.{current_task, queue_held, task_held, task_to_clear};
+ghost use Rattle.word_steps.specs.Records.{Gave, SetBusy};
+ghost use Rattle.word_steps.specs.declared.val.Val.TheVariants as val;
+
+use crate::guards::{QueueGuard, TaskGuard};
+use crate::pass::Pass;
+use crate::runs::set_busy;
+use crate::wk::Wk;
+use handoff_data::TaskNo;
+use std::sync::Wait;
+use word_table::Kept;
+
+// A shape has at most 200 tasks.
+fn few_tasks<B: Kept>(wk: &Wk<B>)
+    ensures { wk.now.shape.tasks ≤ 200 }
+{
+    let _words = &wk.words;
+}
+
+impl QueueGuard {
+    /// Puts a task at the back that the seat has just queued here.
+    pub fn push<B: Kept>(&mut self, wk: &Wk<B>, pass: &Pass, t: TaskNo)
+        requires of { IsOf wk.now pass.now }
+        requires task { t < wk.now.shape.tasks }
+        requires room { HasRoomFor pass.now.shape pass.now.seat pass.now.trace self.old.cpu t self.old.val }
+        ensures processor { self.new.cpu ≡ self.old.cpu }
+        ensures value { self.new.val ≡ record self.old.val { waiting = self.old.val.waiting ++ t ∷ [] } }
+    {
+        few_tasks(wk);
+        self.val.push(t);
+    }
+
+    /// Takes the first task that waits out of the seat's own queue, just taken: it may be picked.
+    pub fn pop<B: Kept>(&mut self, wk: &Wk<B>, pass: &Pass) -> Option<TaskNo>
+        requires of { IsOf wk.now pass.now }
+        requires taken { IsJustTaken pass.now.shape pass.now.seat pass.now.trace self.old.cpu self.old.val }
+        ensures processor { self.new.cpu ≡ self.old.cpu }
+        ensures value { MatchOption result ((self.old.val.waiting ≡ []) × (self.new.val ≡ self.old.val)) (λ t. (self.old.val.waiting ≡ t ∷ self.new.val.waiting) × (self.new.val ≡ record self.old.val { waiting = self.new.val.waiting })) }
+        ensures task { IfSome result (λ t. t < wk.now.shape.tasks) }
+        ensures ready { IfSome result (λ t. may_run pass.now.seat pass.now.trace self.old.cpu t ≡ true) }
+    {
+        self.val.pop()
+    }
+
+    /// Makes a task the next of the seat's own queue that stands there and may run, and sets its busy word: it is the
+    /// seat's current task. It answers the number of changes before.
+    pub fn pick<B: Kept, R: Wait>(&mut self, rt: &R, wk: &Wk<B>, pass: &mut Pass, t: TaskNo) -> u64
+        requires of { IsOf wk.now pass.old }
+        requires task { t < wk.now.shape.tasks }
+        requires own { self.old.cpu ≡ pass.old.seat }
+        requires held { IsSome (queue_held pass.old.trace pass.old.seat) }
+        requires ready { may_run pass.old.seat pass.old.trace pass.old.seat t ≡ true }
+        requires idle { current_task pass.old.seat pass.old.trace ≡ None }
+        requires clear { task_to_clear pass.old.seat pass.old.trace ≡ None }
+        requires spare { 0 < pass.old.turn.spare }
+        ensures processor { self.new.cpu ≡ self.old.cpu }
+        ensures value { self.new.val ≡ record self.old.val { cur = Some t } }
+        ensures same { IsSameSeat pass.old pass.new }
+        ensures trace { pass.new.trace ≡ SetBusy t pass.old.seat result ∷ pass.old.trace }
+        ensures turn { pass.new.turn ≡ logged (entry.Pick t (result + 1) pass.old.seat) pass.old.turn }
+    {
+        self.val.cur = Some(t);
+        set_busy(rt, wk, pass, self, t)
+    }
+
+    /// Gives the lock with the queue as it was taken.
+    pub fn give_as_taken<B: Kept>(self, wk: &Wk<B>, pass: &mut Pass)
+        requires of { IsOf wk.now pass.old }
+        requires processor { self.cpu < wk.now.shape.cpus }
+        requires may { IsAsTaken pass.old.shape pass.old.seat pass.old.trace self.cpu self.val }
+        ensures same { IsSame pass.old pass.new }
+        ensures trace { pass.new.trace ≡ Gave self.cpu (val.Queue (unwrap_or (queue_held pass.old.trace self.cpu) self.val)) (val.Queue self.val) ∷ pass.old.trace }
+    {
+        self.give(wk, pass);
+    }
+
+    /// Gives the lock after a task was queued, put at the back and then stored as running.
+    pub fn give_woken<B: Kept>(self, wk: &Wk<B>, pass: &mut Pass)
+        requires of { IsOf wk.now pass.old }
+        requires processor { self.cpu < wk.now.shape.cpus }
+        requires may { IsWoken pass.old.shape pass.old.seat pass.old.trace self.cpu self.val }
+        ensures same { IsSame pass.old pass.new }
+        ensures trace { pass.new.trace ≡ Gave self.cpu (val.Queue (unwrap_or (queue_held pass.old.trace self.cpu) self.val)) (val.Queue self.val) ∷ pass.old.trace }
+    {
+        self.give(wk, pass);
+    }
+
+    /// Gives the lock of the seat's own queue after the first task that waited was picked.
+    pub fn give_picked<B: Kept>(self, wk: &Wk<B>, pass: &mut Pass)
+        requires of { IsOf wk.now pass.old }
+        requires processor { self.cpu < wk.now.shape.cpus }
+        requires own { self.cpu ≡ pass.old.seat }
+        requires may { IsPicked pass.old.shape pass.old.seat pass.old.trace self.val }
+        ensures same { IsSame pass.old pass.new }
+        ensures trace { pass.new.trace ≡ Gave self.cpu (val.Queue (unwrap_or (queue_held pass.old.trace self.cpu) self.val)) (val.Queue self.val) ∷ pass.old.trace }
+    {
+        self.give(wk, pass);
+    }
+
+    /// Gives the lock of the seat's own queue after its current task, which runs, was put back at the end.
+    pub fn give_put_back<B: Kept>(self, wk: &Wk<B>, pass: &mut Pass)
+        requires of { IsOf wk.now pass.old }
+        requires processor { self.cpu < wk.now.shape.cpus }
+        requires own { self.cpu ≡ pass.old.seat }
+        requires may { IsPutBack pass.old.shape pass.old.seat pass.old.trace self.val }
+        ensures same { IsSame pass.old pass.new }
+        ensures trace { pass.new.trace ≡ Gave self.cpu (val.Queue (unwrap_or (queue_held pass.old.trace self.cpu) self.val)) (val.Queue self.val) ∷ pass.old.trace }
+    {
+        self.give(wk, pass);
+    }
+
+    /// Gives the lock of the seat's own queue after its current task has left the queue to sleep or to die.
+    pub fn give_asleep<B: Kept>(self, wk: &Wk<B>, pass: &mut Pass)
+        requires of { IsOf wk.now pass.old }
+        requires processor { self.cpu < wk.now.shape.cpus }
+        requires own { self.cpu ≡ pass.old.seat }
+        requires may { IsAsleep pass.old.shape pass.old.seat pass.old.trace self.val }
+        ensures same { IsSame pass.old pass.new }
+        ensures trace { pass.new.trace ≡ Gave self.cpu (val.Queue (unwrap_or (queue_held pass.old.trace self.cpu) self.val)) (val.Queue self.val) ∷ pass.old.trace }
+    {
+        self.give(wk, pass);
+    }
+}
+
+impl TaskGuard {
+    /// Gives the lock of a task that was queued under it.
+    pub fn give_queued<B: Kept>(self, wk: &Wk<B>, pass: &mut Pass)
+        requires of { IsOf wk.now pass.old }
+        requires task { self.task < wk.now.shape.tasks }
+        requires may { IsQueuedUnder pass.old.shape pass.old.trace self.task self.val }
+        ensures same { IsSame pass.old pass.new }
+        ensures trace { pass.new.trace ≡ Gave self.task (val.Task (unwrap_or (task_held pass.old.trace self.task) self.val)) (val.Task self.val) ∷ pass.old.trace }
+    {
+        self.give(wk, pass);
+    }
+}

@@ -1,0 +1,108 @@
+//! A task's way through a processor: started, picked, put back.
+ghost use Rattle.std.specs.Prelude.{◌≡◌, ◌≢◌, ℕ, ◌<◌, true, None, Some, IsSome};
+ghost use Rattle.task_words.specs.Views.{IsOf, IsSame, IsSameSeat};
+ghost use Rattle.word_steps.specs.Folds.{body_held, current_task, queue_held, stays_queued, task_held, task_to_clear};
+
+use handoff_data::{State, TaskNo};
+use std::sync::Wait;
+use task_words::{
+    Kept, Pass, Wk, body_home, body_out, clear_busy, load_cpu, load_rq, load_state, lock_queue,
+    lock_task, queue_task, store_running,
+};
+
+/// Puts a new task at the back of its processor's queue, as Linux's `wake_up_new_task`; whether it was new.
+pub fn start<B: Kept, R: Wait>(rt: &R, wk: &Wk<B>, pass: &mut Pass, t: TaskNo) -> bool
+    requires of { IsOf wk.now pass.old }
+    requires task { t < wk.now.shape.tasks }
+    requires free { task_held pass.old.trace t ≡ None }
+    requires free_queues { (c : ℕ) → queue_held pass.old.trace c ≡ None }
+    requires other { current_task pass.old.seat pass.old.trace ≢ Some t }
+    requires spare { 0 < pass.old.turn.spare }
+    ensures same { IsSameSeat pass.old pass.new }
+    ensures free { task_held pass.new.trace t ≡ None }
+{
+    let task = lock_task(rt, wk, pass, t);
+    let seen = load_rq(wk, pass, t);
+    if seen.m != 0 {
+        task.give(wk, pass);
+        return false;
+    }
+    let c = load_cpu(wk, pass, t);
+    let mut queue = lock_queue(rt, wk, pass, c);
+    queue_task(rt, wk, pass, &queue, t);
+    queue.push(wk, pass, t);
+    store_running(wk, pass, t);
+    queue.give_woken(wk, pass);
+    task.give_queued(wk, pass);
+    true
+}
+
+/// Picks the first task that waits in the seat's own queue, as Linux's `pick_next_task`; none where the queue has a next
+/// task already, or nobody waits.
+pub fn pick<B: Kept, R: Wait>(rt: &R, wk: &Wk<B>, pass: &mut Pass) -> Option<TaskNo>
+    requires of { IsOf wk.now pass.old }
+    requires processor { pass.old.seat < wk.now.shape.cpus }
+    requires free { queue_held pass.old.trace pass.old.seat ≡ None }
+    requires idle { current_task pass.old.seat pass.old.trace ≡ None }
+    requires clear { task_to_clear pass.old.seat pass.old.trace ≡ None }
+    requires spare { 0 < pass.old.turn.spare }
+    ensures same { IsSameSeat pass.old pass.new }
+    ensures current { current_task pass.new.seat pass.new.trace ≡ result }
+    ensures free { queue_held pass.new.trace pass.new.seat ≡ None }
+{
+    let c = pass.seat();
+    let mut queue = lock_queue(rt, wk, pass, c);
+    if queue.val.cur.is_some() {
+        queue.give_as_taken(wk, pass);
+        return None;
+    }
+    let Some(t) = queue.pop(wk, pass) else {
+        queue.give_as_taken(wk, pass);
+        return None;
+    };
+    queue.pick(rt, wk, pass, t);
+    queue.give_picked(wk, pass);
+    Some(t)
+}
+
+/// Takes the body of the current task out and puts it home.
+pub fn run<B: Kept>(wk: &Wk<B>, pass: &mut Pass, t: TaskNo)
+    requires of { IsOf wk.now pass.old }
+    requires current { current_task pass.old.seat pass.old.trace ≡ Some t }
+    requires home { body_held pass.old.trace ≡ None }
+    ensures same { IsSame pass.old pass.new }
+    ensures current { current_task pass.new.seat pass.new.trace ≡ Some t }
+    ensures home { body_held pass.new.trace ≡ None }
+{
+    let body = body_out(wk, pass);
+    body_home(wk, pass, body);
+}
+
+/// Puts the current task, while it runs, at the back of its queue, as Linux's `schedule` of a preempted task; whether it
+/// ran.
+pub fn put_back<B: Kept, R: Wait>(rt: &R, wk: &Wk<B>, pass: &mut Pass, t: TaskNo) -> bool
+    requires of { IsOf wk.now pass.old }
+    requires processor { pass.old.seat < wk.now.shape.cpus }
+    requires task { t < wk.now.shape.tasks }
+    requires free { queue_held pass.old.trace pass.old.seat ≡ None }
+    requires current { current_task pass.old.seat pass.old.trace ≡ Some t }
+    requires stays { stays_queued pass.old.trace ≡ true }
+    requires home { body_held pass.old.trace ≡ None }
+    requires spare { 0 < pass.old.turn.spare }
+    ensures same { IsSameSeat pass.old pass.new }
+    ensures free { queue_held pass.new.trace pass.new.seat ≡ None }
+{
+    let c = pass.seat();
+    let mut queue = lock_queue(rt, wk, pass, c);
+    let state = load_state(wk, pass, t);
+    if state != State::TASK_RUNNING {
+        queue.give_as_taken(wk, pass);
+        return false;
+    }
+    queue.push(wk, pass, t);
+    queue.val.cur = None;
+    queue.val.left = Some(t);
+    queue.give_put_back(wk, pass);
+    clear_busy(wk, pass, t);
+    true
+}
