@@ -1,25 +1,12 @@
 -- Values of locks, as they are put back.
-use Rattle.std.proofs.Common.{◌≡◌, ℕ, ◌<◌, ◌≤◌, ◌∷◌, List, length, ap, ◌∙◌, arith}
+use Rattle.std.proofs.Common.{◌≡◌, ℕ, ◌∷◌, List, ap, ◌∙◌, arith}
 use Rattle.std.specs.Prelude.{Option, Some, unwrap_or}
 use Rattle.std.proofs.lemmas.Bool.Decides.{nat_tests}
-use Rattle.core_data.specs.Queue.{Queue, times_in}
+use Rattle.core_data.specs.Queue.{Queue}
 use Rattle.core_data.specs.declared.values.TaskVal.{TaskVal}
-use Rattle.core_gives.specs.Queues.{times}
-use Rattle.handoff_data.specs.declared.shape.Shape.{Shape}
-use Rattle.handoff_data.specs.Shape.{IsShape}
 use Rattle.word_steps.specs.Folds.{task_held, queue_held}
 use Rattle.word_steps.specs.Records.{Rec, Took, Gave}
 use Rattle.word_steps.specs.declared.val.Val.TheVariants as val
-
--- a task that isn't there may be put at the back
-pub absent_room : (shape : Shape) (v : Queue) (t : ℕ) → IsShape shape → t < shape.tasks → times v t ≡ 0
-    → ((u : ℕ) → u < shape.tasks → times_in v.waiting u ≡ 0 → length v.waiting < shape.tasks)
-    → (times_in v.waiting t ≡ 0) × (length v.waiting < 200)
-absent_room shape v t is within none room =
-    let absent : times_in v.waiting t ≡ 0 = omega (arith, none) in
-    let below : length v.waiting < shape.tasks = room t within absent in
-    let few : shape.tasks ≤ 200 = is.few_tasks in
-    (absent, omega (arith, below, few))
 
 -- the lock of a task is given, as it was taken
 pub gave_task : (t k : ℕ) (v given : TaskVal) (trace rest : List Rec) → k ≡ t → trace ≡ rest → task_held rest t ≡ Some v
@@ -37,7 +24,7 @@ held_there t v rs = grind (arith, nat_tests)
 -- .. and the lock of a queue
 pub gave_queue : (c k : ℕ) (v given : Queue) (trace rest : List Rec) → k ≡ c → trace ≡ rest → queue_held rest c ≡ Some v
     → Gave k (val.Queue (unwrap_or (queue_held trace k) given)) (val.Queue given) ∷ trace
-      ≡ Gave c (val.Queue v) (val.Queue given) ∷ rest
+    ≡ Gave c (val.Queue v) (val.Queue given) ∷ rest
 gave_queue c k v given trace rest same did held =
     ap (λ (z : ℕ × List Rec). Gave z.0 (val.Queue (unwrap_or (queue_held z.1 z.0) given)) (val.Queue given) ∷ z.1)
     (λ i. (same i, did i))

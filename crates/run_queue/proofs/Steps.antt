@@ -35,11 +35,6 @@ module _ (shape : Shape) (s t c : ℕ) (v : Queue) (rs : List Rec) where
   give_new_may told =
       gives_put shape s c v (Released t ∷ rs) told t 0 0 (pushed t v) (inl refl) (λ u. grind (arith, nat_tests, times_in-push v.waiting t u)) refl refl
 
--- a new task whose lock is held is on no queue
-pub new_told : (t : ℕ) (rs : List Rec) → IsSome (task_held rs t) → number_read rs t ≡ Some 0
-    → IsSome (task_held (Released t ∷ rs) t) × (number_read (Released t ∷ rs) t ≡ Some 0)
-new_told t rs locked never = (locked, never)
-
 -- the lock of the task is still held after the start
 pub held_started : (t c from on : ℕ) (v : TaskVal) (q : Queue) (rs : List Rec)
     → task_held (queued_new t c q (placed t from c (LoadedRq t on 0 ∷ LoadedState t None fresh ∷ Took t (val.Task v) ∷ rs))) t ≡ Some v

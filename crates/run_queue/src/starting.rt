@@ -1,6 +1,5 @@
 //! A new task is started.
 ghost use Rattle.std.specs.Prelude.{◌≡◌, ℕ, ◌<◌, ◌+◌, None, Some, IsSome};
-ghost use Rattle.handoff_data.specs.Shape.{IsShape};
 ghost use Rattle.run_queue.specs.Starts.{DidStart, IsQueuedNew};
 ghost use Rattle.task_words.specs.Views.{IsOf, IsSameSeat};
 ghost use Rattle.word_steps.specs.Folds.{task_held, queue_held, number_read, last_reads};
@@ -16,7 +15,6 @@ use task_words::{Kept, Pass, Wk, load_rq, load_state, lock_queue, lock_task, sto
 // Stores TASK_RUNNING, and puts the new task at the back of its processor's queue.
 fn queue_new<B: Kept, R: Wait>(rt: &R, wk: &Wk<B>, pass: &mut Pass, t: TaskNo, c: CpuNo)
     requires of { IsOf wk.now pass.old }
-    requires shape { IsShape wk.now.shape }
     requires task { t < wk.now.shape.tasks }
     requires processor { c < wk.now.shape.cpus }
     requires locked { IsSome (task_held pass.old.trace t) }
@@ -30,7 +28,7 @@ fn queue_new<B: Kept, R: Wait>(rt: &R, wk: &Wk<B>, pass: &mut Pass, t: TaskNo, c
     store_running(wk, pass, t);
     let mut queue = lock_queue(rt, wk, pass, c);
     queue_seen(rt, wk, pass, &queue, t, Rq { on: 0, m: 0 });
-    queue.val.push(t);
+    queue.push(wk, pass, t);
     queue.give(wk, pass);
 }
 
@@ -38,7 +36,6 @@ fn queue_new<B: Kept, R: Wait>(rt: &R, wk: &Wk<B>, pass: &mut Pass, t: TaskNo, c
 /// processor's queue as TASK_RUNNING.
 pub fn start<B: Kept, R: Wait>(rt: &R, wk: &Wk<B>, pass: &mut Pass, t: TaskNo, c: CpuNo) -> Start
     requires of { IsOf wk.now pass.old }
-    requires shape { IsShape wk.now.shape }
     requires task { t < wk.now.shape.tasks }
     requires processor { c < wk.now.shape.cpus }
     requires free { task_held pass.old.trace t ≡ None }

@@ -2,15 +2,13 @@
 use Rattle.std.proofs.Common.{◌≡◌, ◌≢◌, ℕ, ◌/◌, ◌<◌, ◌∷◌, List, inl, inr, refl, arith}
 use Rattle.std.specs.Prelude.{◌^◌, true, Some, IsSome}
 use Rattle.std.proofs.lemmas.Bool.Decides.{nat_tests}
-use Rattle.core_data.proofs.QueueLemmas.{times_in-push}
 use Rattle.core_data.specs.Queue.{Queue}
 use Rattle.handoff_data.specs.declared.shape.Shape.{Shape}
-use Rattle.run_queue.specs.Queueing.{pushed}
-use Rattle.word_rule.proofs.Uses.{gives_woken, gives_same}
+use Rattle.word_rule.proofs.Uses.{gives_same}
 use Rattle.word_rule.specs.May.{MayQueueWord, MayReleaseWord, MayGiveQueueVal, next_rq}
 use Rattle.word_rule.specs.Told.{TakenQueue}
 use Rattle.word_steps.specs.Folds.{task_held, current_task, is_claimed, saw_clear, last_reads}
-use Rattle.word_steps.specs.Records.{Rec, Took, Queued, Released, LoadedRq}
+use Rattle.word_steps.specs.Records.{Rec, Took, Queued, LoadedRq}
 use Rattle.word_steps.specs.declared.val.Val.TheVariants as val
 
 -- The queueing of a claimed task
@@ -43,11 +41,6 @@ module _ (shape : Shape) (s t c m : ℕ) (v : Queue) (rs : List Rec) where
       },
     ));
   }
-
-  pub give_woken_may : TakenQueue shape s rs c v
-      → MayGiveQueueVal s (Released t ∷ Queued t c 0 m ∷ Took c (val.Queue v) ∷ rs) shape c (pushed t v)
-  give_woken_may told =
-      gives_woken shape s c v rs told t m (pushed t v) (λ u. grind (arith, nat_tests, times_in-push v.waiting t u)) refl refl
 
 -- The look for a task under the lock of its queue
 

@@ -80,7 +80,6 @@ pub fn queue_woken<B: Kept, R: Wait>(
     m: u64,
 )
     requires of { IsOf wk.now pass.old }
-    requires shape { IsShape wk.now.shape }
     requires task { t < wk.now.shape.tasks }
     requires processor { c < wk.now.shape.cpus }
     requires locked { IsSome (task_held pass.old.trace t) }
@@ -96,7 +95,7 @@ pub fn queue_woken<B: Kept, R: Wait>(
 {
     let mut queue = lock_queue(rt, wk, pass, c);
     queue_seen(rt, wk, pass, &queue, t, Rq { on: 0, m });
-    queue.val.push(t);
+    queue.push(wk, pass, t);
     store_running(wk, pass, t);
-    queue.give(wk, pass);
+    queue.give_woken(wk, pass);
 }

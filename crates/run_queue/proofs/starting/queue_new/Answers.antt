@@ -1,8 +1,7 @@
-use Rattle.std.proofs.Common.{◌∙◌, ℕ, ◌∷◌, List, sym, subst, ap, inr}
+use Rattle.std.proofs.Common.{◌∙◌, ℕ, ◌∷◌, List, sym, subst, ap}
 use Rattle.core_data.specs.Queue.{Queue}
 use Rattle.handoff_data.specs.declared.shape.Shape.{Shape}
-use Rattle.run_queue.proofs.Guards.{absent_room}
-use Rattle.run_queue.proofs.Steps.{queue_new_may, give_new_may, new_told}
+use Rattle.run_queue.proofs.Steps.{queue_new_may, give_new_may}
 use Rattle.run_queue.proofs.starting.queue_new.Goals as goal
 use Rattle.word_rule.specs.May.{MayQueueWord, MayGiveQueueVal, next_rq}
 use Rattle.word_rule.specs.Told.{TakenQueue}
@@ -20,15 +19,6 @@ queue_seen-requires-clause-may g c κs within = λ x room.
     (queue_new_may c.args.wk.now.shape c.args.pass.now.seat t c.args.c c.lock_queue-queue.result.val c.args.pass.now.trace
     c.requires.locked c.requires.never c.requires.here x room)
 
-pub push-requires-clause-room : goal.push-requires-clause-room
-push-requires-clause-room g c =
-    let told = c.lock_queue-queue.ensures.taken in
-    let shape = c.store_running.ensures.same.same.same_shape ∙ c.requires.of.same_shape in
-    let known = subst (λ (z : Shape × List Rec). TakenQueue z.0 c.store_running.new.pass.seat z.1 c.args.c c.lock_queue-queue.result.val)
-    (λ i. (shape i, c.store_running.ensures.trace i)) told in
-    (absent_room c.args.wk.now.shape c.lock_queue-queue.result.val c.args.t c.requires.shape c.requires.task
-    (known.off c.args.t (inr (inr (new_told c.args.t c.args.pass.now.trace c.requires.locked c.requires.never)))) known.room).1
-
 pub give-requires-clause-may : goal.give-requires-clause-may
 give-requires-clause-may g c κs within =
     let shape = c.store_running.ensures.same.same.same_shape ∙ c.requires.of.same_shape in
@@ -42,5 +32,5 @@ give-requires-clause-may g c κs within =
     let known = subst (λ (z : Shape × List Rec). TakenQueue z.0 c.store_running.new.pass.seat z.1 c.args.c v)
     (λ i. (shape i, c.store_running.ensures.trace i)) c.lock_queue-queue.ensures.taken in
     subst (λ (z : ℕ × List Rec × ℕ × Queue). MayGiveQueueVal z.0 z.1 c.args.wk.now.shape z.2 z.3)
-    (λ i. (sym seat i, sym trace i, sym cpu i, sym c.push.ensures i))
+    (λ i. (sym seat i, sym trace i, sym (c.push.ensures.processor ∙ cpu) i, sym c.push.ensures.value i))
     (give_new_may c.args.wk.now.shape c.store_running.new.pass.seat c.args.t c.args.c v c.args.pass.now.trace known)
