@@ -1,3 +1,4 @@
 mod Loops
+mod Sequence
 mod Steps
 mod Waiting

@@ -4,9 +4,11 @@
 mod answers;
 mod claiming;
 mod finding;
+mod law;
 mod own;
 mod waking;
 
 pub use answers::{How, Wake};
+pub use law::law_woken;
 pub use own::wake_own;
 pub use waking::wake;
