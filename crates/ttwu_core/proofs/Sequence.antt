@@ -1,19 +1,18 @@
 -- What was made after what, on the way of a wake-up.
-use Rattle.std.proofs.Common.{◌≡◌, ◌∙◌, ℕ, ◌++◌, ◌∷◌, [], List, refl, sym, ap, subst, arith}
+use Rattle.std.proofs.Common.{◌≡◌, ◌∙◌, ℕ, ◌++◌, ◌∷◌, [], List, refl, sym, ap, subst}
 use Rattle.std.specs.Prelude.{Bool, true, false, ◌==◌, if◌then◌else◌, Option, Some, None, unwrap_or}
 use Rattle.core_data.specs.declared.pos.Rq.{Rq}
-use Rattle.core_kinds.specs.Steps.{running}
 use Rattle.handoff_data.specs.declared.shape.Shape.{Shape}
 use Rattle.handoff_data.specs.declared.state.State.{State}
 use Rattle.run_queue.specs.Queueing.{placed}
 use Rattle.task_words.specs.Views.{PassView}
-use Rattle.ttwu_core.specs.Claims.{busy_reads, awaited_clear, queued_woken}
+use Rattle.ttwu_core.specs.Claims.{busy_reads, awaited_clear}
 use Rattle.ttwu_core.specs.Finds.{Look, Left, rq_reads, looked, off_reads}
-use Rattle.ttwu_core.specs.Orders.{IsSince, IsBothMade, IsReadAndReleased, IsReadAndStored, IsClaimedAndQueued}
+use Rattle.ttwu_core.specs.Orders.{IsSince, IsReadAndReleased, IsReadAndStored, IsClaimedAndQueued}
 use Rattle.ttwu_core.specs.Own.{IsOwnWoken}
 use Rattle.ttwu_core.specs.Wakes.{tested, IsRunnableStill, IsQueuedAgain}
 use Rattle.word_steps.specs.Folds.{current_task}
-use Rattle.word_steps.specs.Records.{Rec, Took, Gave, Queued, Claimed, Released, StoredOwn, LoadedState, LoadedRq, LoadedCpu, LoadedBusy, StoredCpu}
+use Rattle.word_steps.specs.Records.{Rec, Took, Gave, Claimed, Released, LoadedState, LoadedRq, LoadedCpu, LoadedBusy, StoredCpu}
 use Rattle.word_steps.specs.declared.val.Val.TheVariants as val
 
 none : (old : List Rec) → IsSince old old

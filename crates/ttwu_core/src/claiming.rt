@@ -43,7 +43,8 @@ pub fn claim<B: Kept, R: Wait>(rt: &R, wk: &Wk<B>, pass: &mut Pass, t: TaskNo, m
     requires spare { 0 < pass.old.turn.spare }
     ensures same { IsSameSeat pass.old pass.new }
     ensures did { IsTaken t m pass.old pass.new }
-    ensures keeps { Keeps pass.old.seat t pass.old.trace pass.new.trace }
+    ensures keeps { Keeps pass.old.seat pass.old.trace pass.new.trace }
+    ensures others { (u : ℕ) → u ≢ t → is_claimed pass.new.trace u ≡ is_claimed pass.old.trace u }
 {
     store_waking(wk, pass, t, m);
     await_clear(rt, wk, pass, t);
@@ -92,6 +93,7 @@ pub fn queue_woken<B: Kept, R: Wait>(
     requires spare { 0 < pass.old.turn.spare }
     ensures same { IsSameSeat pass.old pass.new }
     ensures did { IsQueuedWoken t c m pass.old pass.new }
+    ensures keeps { Keeps pass.old.seat pass.old.trace pass.new.trace }
 {
     let mut queue = lock_queue(rt, wk, pass, c);
     queue_seen(rt, wk, pass, &queue, t, Rq { on: 0, m });

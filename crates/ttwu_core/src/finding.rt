@@ -5,7 +5,7 @@ ghost use Rattle.core_data.specs.declared.pos.Rq.{Rq};
 ghost use Rattle.task_words.specs.Views.{IsOf, IsSame};
 ghost use Rattle.ttwu_core.specs.Finds.{DidFind, IsAwaited};
 ghost use Rattle.ttwu_core.specs.Keeps.{Keeps};
-ghost use Rattle.word_steps.specs.Folds.{task_held, queue_held, is_matched_by, is_unstored, current_task};
+ghost use Rattle.word_steps.specs.Folds.{is_claimed, task_held, queue_held, is_matched_by, is_unstored, current_task};
 
 use crossbeam_utils::Backoff;
 use handoff_data::TaskNo;
@@ -51,7 +51,8 @@ pub fn find<B: Kept, R: Wait>(rt: &R, wk: &Wk<B>, pass: &mut Pass, t: TaskNo) ->
     requires other { current_task pass.old.seat pass.old.trace ≢ Some t }
     ensures same { IsSame pass.old pass.new }
     ensures did { DidFind t pass.old.trace pass.new.trace result }
-    ensures keeps { Keeps pass.old.seat t pass.old.trace pass.new.trace }
+    ensures keeps { Keeps pass.old.seat pass.old.trace pass.new.trace }
+    ensures claimed { is_claimed pass.new.trace ≡ is_claimed pass.old.trace }
 {
     let first = load_rq(wk, pass, t);
     if first.on == 0 {

@@ -3,6 +3,7 @@ ghost use Rattle.std.specs.Prelude.{◌≡◌, ◌≢◌, ℕ, ◌<◌, false, N
 ghost use Rattle.handoff_data.specs.Shape.{IsShape};
 ghost use Rattle.task_words.specs.States.{IsWakeMask};
 ghost use Rattle.task_words.specs.Views.{IsOf, IsSameSeat};
+ghost use Rattle.ttwu_core.specs.Keeps.{Rests};
 ghost use Rattle.ttwu_core.specs.Wakes.{DidWake};
 ghost use Rattle.word_steps.specs.Folds.{task_held, queue_held, is_claimed, current_task};
 
@@ -37,6 +38,7 @@ pub fn wake<B: Kept, R: Wait>(
     requires spare { 1 < pass.old.turn.spare }
     ensures same { IsSameSeat pass.old pass.new }
     ensures did { DidWake t mask wk.now.shape pass.old pass.new result }
+    ensures rests { Rests pass.old.seat pass.old.trace pass.new.trace }
 {
     let mut task = lock_task(rt, wk, pass, t);
     let seen = match_state(wk, pass, t, mask);

@@ -1,8 +1,10 @@
-use Rattle.std.proofs.Common.{◌≡◌, ◌∙◌, ℕ, ◌∷◌, List, Some, sym, subst, ap}
+use Rattle.std.proofs.Common.{◌≡◌, ◌∙◌, ℕ, ◌∷◌, List, Some, None, sym, subst, ap}
+use Rattle.std.specs.Prelude.{if◌then◌else◌}
+use Rattle.core_gives.specs.Queues.{gives_up}
 use Rattle.handoff_data.specs.declared.shape.Shape.{Shape}
 use Rattle.run_queue.proofs.Guards.{gave_queue, queue_there}
 use Rattle.ttwu_core.proofs.Steps.{give_looked_may}
-use Rattle.ttwu_core.proofs.Waiting.{off_keeps, off_seen, off_number}
+use Rattle.ttwu_core.proofs.Waiting.{off_keeps, off_claimed, taken_current, off_seen, off_number}
 use Rattle.ttwu_core.proofs.finding.find.Given.{Over}
 use Rattle.ttwu_core.proofs.finding.find.Goals as goal
 use Rattle.ttwu_core.specs.Finds.{Look, Left, looked, off_reads, rq_reads}
@@ -10,7 +12,7 @@ use Rattle.ttwu_core.specs.Keeps.{Keeps}
 use Rattle.word_rule.proofs.Uses.{gives_released}
 use Rattle.word_rule.specs.May.{MayGiveQueueVal}
 use Rattle.word_rule.specs.Told.{TakenQueue}
-use Rattle.word_steps.specs.Folds.{saw_off, number_read}
+use Rattle.word_steps.specs.Folds.{current_task, is_claimed, saw_off, number_read}
 use Rattle.word_steps.specs.Records.{Rec, Took, Gave, Released, LoadedRq, LoadedCpu}
 use Rattle.word_steps.specs.declared.val.Val.TheVariants as val
 
@@ -118,9 +120,37 @@ returns-clause-did g c =
       number = ap (λ (z : List Rec). number_read z t) did ∙ off_number s t old (Some left) m;
     }
 
+-- the seat's current task stays where a queue is given as it was taken
+same_current : (g : Over) (c : goal.After-await_off-m g)
+    → (if gives_up c.args.pass.now.seat c.load_cpu-c.result c.lock_queue-queue.result.val then None else current_task c.args.pass.now.seat c.args.pass.now.trace)
+    ≡ current_task c.args.pass.now.seat c.args.pass.now.trace
+same_current g c =
+    let cpu = c.load_cpu-c.result in
+    let before = c.load_cpu-c.new.pass in
+    let trace : before.trace ≡ LoadedCpu c.args.t cpu ∷ LoadedRq c.args.t c.load_rq-first.result.on c.load_rq-first.result.m ∷ c.args.pass.now.trace =
+    c.load_cpu-c.ensures.trace ∙ ap (λ (z : List Rec). LoadedCpu c.args.t cpu ∷ z) c.load_rq-first.ensures.trace in
+    let seat = c.load_cpu-c.ensures.same.same.same_seat ∙ c.load_rq-first.ensures.same.same.same_seat in
+    taken_current before.shape c.args.pass.now.seat cpu c.lock_queue-queue.result.val
+    (LoadedCpu c.args.t cpu ∷ LoadedRq c.args.t c.load_rq-first.result.on c.load_rq-first.result.m ∷ c.args.pass.now.trace)
+    (subst (λ (z : ℕ × List Rec). TakenQueue before.shape z.0 z.1 cpu c.lock_queue-queue.result.val)
+    (λ i. (seat i, trace i)) c.lock_queue-queue.ensures.taken)
+
+left_keeps : (g : Over) (c : goal.After-await_off-m g)
+    → Keeps c.args.pass.now.seat c.args.pass.now.trace (off_reads c.args.t (Some (left_of g c)) c.await_off-m.result c.args.pass.now.trace)
+unfolding left_of
+left_keeps g c =
+    let s = c.args.pass.now.seat in
+    let old = c.args.pass.now.trace in
+    off_keeps s c.args.t old (Some (left_of g c)) c.await_off-m.result (same_current g c)
+
 pub returns-clause-keeps : goal.returns-clause-keeps
 returns-clause-keeps g c =
     let t = c.args.t in
     let s = c.args.pass.now.seat in
     let old = c.args.pass.now.trace in
-    subst (λ (z : List Rec). Keeps s t old z) (sym (left_did g c)) (off_keeps s t old (Some (left_of g c)) c.await_off-m.result)
+    subst (λ (z : List Rec). Keeps s old z) (sym (left_did g c)) (left_keeps g c)
+
+pub returns-clause-claimed : goal.returns-clause-claimed
+returns-clause-claimed g c =
+    ap is_claimed (left_did g c)
+    ∙ off_claimed c.args.pass.now.seat c.args.t c.args.pass.now.trace (Some (left_of g c)) c.await_off-m.result
