@@ -1,0 +1,36 @@
+use Rattle.std.proofs.Common.{◌∙◌, ℕ, ◌∷◌, List, sym, subst, ap}
+use Rattle.core_data.specs.Queue.{Queue}
+use Rattle.handoff_data.specs.declared.shape.Shape.{Shape}
+use Rattle.run_queue.proofs.Steps.{queue_new_may, give_new_may}
+use Rattle.run_queue.proofs.starting.queue_new.Goals as goal
+use Rattle.word_rule.specs.May.{MayQueueWord, MayGiveQueueVal, next_rq}
+use Rattle.word_rule.specs.Told.{TakenQueue}
+use Rattle.word_steps.specs.Records.{Rec, Took, Queued}
+use Rattle.word_steps.specs.declared.val.Val.TheVariants as val
+
+pub queue_seen-requires-clause-may : goal.queue_seen-requires-clause-may
+queue_seen-requires-clause-may g c κs within = λ x room.
+    let t = c.args.t in
+    let trace = c.lock_queue-queue.ensures.trace
+    ∙ ap (λ (z : List Rec). Took c.args.c (val.Queue c.lock_queue-queue.result.val) ∷ z) c.store_running.ensures.trace in
+    let seat = c.lock_queue-queue.ensures.same.same.same_seat ∙ c.store_running.ensures.same.same.same_seat in
+    subst (λ (z : ℕ × List Rec). MayQueueWord z.0 z.1 t x (next_rq x 1))
+    (λ i. (sym seat i, sym trace i))
+    (queue_new_may c.args.wk.now.shape c.args.pass.now.seat t c.args.c c.lock_queue-queue.result.val c.args.pass.now.trace
+    c.requires.locked c.requires.never c.requires.here x room)
+
+pub give-requires-clause-may : goal.give-requires-clause-may
+give-requires-clause-may g c κs within =
+    let shape = c.store_running.ensures.same.same.same_shape ∙ c.requires.of.same_shape in
+    let seat = c.queue_seen.ensures.same.same_seat ∙ c.lock_queue-queue.ensures.same.same.same_seat in
+    let cpu = c.lock_queue-queue.ensures.processor in
+    let v = c.lock_queue-queue.result.val in
+    let trace = c.queue_seen.ensures.trace
+    ∙ ap (λ (k : ℕ). Queued c.args.t k 0 0 ∷ c.lock_queue-queue.new.pass.trace) cpu
+    ∙ ap (λ (z : List Rec). Queued c.args.t c.args.c 0 0 ∷ z) (c.lock_queue-queue.ensures.trace
+    ∙ ap (λ (z : List Rec). Took c.args.c (val.Queue v) ∷ z) c.store_running.ensures.trace) in
+    let known = subst (λ (z : Shape × List Rec). TakenQueue z.0 c.store_running.new.pass.seat z.1 c.args.c v)
+    (λ i. (shape i, c.store_running.ensures.trace i)) c.lock_queue-queue.ensures.taken in
+    subst (λ (z : ℕ × List Rec × ℕ × Queue). MayGiveQueueVal z.0 z.1 c.args.wk.now.shape z.2 z.3)
+    (λ i. (sym seat i, sym trace i, sym (c.push.ensures.processor ∙ cpu) i, sym c.push.ensures.value i))
+    (give_new_may c.args.wk.now.shape c.store_running.new.pass.seat c.args.t c.args.c v c.args.pass.now.trace known)

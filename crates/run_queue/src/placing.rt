@@ -1,0 +1,25 @@
+//! The processor of a task that is on no queue.
+ghost use Rattle.std.specs.Prelude.{◌≡◌, ℕ, ◌<◌, ◌∷◌};
+ghost use Rattle.run_queue.specs.Queueing.{placed};
+ghost use Rattle.task_words.specs.Views.{IsOf, IsSame};
+ghost use Rattle.word_rule.specs.May.{MayCpuWord};
+ghost use Rattle.word_steps.specs.Records.{LoadedCpu};
+
+use handoff_data::CpuNo;
+use task_words::{Kept, Pass, TaskGuard, Wk, load_cpu, store_cpu};
+
+/// Brings a task that is on no queue to a processor: its processor word is stored where it is another. It answers the
+/// processor that the word had. As Linux's `try_to_wake_up` calls `set_task_cpu` where the processor changes.
+pub fn place<B: Kept>(wk: &Wk<B>, pass: &mut Pass, task: &TaskGuard, c: CpuNo) -> CpuNo
+    requires of { IsOf wk.now pass.old }
+    requires task { task.now.task < wk.now.shape.tasks }
+    requires may { (from x : ℕ) → MayCpuWord pass.old.seat (LoadedCpu task.now.task from ∷ pass.old.trace) wk.now.shape task.now.task x c }
+    ensures same { IsSame pass.old pass.new }
+    ensures trace { pass.new.trace ≡ placed task.now.task result c pass.old.trace }
+{
+    let from = load_cpu(wk, pass, task.task());
+    if from != c {
+        store_cpu(wk, pass, task, c);
+    }
+    from
+}

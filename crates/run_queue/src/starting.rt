@@ -1,0 +1,58 @@
+//! A new task is started.
+ghost use Rattle.std.specs.Prelude.{◌≡◌, ℕ, ◌<◌, ◌+◌, None, Some, IsSome};
+ghost use Rattle.run_queue.specs.Starts.{DidStart, IsQueuedNew};
+ghost use Rattle.task_words.specs.Views.{IsOf, IsSameSeat};
+ghost use Rattle.word_steps.specs.Folds.{task_held, queue_held, number_read, last_reads};
+
+use crate::answer::Start;
+use crate::placing::place;
+use crate::queueing::queue_seen;
+use core_data::Rq;
+use handoff_data::{CpuNo, State, TaskNo};
+use std::sync::Wait;
+use task_words::{Kept, Pass, Wk, load_rq, load_state, lock_queue, lock_task, store_running};
+
+// Stores TASK_RUNNING, and puts the new task at the back of its processor's queue.
+fn queue_new<B: Kept, R: Wait>(rt: &R, wk: &Wk<B>, pass: &mut Pass, t: TaskNo, c: CpuNo)
+    requires of { IsOf wk.now pass.old }
+    requires task { t < wk.now.shape.tasks }
+    requires processor { c < wk.now.shape.cpus }
+    requires locked { IsSome (task_held pass.old.trace t) }
+    requires never { number_read pass.old.trace t ≡ Some 0 }
+    requires here { (last_reads pass.old.trace t).cpu ≡ Some c }
+    requires free { queue_held pass.old.trace c ≡ None }
+    requires spare { 0 < pass.old.turn.spare }
+    ensures same { IsSameSeat pass.old pass.new }
+    ensures did { IsQueuedNew t c pass.old pass.new }
+{
+    store_running(wk, pass, t);
+    let mut queue = lock_queue(rt, wk, pass, c);
+    queue_seen(rt, wk, pass, &queue, t, Rq { on: 0, m: 0 });
+    queue.push(wk, pass, t);
+    queue.give(wk, pass);
+}
+
+/// Starts a new task on a processor, as Linux's `wake_up_new_task`: it is placed there, and put at the back of that
+/// processor's queue as TASK_RUNNING.
+pub fn start<B: Kept, R: Wait>(rt: &R, wk: &Wk<B>, pass: &mut Pass, t: TaskNo, c: CpuNo) -> Start
+    requires of { IsOf wk.now pass.old }
+    requires task { t < wk.now.shape.tasks }
+    requires processor { c < wk.now.shape.cpus }
+    requires free { task_held pass.old.trace t ≡ None }
+    requires free_queue { queue_held pass.old.trace c ≡ None }
+    requires spare { 0 < pass.old.turn.spare }
+    ensures same { IsSameSeat pass.old pass.new }
+    ensures did { DidStart t c pass.old pass.new result }
+{
+    let mut task = lock_task(rt, wk, pass, t);
+    let seen = load_state(wk, pass, t);
+    if seen != State::TASK_NEW || load_rq(wk, pass, t).m != 0 {
+        task.give(wk, pass);
+        return Start::NotNew { seen };
+    }
+    place(wk, pass, &task, c);
+    queue_new(rt, wk, pass, t, c);
+    task.val.wake_cpu = c;
+    task.give(wk, pass);
+    Start::Started { m: 1 }
+}

@@ -1,0 +1,5 @@
+mod Loops
+mod Resting
+mod Sequence
+mod Steps
+mod Waiting

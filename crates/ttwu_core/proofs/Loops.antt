@@ -1,0 +1,60 @@
+-- Words that are read again and again.
+use Rattle.std.proofs.Common.{◌≡◌, ◌≢◌, ◌∙◌, ℕ, ◌∷◌, [], List, refl, ap}
+use Rattle.std.specs.Prelude.{true}
+use Rattle.std.specs.List.{All}
+use Rattle.std.proofs.lemmas.List.Elements.{All-nil, All-cons}
+use Rattle.core_data.specs.declared.pos.Rq.{Rq}
+use Rattle.task_words.specs.Views.{PassView, IsSameSeat, IsSame}
+use Rattle.ttwu_core.specs.Claims.{busy_reads}
+use Rattle.ttwu_core.specs.Finds.{rq_reads}
+use Rattle.word_steps.specs.Records.{Rec, LoadedRq, LoadedBusy}
+
+pub same_seat_again : (a b c : PassView) → IsSameSeat a b → IsSameSeat b c → IsSameSeat a c
+same_seat_again a b c x y = record {
+  table = y.table ∙ x.table;
+  same_shape = y.same_shape ∙ x.same_shape;
+  same_lasting = y.same_lasting ∙ x.same_lasting;
+  same_seat = y.same_seat ∙ x.same_seat;
+}
+
+pub same_again : (a b c : PassView) → IsSame a b → IsSame b c → IsSame a c
+same_again a b c x y = record { same = same_seat_again a b c x.same y.same; same_turn = y.same_turn ∙ x.same_turn }
+
+pub same_still : (a : PassView) → IsSame a a
+same_still a = record { same = record { table = refl; same_shape = refl; same_lasting = refl; same_seat = refl }; same_turn = refl }
+
+-- the queue word
+pub record IsReading (t : ℕ) (old new : PassView) : Type 0 where
+  pub same : IsSame old new
+  pub waits : List Rq
+  pub queued : All (λ r. r.on ≢ 0) waits
+  pub did : new.trace ≡ rq_reads t waits old.trace
+
+pub reading : (t : ℕ) (a : PassView) → IsReading t a a
+reading t a = record { same = same_still a; waits = []; queued = All-nil (λ (r : Rq). r.on ≢ 0); did = refl }
+
+pub reading_on : (t : ℕ) (a b c : PassView) (r : Rq) → IsReading t a b → IsSame b c → r.on ≢ 0
+    → c.trace ≡ LoadedRq t r.on r.m ∷ b.trace → IsReading t a c
+reading_on t a b c r x same on did = record {
+  same = same_again a b c x.same same;
+  waits = r ∷ x.waits;
+  queued = All-cons (λ (y : Rq). y.on ≢ 0) r x.waits on x.queued;
+  did = did ∙ ap (λ (z : List Rec). LoadedRq t r.on r.m ∷ z) x.did;
+}
+
+-- the busy word
+pub record IsBusy (t : ℕ) (old new : PassView) : Type 0 where
+  pub same : IsSame old new
+  pub waits : List ℕ
+  pub did : new.trace ≡ busy_reads t waits old.trace
+
+pub busy : (t : ℕ) (a : PassView) → IsBusy t a a
+busy t a = record { same = same_still a; waits = []; did = refl }
+
+pub busy_on : (t n : ℕ) (a b c : PassView) → IsBusy t a b → IsSame b c
+    → c.trace ≡ LoadedBusy t true n ∷ b.trace → IsBusy t a c
+busy_on t n a b c x same did = record {
+  same = same_again a b c x.same same;
+  waits = n ∷ x.waits;
+  did = did ∙ ap (λ (z : List Rec). LoadedBusy t true n ∷ z) x.did;
+}

@@ -1,0 +1,66 @@
+-- What a whole wake-up leaves as it was, by what its parts leave.
+use Rattle.std.proofs.Common.{◌≡◌, ◌≢◌, ◌∙◌, ℕ, ◌∷◌, List, inl, inr, refl, sym, ap, subst, arith}
+use Rattle.std.specs.Prelude.{Bool, true, false, ◌==◌, if◌then◌else◌, Option}
+use Rattle.std.proofs.lemmas.Bool.{cases_eq}
+use Rattle.std.proofs.lemmas.Bool.Decides.{nat_tests}
+use Rattle.core_data.specs.Queue.{Queue}
+use Rattle.core_data.specs.declared.values.TaskVal.{TaskVal}
+use Rattle.handoff_data.specs.declared.state.State.{State}
+use Rattle.run_queue.specs.Queueing.{placed}
+use Rattle.ttwu_core.specs.Claims.{queued_woken}
+use Rattle.ttwu_core.specs.Keeps.{Keeps, Rests}
+use Rattle.ttwu_core.specs.Wakes.{tested}
+use Rattle.word_steps.specs.Folds.{task_held, is_claimed}
+use Rattle.word_steps.specs.Records.{Rec, Gave, LoadedCpu, StoredCpu}
+use Rattle.word_steps.specs.declared.val.Val.TheVariants as val
+
+pub keeps_again : (s : ℕ) (a b c : List Rec) → Keeps s a b → Keeps s b c → Keeps s a c
+keeps_again s a b c x y = record {
+  held = y.held ∙ x.held;
+  free = λ f. y.free (x.free f);
+  current = y.current ∙ x.current;
+  waits = y.waits ∙ x.waits;
+}
+
+either_keeps : (same : Bool) (s t c from : ℕ) (trace : List Rec)
+    → Keeps s trace (if same then LoadedCpu t from ∷ trace else StoredCpu t c ∷ LoadedCpu t from ∷ trace)
+either_keeps true s t c from trace = record { held = refl; free = λ f. f; current = refl; waits = refl }
+either_keeps false s t c from trace = record { held = refl; free = λ f. f; current = refl; waits = refl }
+
+pub placed_keeps : (s t c from : ℕ) (trace : List Rec) → Keeps s trace (placed t from c trace)
+placed_keeps s t c from trace = either_keeps (from == c) s t c from trace
+
+either_claimed : (same : Bool) (t c from : ℕ) (trace : List Rec)
+    → is_claimed (if same then LoadedCpu t from ∷ trace else StoredCpu t c ∷ LoadedCpu t from ∷ trace) ≡ is_claimed trace
+either_claimed true t c from trace = refl
+either_claimed false t c from trace = refl
+
+pub placed_claimed : (t c from : ℕ) (trace : List Rec) → is_claimed (placed t from c trace) ≡ is_claimed trace
+placed_claimed t c from trace = either_claimed (from == c) t c from trace
+
+pub queued_others : (t c m : ℕ) (q : Queue) (trace : List Rec) (u : ℕ) → u ≢ t
+    → is_claimed (queued_woken t c m q trace) u ≡ is_claimed trace u
+queued_others t c m q trace u apart = grind (arith, nat_tests, apart)
+
+pub queued_unclaimed : (t c m : ℕ) (q : Queue) (trace : List Rec) → is_claimed (queued_woken t c m q trace) t ≡ false
+queued_unclaimed t c m q trace = grind (arith, nat_tests)
+
+-- the lock of t was taken, and is given
+pub rests_after : (s t : ℕ) (mask seen : State) (v w given : TaskVal) (old new : List Rec)
+    → Keeps s (tested t v mask seen old) new
+    → ((u : ℕ) → u ≢ t → is_claimed new u ≡ is_claimed old u) → is_claimed new t ≡ false
+    → Rests s old (Gave t (val.Task w) (val.Task given) ∷ new)
+rests_after s t mask seen v w given old new x others unclaimed = record {
+  tasks = λ u e. elim (cases_eq u t) [
+    | inl same ↦ grind (arith, nat_tests, same)
+    | inr apart ↦ let held : task_held new u ≡ task_held (tested t v mask seen old) u = ap (λ (h : ℕ → Option TaskVal). h u) x.held in
+        grind (arith, nat_tests, apart, held, e)
+  ];
+  queues = x.free;
+  claimed = λ u e. elim (cases_eq u t) [
+    | inl same ↦ subst (λ (k : ℕ). is_claimed new k ≡ false) (sym same) unclaimed
+    | inr apart ↦ others u apart ∙ e
+  ];
+  current = x.current;
+  waits = x.waits;
+}

@@ -1,0 +1,55 @@
+use Rattle.std.proofs.Common.{◌≡◌, ◌∙◌, ℕ, ◌∷◌, List, sym, subst, ap}
+use Rattle.core_data.specs.Queue.{Queue}
+use Rattle.run_queue.proofs.Guards.{gave_queue, queue_there}
+use Rattle.ttwu_core.proofs.Waiting.{queued_keeps}
+use Rattle.ttwu_core.specs.Claims.{queued_woken}
+use Rattle.ttwu_core.specs.Keeps.{Keeps}
+use Rattle.ttwu_core.proofs.Steps.{queue_woken_may, release_woken_may}
+use Rattle.ttwu_core.proofs.claiming.queue_woken.Given.{Over}
+use Rattle.ttwu_core.proofs.claiming.queue_woken.Goals as goal
+use Rattle.word_rule.specs.May.{MayQueueWord, MayReleaseWord, next_rq}
+use Rattle.word_steps.specs.Records.{Rec, Took, Gave, Queued, Released}
+use Rattle.word_steps.specs.declared.val.Val.TheVariants as val
+
+pub queue_seen-requires-clause-may : goal.queue_seen-requires-clause-may
+queue_seen-requires-clause-may g c κs within = λ x room.
+    subst (λ (z : ℕ × List Rec). MayQueueWord z.0 z.1 c.args.t x (next_rq x 1))
+    (λ i. (sym c.lock_queue-queue.ensures.same.same.same_seat i, sym c.lock_queue-queue.ensures.trace i))
+    (queue_woken_may c.args.wk.now.shape c.args.pass.now.seat c.args.t c.args.c c.args.m c.lock_queue-queue.result.val c.args.pass.now.trace
+    c.requires.locked c.requires.claimed c.requires.clear c.requires.here x room)
+
+pub store_running-requires-clause-may : goal.store_running-requires-clause-may
+store_running-requires-clause-may g c κs within = λ x.
+    let v = c.lock_queue-queue.result.val in
+    let seat = c.queue_seen.ensures.same.same_seat ∙ c.lock_queue-queue.ensures.same.same.same_seat in
+    let trace = c.queue_seen.ensures.trace
+    ∙ ap (λ (z : ℕ × List Rec). Queued c.args.t z.0 0 c.args.m ∷ z.1)
+    (λ i. (c.lock_queue-queue.ensures.processor i, c.lock_queue-queue.ensures.trace i)) in
+    subst (λ (z : ℕ × List Rec). MayReleaseWord z.0 z.1 c.args.t x 0)
+    (λ i. (sym seat i, sym trace i))
+    (release_woken_may c.args.wk.now.shape c.args.pass.now.seat c.args.t c.args.c c.args.m v c.args.pass.now.trace c.requires.other x)
+
+woken_did : (g : Over) (c : goal.After-give_woken g)
+    → c.give_woken.new.pass.trace ≡ queued_woken c.args.t c.args.c c.args.m c.lock_queue-queue.result.val c.args.pass.now.trace
+woken_did g c =
+    let t = c.args.t in
+    let v = c.lock_queue-queue.result.val in
+    let old = c.args.pass.now.trace in
+    let at = c.lock_queue-queue.ensures.processor in
+    let stored : c.store_running.new.pass.trace ≡ Released t ∷ Queued t c.args.c 0 c.args.m ∷ Took c.args.c (val.Queue v) ∷ old =
+    c.store_running.ensures.trace ∙ ap (λ (z : List Rec). Released t ∷ z) (c.queue_seen.ensures.trace
+    ∙ ap (λ (z : ℕ × List Rec). Queued t z.0 0 c.args.m ∷ z.1) (λ i. (at i, c.lock_queue-queue.ensures.trace i))) in
+    c.give_woken.ensures.trace
+    ∙ gave_queue c.args.c c.push.new.self.cpu v c.push.new.self.val c.store_running.new.pass.trace
+    (Released t ∷ Queued t c.args.c 0 c.args.m ∷ Took c.args.c (val.Queue v) ∷ old) (c.push.ensures.processor ∙ at) stored
+    (queue_there c.args.c v old)
+    ∙ ap (λ (q : Queue). Gave c.args.c (val.Queue v) (val.Queue q) ∷ Released t ∷ Queued t c.args.c 0 c.args.m ∷ Took c.args.c (val.Queue v) ∷ old)
+    c.push.ensures.value
+
+pub returns-clause-keeps : goal.returns-clause-keeps
+returns-clause-keeps g c =
+    let v = c.lock_queue-queue.result.val in
+    let s = c.args.pass.now.seat in
+    let old = c.args.pass.now.trace in
+    subst (λ (z : List Rec). Keeps s old z) (sym (woken_did g c))
+    (queued_keeps s c.args.t old c.args.pass.now.shape c.args.c c.args.m v c.lock_queue-queue.ensures.taken)

@@ -1,0 +1,103 @@
+//! A task that is off every queue is claimed by its waker, placed, and queued.
+ghost use Rattle.std.specs.Prelude.{◌≡◌, ◌≢◌, ℕ, ◌<◌, ◌∷◌, true, false, None, Some, IsSome};
+ghost use Rattle.handoff_data.specs.Shape.{IsShape};
+ghost use Rattle.task_words.specs.Views.{IsOf, IsSame, IsSameSeat};
+ghost use Rattle.ttwu_core.specs.Claims.{IsAwaitedClear, IsTaken, IsChosen, IsPointer, IsQueuedWoken};
+ghost use Rattle.ttwu_core.specs.Keeps.{Keeps};
+ghost use Rattle.word_steps.specs.Folds.{task_held, queue_held, saw_off, saw_clear, is_claimed, number_read, last_reads, current_task};
+
+use core_data::{Rq, TaskVal};
+use crossbeam_utils::Backoff;
+use handoff_data::{CpuMask, CpuNo, Shape, TaskNo};
+use place_pick::fallback;
+use run_queue::queue_seen;
+use std::sync::Wait;
+use task_words::{Kept, Pass, Wk, load_busy, lock_queue, store_running, store_waking};
+
+// Reads the busy word of a task until it is clear. It answers the number of its changes.
+fn await_clear<B: Kept, R: Wait>(rt: &R, wk: &Wk<B>, pass: &mut Pass, t: TaskNo) -> u64
+    requires of { IsOf wk.now pass.old }
+    requires task { t < wk.now.shape.tasks }
+    ensures same { IsSame pass.old pass.new }
+    ensures did { IsAwaitedClear t result pass.old.trace pass.new.trace }
+{
+    let backoff = Backoff::new();
+    for _ in rt.forever() {
+        let seen = load_busy(wk, pass, t);
+        if !seen.on {
+            return seen.n;
+        }
+        backoff.snooze();
+    }
+    unreachable!()
+}
+
+/// Claims a task that is off every queue after `m` changes, and waits until no processor is busy with it, as Linux's
+/// `try_to_wake_up` stores TASK_WAKING and then waits for `p->on_cpu` to be clear.
+pub fn claim<B: Kept, R: Wait>(rt: &R, wk: &Wk<B>, pass: &mut Pass, t: TaskNo, m: u64)
+    requires of { IsOf wk.now pass.old }
+    requires task { t < wk.now.shape.tasks }
+    requires locked { IsSome (task_held pass.old.trace t) }
+    requires off { saw_off pass.old.trace t ≡ true }
+    requires number { number_read pass.old.trace t ≡ Some m }
+    requires spare { 0 < pass.old.turn.spare }
+    ensures same { IsSameSeat pass.old pass.new }
+    ensures did { IsTaken t m pass.old pass.new }
+    ensures keeps { Keeps pass.old.seat pass.old.trace pass.new.trace }
+    ensures others { (u : ℕ) → u ≢ t → is_claimed pass.new.trace u ≡ is_claimed pass.old.trace u }
+{
+    store_waking(wk, pass, t, m);
+    await_clear(rt, wk, pass, t);
+}
+
+// The allowed pointer of a task. No processor has a number from 16 on.
+fn pointer_of(val: &TaskVal) -> CpuMask
+    ensures { IsPointer val.now result }
+{
+    match val.narrowed {
+        None => val.mask,
+        Some(c) if c < 16 => CpuMask::of(c),
+        Some(_) => CpuMask::none(),
+    }
+}
+
+/// The processor that a woken task is put on, as Linux's `select_task_rq`, with every processor active.
+pub fn choose(val: &TaskVal, shape: &Shape) -> CpuNo
+    requires shape { IsShape shape.now }
+    ensures chosen { IsChosen val.now shape.now result }
+    ensures processor { result < shape.now.cpus }
+{
+    let all = CpuMask::all(shape.cpus);
+    fallback(val.wake_cpu, &pointer_of(val), false, &all, &all, &all).0
+}
+
+/// Puts a claimed task at the back of its processor's queue, as Linux's `ttwu_queue` and `ttwu_do_activate`.
+pub fn queue_woken<B: Kept, R: Wait>(
+    rt: &R,
+    wk: &Wk<B>,
+    pass: &mut Pass,
+    t: TaskNo,
+    c: CpuNo,
+    m: u64,
+)
+    requires of { IsOf wk.now pass.old }
+    requires task { t < wk.now.shape.tasks }
+    requires processor { c < wk.now.shape.cpus }
+    requires locked { IsSome (task_held pass.old.trace t) }
+    requires claimed { is_claimed pass.old.trace t ≡ true }
+    requires clear { saw_clear pass.old.trace t ≡ true }
+    requires here { (last_reads pass.old.trace t).cpu ≡ Some c }
+    requires free { queue_held pass.old.trace c ≡ None }
+    requires other { current_task pass.old.seat pass.old.trace ≢ Some t }
+    requires queued_before { m ≢ 0 }
+    requires spare { 0 < pass.old.turn.spare }
+    ensures same { IsSameSeat pass.old pass.new }
+    ensures did { IsQueuedWoken t c m pass.old pass.new }
+    ensures keeps { Keeps pass.old.seat pass.old.trace pass.new.trace }
+{
+    let mut queue = lock_queue(rt, wk, pass, c);
+    queue_seen(rt, wk, pass, &queue, t, Rq { on: 0, m });
+    queue.push(wk, pass, t);
+    store_running(wk, pass, t);
+    queue.give_woken(wk, pass);
+}

@@ -1,0 +1,71 @@
+//! Where a waker finds a task whose state matches.
+ghost use Rattle.std.specs.Prelude.{◌≡◌, ◌≢◌, ℕ, ◌<◌, ◌∷◌, true, false, None, Some, IsSome};
+ghost use Rattle.std.specs.List.{All};
+ghost use Rattle.core_data.specs.declared.pos.Rq.{Rq};
+ghost use Rattle.task_words.specs.Views.{IsOf, IsSame};
+ghost use Rattle.ttwu_core.specs.Finds.{DidFind, IsAwaited};
+ghost use Rattle.ttwu_core.specs.Keeps.{Keeps};
+ghost use Rattle.word_steps.specs.Folds.{is_claimed, task_held, queue_held, is_matched_by, is_unstored, current_task};
+
+use crossbeam_utils::Backoff;
+use handoff_data::TaskNo;
+use std::sync::Wait;
+use task_words::{Kept, Pass, Wk, load_cpu, load_rq, lock_queue, store_running};
+
+/// Where it is.
+#[derive(Clone, Copy, Debug, PartialEq, Eq)]
+pub enum Found {
+    /// Off every queue, after `m` changes.
+    Off { m: u64 },
+    /// Queued, and TASK_RUNNING is stored.
+    Runnable,
+}
+
+// Reads the queue word of a task until it says that the task is off every queue. It answers the number of changes.
+fn await_off<B: Kept, R: Wait>(rt: &R, wk: &Wk<B>, pass: &mut Pass, t: TaskNo) -> u64
+    requires of { IsOf wk.now pass.old }
+    requires task { t < wk.now.shape.tasks }
+    ensures same { IsSame pass.old pass.new }
+    ensures did { IsAwaited t result pass.old.trace pass.new.trace }
+{
+    let backoff = Backoff::new();
+    for _ in rt.forever() {
+        let seen = load_rq(wk, pass, t);
+        if seen.on == 0 {
+            return seen.m;
+        }
+        backoff.snooze();
+    }
+    unreachable!()
+}
+
+/// Looks where a task is, whose state matched under its lock, as Linux's `try_to_wake_up` tries `ttwu_runnable`: where it
+/// is still queued under the lock of its queue, TASK_RUNNING is stored there.
+pub fn find<B: Kept, R: Wait>(rt: &R, wk: &Wk<B>, pass: &mut Pass, t: TaskNo) -> Found
+    requires of { IsOf wk.now pass.old }
+    requires task { t < wk.now.shape.tasks }
+    requires locked { IsSome (task_held pass.old.trace t) }
+    requires matched { is_matched_by pass.old.trace t ≡ true }
+    requires unstored { is_unstored pass.old.trace t ≡ true }
+    requires free { (c : ℕ) → queue_held pass.old.trace c ≡ None }
+    requires other { current_task pass.old.seat pass.old.trace ≢ Some t }
+    ensures same { IsSame pass.old pass.new }
+    ensures did { DidFind t pass.old.trace pass.new.trace result }
+    ensures keeps { Keeps pass.old.seat pass.old.trace pass.new.trace }
+    ensures claimed { is_claimed pass.new.trace ≡ is_claimed pass.old.trace }
+{
+    let first = load_rq(wk, pass, t);
+    if first.on == 0 {
+        return Found::Off { m: first.m };
+    }
+    let c = load_cpu(wk, pass, t);
+    let queue = lock_queue(rt, wk, pass, c);
+    if load_rq(wk, pass, t).on == 1 {
+        store_running(wk, pass, t);
+        queue.give(wk, pass);
+        return Found::Runnable;
+    }
+    queue.give(wk, pass);
+    let m = await_off(rt, wk, pass, t);
+    Found::Off { m }
+}

@@ -1,0 +1,14 @@
+//! The wake-up of a task, after Linux's `try_to_wake_up`.
+#![tactic(auto)]
+
+mod answers;
+mod claiming;
+mod finding;
+mod law;
+mod own;
+mod waking;
+
+pub use answers::{How, Wake};
+pub use law::law_woken;
+pub use own::wake_own;
+pub use waking::wake;

@@ -1,0 +1,32 @@
+//! The wake-up of the waker's own current task.
+ghost use Rattle.std.specs.Prelude.{◌≡◌, ℕ, ◌<◌, Some, true};
+ghost use Rattle.task_words.specs.States.{IsWakeMask};
+ghost use Rattle.task_words.specs.Views.{IsOf, IsSameSeat};
+ghost use Rattle.ttwu_core.specs.Own.{IsCurrent, DidWakeOwn};
+ghost use Rattle.word_steps.specs.Folds.{stays_queued};
+
+use crate::answers::{How, Wake};
+use handoff_data::{State, matches};
+use task_words::{Kept, Pass, Wk, match_state, set_running};
+
+/// Wakes the pass's own current task, which is queued, as the branch of Linux's `try_to_wake_up` for `current`: it takes
+/// no lock and waits for nobody.
+pub fn wake_own<B: Kept>(wk: &Wk<B>, pass: &mut Pass, mask: State) -> Wake
+    requires of { IsOf wk.now pass.old }
+    requires current { IsCurrent wk.now.shape pass.old.seat pass.old.trace }
+    requires queued { stays_queued pass.old.trace ≡ true }
+    requires mask { IsWakeMask mask }
+    requires spare { 0 < pass.old.turn.spare }
+    ensures same { IsSameSeat pass.old pass.new }
+    ensures did { DidWakeOwn mask pass.old pass.new result }
+{
+    let Some(t) = pass.current() else {
+        unreachable!()
+    };
+    let seen = match_state(wk, pass, t, mask);
+    if !matches(seen, mask) {
+        return Wake::NoMatch { seen };
+    }
+    set_running(wk, pass);
+    Wake::Woke { how: How::Own }
+}

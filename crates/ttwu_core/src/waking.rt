@@ -1,0 +1,66 @@
+//! The wake-up of another task.
+ghost use Rattle.std.specs.Prelude.{◌≡◌, ◌≢◌, ℕ, ◌<◌, false, None, Some};
+ghost use Rattle.handoff_data.specs.Shape.{IsShape};
+ghost use Rattle.task_words.specs.States.{IsWakeMask};
+ghost use Rattle.task_words.specs.Views.{IsOf, IsSameSeat};
+ghost use Rattle.ttwu_core.specs.Keeps.{Rests};
+ghost use Rattle.ttwu_core.specs.Wakes.{DidWake};
+ghost use Rattle.word_steps.specs.Folds.{task_held, queue_held, is_claimed, current_task};
+
+use crate::answers::{How, Wake};
+use crate::claiming::{choose, claim, queue_woken};
+use crate::finding::{Found, find};
+use handoff_data::{Shape, State, TaskNo, matches};
+use run_queue::place;
+use std::sync::Wait;
+use task_words::{Kept, Pass, Wk, lock_task, match_state};
+
+/// Wakes a task that isn't the pass's current one, where its state has a bit of the mask, as Linux's `try_to_wake_up`: a
+/// task that is still queued is runnable again, and one that is off every queue is queued on the processor that placement
+/// gives. The shape is that of the table.
+pub fn wake<B: Kept, R: Wait>(
+    rt: &R,
+    wk: &Wk<B>,
+    pass: &mut Pass,
+    t: TaskNo,
+    mask: State,
+    shape: &Shape,
+) -> Wake
+    requires of { IsOf wk.now pass.old }
+    requires shape { shape.now ≡ wk.now.shape }
+    requires is_shape { IsShape wk.now.shape }
+    requires task { t < wk.now.shape.tasks }
+    requires mask { IsWakeMask mask }
+    requires free { task_held pass.old.trace t ≡ None }
+    requires free_queues { (c : ℕ) → queue_held pass.old.trace c ≡ None }
+    requires unclaimed { is_claimed pass.old.trace t ≡ false }
+    requires other { current_task pass.old.seat pass.old.trace ≢ Some t }
+    requires spare { 1 < pass.old.turn.spare }
+    ensures same { IsSameSeat pass.old pass.new }
+    ensures did { DidWake t mask wk.now.shape pass.old pass.new result }
+    ensures rests { Rests pass.old.seat pass.old.trace pass.new.trace }
+{
+    let mut task = lock_task(rt, wk, pass, t);
+    let seen = match_state(wk, pass, t, mask);
+    if !matches(seen, mask) {
+        task.give(wk, pass);
+        return Wake::NoMatch { seen };
+    }
+    let Found::Off { m } = find(rt, wk, pass, t) else {
+        task.give(wk, pass);
+        return Wake::Woke { how: How::Runnable };
+    };
+    // Only a new task has no change, and no mask matches its state: this is never so.
+    if m == 0 {
+        for _ in rt.forever() {}
+    }
+    claim(rt, wk, pass, t, m);
+    let c = choose(&task.val, shape);
+    place(wk, pass, &task, c);
+    queue_woken(rt, wk, pass, t, c, m);
+    task.val.wake_cpu = c;
+    task.give(wk, pass);
+    Wake::Woke {
+        how: How::Queued(c),
+    }
+}
