@@ -1,5 +1,6 @@
 //! A task's way through a processor: started, picked, put back.
-ghost use Rattle.std.specs.Prelude.{◌≡◌, ◌≢◌, ℕ, ◌<◌, true, None, Some, IfSome};
+ghost use Rattle.std.specs.Prelude.{◌≡◌, ◌≢◌, ℕ, ◌<◌, true, None, Some, IfSome, IfNone};
+ghost use Rattle.uses.specs.Between.{IsBetween, IsRunning};
 ghost use Rattle.task_words.specs.Views.{IsOf, IsSame, IsSameSeat};
 ghost use Rattle.word_steps.specs.Folds.{body_held, current_task, queue_held, stays_queued, task_held, task_to_clear};
 
@@ -24,6 +25,7 @@ pub fn start<B: Kept, R: Wait>(rt: &R, wk: &Wk<B>, pass: &mut Pass, t: TaskNo) -
     ensures current { current_task pass.new.seat pass.new.trace ≡ current_task pass.old.seat pass.old.trace }
     ensures clear { task_to_clear pass.new.seat pass.new.trace ≡ task_to_clear pass.old.seat pass.old.trace }
     ensures home { body_held pass.new.trace ≡ body_held pass.old.trace }
+    ensures between { IsBetween pass.old → IsBetween pass.new }
 {
     let task = lock_task(rt, wk, pass, t);
     let seen = load_rq(wk, pass, t);
@@ -56,6 +58,8 @@ pub fn pick<B: Kept, R: Wait>(rt: &R, wk: &Wk<B>, pass: &mut Pass) -> Option<Tas
     ensures stays { IfSome result (λ t. stays_queued pass.new.trace ≡ true) }
     ensures free { queue_held pass.new.trace pass.new.seat ≡ None }
     ensures home { body_held pass.new.trace ≡ body_held pass.old.trace }
+    ensures none { IsBetween pass.old → IfNone result (IsBetween pass.new) }
+    ensures some { IsBetween pass.old → IfSome result (λ t. IsRunning t pass.new) }
 {
     let c = pass.seat();
     let mut queue = lock_queue(rt, wk, pass, c);
@@ -100,6 +104,7 @@ pub fn put_back<B: Kept, R: Wait>(rt: &R, wk: &Wk<B>, pass: &mut Pass, t: TaskNo
     requires spare { 0 < pass.old.turn.spare }
     ensures same { IsSameSeat pass.old pass.new }
     ensures free { queue_held pass.new.trace pass.new.seat ≡ None }
+    ensures back { result ≡ true → IsRunning t pass.old → IsBetween pass.new }
 {
     let c = pass.seat();
     let mut queue = lock_queue(rt, wk, pass, c);

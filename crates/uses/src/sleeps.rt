@@ -1,5 +1,6 @@
 //! A sleep on a condition, step by step.
-ghost use Rattle.std.specs.Prelude.{◌≡◌, ◌<◌, true, None, Some};
+ghost use Rattle.std.specs.Prelude.{◌≡◌, ◌<◌, true, false, None, Some};
+ghost use Rattle.uses.specs.Between.{IsBetween, IsRunning};
 ghost use Rattle.task_words.specs.Views.{IsOf, IsSame, IsSameSeat};
 ghost use Rattle.word_steps.specs.Folds.{body_held, current_task, queue_held, stays_queued, task_to_clear, wait_held};
 
@@ -68,6 +69,8 @@ pub fn switch_out<B: Kept, R: Wait>(rt: &R, wk: &Wk<B>, pass: &mut Pass, t: Task
     requires home { body_held pass.old.trace ≡ None }
     requires spare { 1 < pass.old.turn.spare }
     ensures same { IsSameSeat pass.old pass.new }
+    ensures slept { result ≡ true → IsRunning t pass.old → IsBetween pass.new }
+    ensures woken { result ≡ false → IsRunning t pass.old → IsRunning t pass.new }
 {
     let c = pass.seat();
     let mut queue = lock_queue(rt, wk, pass, c);
