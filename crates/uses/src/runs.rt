@@ -82,6 +82,7 @@ pub fn run<B: Kept>(wk: &Wk<B>, pass: &mut Pass, t: TaskNo)
     ensures current { current_task pass.new.seat pass.new.trace ≡ Some t }
     ensures stays { stays_queued pass.new.trace ≡ stays_queued pass.old.trace }
     ensures nothing { HoldsNothing pass.new.trace }
+    ensures running { IsRunning t pass.old → IsRunning t pass.new }
 {
     let body = body_out(wk, pass);
     body_home(wk, pass, body);
