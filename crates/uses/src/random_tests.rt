@@ -196,7 +196,17 @@ fn all_work<R: Threads + Wait + Sync>(
     requires conditions { wk.now.shape.conds ≡ 2 }
     requires between { All IsBetween passes.items }
 {
-    map_vec(rt, passes, &|pass| work(rt, alloc, wk, pass, cpus, turns))
+    map_vec(
+        rt,
+        passes,
+        &|pass: Pass| -> (Pass, Journal, bool)
+            requires of { IsOf wk.now pass }
+            requires cpus { cpus ≡ wk.now.shape.cpus }
+            requires tasks { wk.now.shape.tasks ≡ 6 }
+            requires conditions { wk.now.shape.conds ≡ 2 }
+            requires between { IsBetween pass }
+        { work(rt, alloc, wk, pass, cpus, turns) },
+    )
 }
 
 // The verdict on what so many processors did in so many turns each; None where a turn didn't end as it has to.
