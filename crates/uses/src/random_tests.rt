@@ -130,7 +130,7 @@ fn tell(turn: &Turn, journal: &mut Journal) -> Result<(), NoMemory> {
     Ok(())
 }
 
-// What a seat did in so many turns: its journal, and whether each turn ended as it has to.
+// So many turns of a seat: its pass, its journal, and whether each turn ended as it has to.
 fn work<B: Kept, R: Wait>(
     rt: &R,
     alloc: Global,
@@ -247,8 +247,8 @@ fn is_history(verdict: Result<Option<Verdict>, NoMemory>) -> bool {
 
 #[test]
 fn random_scenarios_make_one_history(rt: HostRuntime) -> Result<(), Fail> {
-    assert!(rt; is_history(verdict(&rt, rt.alloc(), 2, 20000)));
-    assert!(rt; is_history(verdict(&rt, rt.alloc(), 4, 8000)));
-    assert!(rt; is_history(verdict(&rt, rt.alloc(), 8, 4000)));
+    assert!(rt; is_history(verdict(&rt, rt.alloc(), 2, 50000)));
+    assert!(rt; is_history(verdict(&rt, rt.alloc(), 4, 25000)));
+    assert!(rt; is_history(verdict(&rt, rt.alloc(), 8, 12500)));
     Ok(())
 }
