@@ -1,6 +1,6 @@
 -- Each shape of what a seat did with a queue allows its give.
-use Rattle.std.proofs.Common.{◌≡◌, ◌≢◌, ℕ, ◌<◌, ◌≤◌, ◌+◌, ◌++◌, ◌∷◌, [], inl, inr, refl, sym, ap, subst, ◌∙◌, List, length, arith}
-use Rattle.std.specs.Prelude.{suc, ◌-◌, ◌/◌, ◌^◌, IsSome, unwrap_or, MatchOption, IfSome, nat_lt, ◌==◌, ◌&&◌, ◌⊎◌, Bool, true, false, Option, Some, None, if◌then◌else◌, is_some}
+use Rattle.std.proofs.Common.{◌≡◌, ℕ, ◌<◌, ◌≤◌, ◌+◌, ◌++◌, ◌∷◌, [], inl, inr, refl, sym, ap, subst, ◌∙◌, List, length, arith}
+use Rattle.std.specs.Prelude.{suc, ◌-◌, ◌/◌, ◌^◌, IsSome, unwrap_or, MatchOption, IfSome, ◌==◌, ◌&&◌, ◌⊎◌, Bool, true, false, Option, Some, None, if◌then◌else◌, is_some}
 use Rattle.std.proofs.lemmas.Bool.{cases_Bool}
 use Rattle.std.proofs.lemmas.Bool.Decides.{nat_tests}
 use Rattle.core_data.proofs.QueueLemmas.{times_in-push, times_in-cons}
@@ -9,7 +9,7 @@ use Rattle.core_data.specs.declared.values.TaskVal.{TaskVal}
 use Rattle.core_gives.specs.Queues.{times, is_some_of}
 use Rattle.handoff_data.specs.declared.shape.Shape.{Shape}
 use Rattle.handoff_data.specs.declared.state.State.{State}
-use Rattle.task_words.specs.Gives.{is_quiet, unquiet, IsAsTaken, IsWoken, IsPicked, IsPutBack, IsAsleep, IsQueuedHere, IsCurrentHere, HasRoomFor, IsJustTaken, IsQueuedUnder}
+use Rattle.task_words.specs.Gives.{is_quiet, unquiet, IsAsTaken, IsWoken, IsPicked, IsPutBack, IsAsleep, HasRoomFor, IsJustTaken, IsQueuedUnder}
 use Rattle.core_kinds.specs.Steps.{is_sleep, dead, running}
 use Rattle.task_words.specs.States.{IsOwnStore}
 use Rattle.task_words.specs.Queues.{MayQueueHere}
@@ -17,10 +17,8 @@ use Rattle.word_rule.proofs.Uses.{gives_same, gives_woken, gives_picked, gives_b
 use Rattle.word_rule.proofs.Possible.{value_of}
 use Rattle.word_rule.specs.May.{MayGiveQueueVal, MayGiveTaskVal, MaySetBusyWord, MayQueueWord, MayOwnWord, next_busy, next_rq}
 use Rattle.word_rule.specs.Standing.{may_run}
-use Rattle.word_rule.specs.Told.{TakenQueue, IsOff}
-use Rattle.word_steps.specs.Folds.{put_both, has_put, has_added, current_task, stays_queued, queue_held, number_read, task_to_clear, task_held, ended_known}
+use Rattle.word_steps.specs.Folds.{put_both, has_put, current_task, stays_queued, queue_held, number_read, task_to_clear, task_held, ended_known}
 use Rattle.word_steps.specs.Records.{Rec, Took, Gave, OutBody, HomeBody, Queued, Dequeued, Moved, SetBusy, ClearedBusy, StoredOwn, Claimed, Released, LoadedState, LoadedRq, LoadedBusy, LoadedCpu, StoredCpu, Bumped, LoadedCond}
-use Rattle.word_steps.specs.declared.val.Val.TheVariants as val
 
 -- one more at the back, and at the front
 pushed : (xs : List ℕ) (t : ℕ) → IsPushed xs (xs ++ t ∷ []) t

@@ -1,5 +1,5 @@
 -- When a seat may take the body of its current task out, and put it home.
-use Rattle.std.specs.Prelude.{◌≡◌, ℕ, Bool, List, Some, IfSome, IsSome, unwrap_or, true}
+use Rattle.std.specs.Prelude.{◌≡◌, ℕ, Bool, List, IfSome, IsSome, unwrap_or, true}
 use Rattle.word_rule.specs.May.{MayTakeBody}
 use Rattle.word_steps.specs.Folds.{current_task, body_held, ended_known}
 use Rattle.word_steps.specs.Records.{Rec}

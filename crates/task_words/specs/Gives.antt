@@ -1,6 +1,6 @@
 -- What a seat has done with a queue since it took the queue's lock, step by step: each shape of it allows the give. v is the
 -- queue as it was taken, and rs the trace before.
-use Rattle.std.specs.Prelude.{◌≡◌, ℕ, ◌<◌, ◌++◌, ◌∷◌, [], ◌⊎◌, Bool, true, false, List, Option, Some, None, if◌then◌else◌}
+use Rattle.std.specs.Prelude.{◌≡◌, ℕ, ◌<◌, ◌++◌, ◌∷◌, [], ◌⊎◌, Bool, true, false, List, Some, None, if◌then◌else◌}
 use Rattle.core_data.specs.Queue.{Queue}
 use Rattle.core_data.specs.declared.values.TaskVal.{TaskVal}
 use Rattle.core_data.specs.declared.values.WaitEntry.{WaitEntry}

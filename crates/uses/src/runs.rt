@@ -41,8 +41,8 @@ pub fn start<B: Kept, R: Wait>(rt: &R, wk: &Wk<B>, pass: &mut Pass, t: TaskNo) -
     true
 }
 
-/// Picks the first task that waits in the seat's own queue, as Linux's `pick_next_task`; none where the queue has a next
-/// task already, or nobody waits.
+/// Picks the first task that waits in the seat's own queue, as Linux's `pick_next_task`; none where the queue has a
+/// next task already, or nobody waits.
 pub fn pick<B: Kept, R: Wait>(rt: &R, wk: &Wk<B>, pass: &mut Pass) -> Option<TaskNo>
     requires of { IsOf wk.now pass.old }
     requires processor { pass.old.seat < wk.now.shape.cpus }
@@ -88,8 +88,8 @@ pub fn run<B: Kept>(wk: &Wk<B>, pass: &mut Pass, t: TaskNo)
     body_home(wk, pass, body);
 }
 
-/// Puts the current task, while it runs, at the back of its queue, as Linux's `schedule` of a preempted task; whether it
-/// ran.
+/// Puts the current task, while it runs, at the back of its queue, as Linux's `schedule` of a preempted task; whether
+/// it ran.
 pub fn put_back<B: Kept, R: Wait>(rt: &R, wk: &Wk<B>, pass: &mut Pass, t: TaskNo) -> bool
     requires of { IsOf wk.now pass.old }
     requires processor { pass.old.seat < wk.now.shape.cpus }

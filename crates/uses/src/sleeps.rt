@@ -14,8 +14,8 @@ use task_words::{
 };
 
 /// Puts the current task to sleep until a condition has another value than `seen`, as Linux's `prepare_to_wait` and
-/// `schedule`; whether it sleeps. It doesn't where the condition has changed, or a wake has come first, or the task has an
-/// entry there already.
+/// `schedule`; whether it sleeps. It doesn't where the condition has changed, or a wake has come first, or the task has
+/// an entry there already.
 pub fn sleep<B: Kept, R: Wait>(
     rt: &R,
     wk: &Wk<B>,
