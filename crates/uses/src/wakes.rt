@@ -4,7 +4,8 @@ ghost use Rattle.uses.specs.Between.{IsBetween};
 ghost use Rattle.core_data.specs.Table.{put};
 ghost use Rattle.task_words.specs.Views.{IsOf, IsSame, IsSameSeat};
 ghost use Rattle.word_rule.specs.May.{number_of};
-ghost use Rattle.word_steps.specs.Folds.{body_held, current_task, is_claimed, is_moving, last_reads, queue_held, saw_clear, task_held, task_to_clear, wait_held, works_held};
+ghost use Rattle.word_steps.specs.Folds.{body_held, current_task, is_claimed, is_moving, last_reads, queue_held};
+ghost use Rattle.word_steps.specs.Folds.{saw_clear, task_held, task_to_clear, wait_held, works_held};
 
 use handoff_data::{CpuNo, State, TaskNo, matches};
 use std::sync::Wait;
