@@ -3,6 +3,8 @@
 
 mod locks;
 #[cfg(test)]
+mod random_tests;
+#[cfg(test)]
 mod run_tests;
 mod runs;
 mod sleeps;

@@ -1,6 +1,7 @@
 //! A task's way through a processor: started, picked, put back.
-ghost use Rattle.std.specs.Prelude.{◌≡◌, ◌≢◌, ◌<◌, true, None, Some, IfSome};
+ghost use Rattle.std.specs.Prelude.{◌≡◌, ◌≢◌, ◌<◌, true, None, Some, IfSome, IfNone};
 ghost use Rattle.task_words.specs.Views.{IsOf, IsSame, IsSameSeat};
+ghost use Rattle.uses.specs.Between.{IsBetween, IsRunning};
 ghost use Rattle.uses.specs.Holds.{HoldsNothing};
 ghost use Rattle.word_steps.specs.Folds.{current_task, stays_queued, task_to_clear};
 
@@ -22,6 +23,7 @@ pub fn start<B: Kept, R: Wait>(rt: &R, wk: &Wk<B>, pass: &mut Pass, t: TaskNo) -
     ensures nothing { HoldsNothing pass.new.trace }
     ensures current { current_task pass.new.seat pass.new.trace ≡ current_task pass.old.seat pass.old.trace }
     ensures clear { task_to_clear pass.new.seat pass.new.trace ≡ task_to_clear pass.old.seat pass.old.trace }
+    ensures between { IsBetween pass.old → IsBetween pass.new }
 {
     let task = lock_task(rt, wk, pass, t);
     let seen = load_rq(wk, pass, t);
@@ -53,6 +55,8 @@ pub fn pick<B: Kept, R: Wait>(rt: &R, wk: &Wk<B>, pass: &mut Pass) -> Option<Tas
     ensures task { IfSome result (λ t. t < wk.now.shape.tasks) }
     ensures stays { IfSome result (λ t. stays_queued pass.new.trace ≡ true) }
     ensures nothing { HoldsNothing pass.new.trace }
+    ensures none { IsBetween pass.old → IfNone result (IsBetween pass.new) }
+    ensures some { IsBetween pass.old → IfSome result (λ t. IsRunning t pass.new) }
 {
     let c = pass.seat();
     let mut queue = lock_queue(rt, wk, pass, c);
@@ -78,6 +82,7 @@ pub fn run<B: Kept>(wk: &Wk<B>, pass: &mut Pass, t: TaskNo)
     ensures current { current_task pass.new.seat pass.new.trace ≡ Some t }
     ensures stays { stays_queued pass.new.trace ≡ stays_queued pass.old.trace }
     ensures nothing { HoldsNothing pass.new.trace }
+    ensures running { IsRunning t pass.old → IsRunning t pass.new }
 {
     let body = body_out(wk, pass);
     body_home(wk, pass, body);
@@ -97,6 +102,7 @@ pub fn put_back<B: Kept, R: Wait>(rt: &R, wk: &Wk<B>, pass: &mut Pass, t: TaskNo
     ensures nothing { HoldsNothing pass.new.trace }
     ensures gone { result ≡ true → current_task pass.new.seat pass.new.trace ≡ None }
     ensures clear { result ≡ true → task_to_clear pass.new.seat pass.new.trace ≡ None }
+    ensures back { result ≡ true → IsRunning t pass.old → IsBetween pass.new }
 {
     let c = pass.seat();
     let mut queue = lock_queue(rt, wk, pass, c);

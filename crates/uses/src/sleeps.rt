@@ -1,5 +1,6 @@
 //! A sleep on a condition, step by step.
-ghost use Rattle.std.specs.Prelude.{◌≡◌, ◌<◌, true, None, Some};
+ghost use Rattle.std.specs.Prelude.{◌≡◌, ◌<◌, true, false, None, Some, IfOk};
+ghost use Rattle.uses.specs.Between.{IsBetween, IsRunning};
 ghost use Rattle.task_words.specs.Views.{IsOf, IsSame, IsSameSeat};
 ghost use Rattle.word_steps.specs.Folds.{body_held, current_task, queue_held, stays_queued, task_to_clear, wait_held};
 
@@ -34,6 +35,8 @@ pub fn sleep<B: Kept, R: Wait>(
     requires home { body_held pass.old.trace ≡ None }
     requires spare { 1 < pass.old.turn.spare }
     ensures same { IsSameSeat pass.old pass.new }
+    ensures slept { IfOk result (λ slept. slept ≡ true → IsRunning t pass.old → IsBetween pass.new) }
+    ensures woken { IfOk result (λ slept. slept ≡ false → IsRunning t pass.old → IsRunning t pass.new) }
 {
     let mut wait = lock_wait(rt, wk, pass, k);
     if wait.has_task(t) {
@@ -68,6 +71,8 @@ pub fn switch_out<B: Kept, R: Wait>(rt: &R, wk: &Wk<B>, pass: &mut Pass, t: Task
     requires home { body_held pass.old.trace ≡ None }
     requires spare { 1 < pass.old.turn.spare }
     ensures same { IsSameSeat pass.old pass.new }
+    ensures slept { result ≡ true → IsRunning t pass.old → IsBetween pass.new }
+    ensures woken { result ≡ false → IsRunning t pass.old → IsRunning t pass.new }
 {
     let c = pass.seat();
     let mut queue = lock_queue(rt, wk, pass, c);

@@ -1,8 +1,11 @@
 //! A wake-up, step by step.
 ghost use Rattle.std.specs.Prelude.{◌≡◌, ◌≢◌, ℕ, ◌<◌, true, false, Some, None, IsSome};
+ghost use Rattle.uses.specs.Between.{IsBetween};
+ghost use Rattle.core_data.specs.Table.{put};
 ghost use Rattle.task_words.specs.Views.{IsOf, IsSame, IsSameSeat};
 ghost use Rattle.word_rule.specs.May.{number_of};
-ghost use Rattle.word_steps.specs.Folds.{current_task, is_claimed, is_moving, last_reads, queue_held, saw_clear, task_held};
+ghost use Rattle.word_steps.specs.Folds.{body_held, current_task, is_claimed, is_moving, last_reads, queue_held};
+ghost use Rattle.word_steps.specs.Folds.{saw_clear, task_held, task_to_clear, wait_held, works_held};
 
 use handoff_data::{CpuNo, State, TaskNo, matches};
 use std::sync::Wait;
@@ -23,6 +26,7 @@ pub fn wake<B: Kept, R: Wait>(rt: &R, wk: &Wk<B>, pass: &mut Pass, t: TaskNo, to
     requires spare { 1 < pass.old.turn.spare }
     ensures same { IsSameSeat pass.old pass.new }
     ensures free { task_held pass.new.trace t ≡ None }
+    ensures between { IsBetween pass.old → IsBetween pass.new }
 {
     let task = lock_task(rt, wk, pass, t);
     let state = match_state(wk, pass, t, State::TASK_NORMAL);
@@ -71,6 +75,13 @@ fn queue_woken<B: Kept, R: Wait>(rt: &R, wk: &Wk<B>, pass: &mut Pass, t: TaskNo,
     requires spare { 0 < pass.old.turn.spare }
     ensures same { IsSameSeat pass.old pass.new }
     ensures tasks { task_held pass.new.trace ≡ task_held pass.old.trace }
+    ensures queues { ((c : ℕ) → queue_held pass.old.trace c ≡ None) → (c : ℕ) → queue_held pass.new.trace c ≡ None }
+    ensures works { works_held pass.new.trace ≡ works_held pass.old.trace }
+    ensures waits { wait_held pass.new.trace ≡ wait_held pass.old.trace }
+    ensures body { body_held pass.new.trace ≡ body_held pass.old.trace }
+    ensures idle { current_task pass.old.seat pass.old.trace ≡ None → current_task pass.new.seat pass.new.trace ≡ None }
+    ensures cleared { current_task pass.old.seat pass.old.trace ≡ None → task_to_clear pass.new.seat pass.new.trace ≡ task_to_clear pass.old.seat pass.old.trace }
+    ensures claims { is_claimed pass.new.trace ≡ put (is_claimed pass.old.trace) t false }
     ensures claimed { is_claimed pass.new.trace t ≡ false }
     ensures moving { is_moving pass.new.trace t ≡ false }
     ensures number { 0 < number_of pass.new.trace t }
@@ -92,6 +103,10 @@ fn place<B: Kept>(wk: &Wk<B>, pass: &mut Pass, task: &TaskGuard, to: CpuNo)
     ensures same { IsSame pass.old pass.new }
     ensures cpu { (last_reads pass.new.trace task.now.task).cpu ≡ Some to }
     ensures tasks { task_held pass.new.trace ≡ task_held pass.old.trace }
+    ensures works { works_held pass.new.trace ≡ works_held pass.old.trace }
+    ensures waits { wait_held pass.new.trace ≡ wait_held pass.old.trace }
+    ensures body { body_held pass.new.trace ≡ body_held pass.old.trace }
+    ensures cleared { task_to_clear pass.new.seat pass.new.trace ≡ task_to_clear pass.old.seat pass.old.trace }
     ensures queues { queue_held pass.new.trace ≡ queue_held pass.old.trace }
     ensures claimed { is_claimed pass.new.trace ≡ is_claimed pass.old.trace }
     ensures moving { is_moving pass.new.trace ≡ is_moving pass.old.trace }
