@@ -1,10 +1,13 @@
 -- Values of locks, as they are put back.
-use Rattle.std.proofs.Common.{◌≡◌, ℕ, ◌∷◌, List, ap, ◌∙◌, arith}
-use Rattle.std.specs.Prelude.{Option, Some, unwrap_or}
+use Rattle.std.proofs.Common.{◌≡◌, ℕ, ◌∷◌, List, refl, sym, ap, ◌∙◌, arith}
+use Rattle.std.specs.Prelude.{Bool, true, false, Option, Some, None, is_none, unwrap_or, if◌then◌else◌}
 use Rattle.std.proofs.lemmas.Bool.Decides.{nat_tests}
 use Rattle.core_data.specs.Queue.{Queue}
 use Rattle.core_data.specs.declared.values.TaskVal.{TaskVal}
-use Rattle.word_steps.specs.Folds.{task_held, queue_held}
+use Rattle.core_gives.specs.Queues.{gives_up}
+use Rattle.handoff_data.specs.declared.shape.Shape.{Shape}
+use Rattle.word_rule.specs.Told.{TakenQueue}
+use Rattle.word_steps.specs.Folds.{task_held, queue_held, current_task}
 use Rattle.word_steps.specs.Records.{Rec, Took, Gave}
 use Rattle.word_steps.specs.declared.val.Val.TheVariants as val
 
@@ -32,3 +35,20 @@ gave_queue c k v given trace rest same did held =
 
 pub queue_there : (c : ℕ) (v : Queue) (rs : List Rec) → queue_held (Took c (val.Queue v) ∷ rs) c ≡ Some v
 queue_there c v rs = grind (arith, nat_tests)
+
+kept_current : (b : Bool) (o : Option ℕ) → (b ≡ true → o ≡ None) → (if b then None else o) ≡ o
+kept_current true o gone = sym (gone refl)
+kept_current false o gone = refl
+
+idle : (v : Queue) (o : Option ℕ) → ((u : ℕ) → o ≡ Some u → v.cur ≡ Some u) → is_none v.cur ≡ true → o ≡ None
+idle v None cur e = refl
+idle v (Some u) cur e = let there = cur u refl in absurd (grind (arith, e, there))
+
+-- a queue that is given with the `cur` that it was taken with leaves the seat its current task
+pub taken_current : (shape : Shape) (s c : ℕ) (v : Queue) (rs : List Rec) → TakenQueue shape s rs c v
+    → (if gives_up s c v then None else current_task s rs) ≡ current_task s rs
+taken_current shape s c v rs told =
+    kept_current (gives_up s c v) (current_task s rs) (λ e.
+    let same : s ≡ c = grind (arith, nat_tests, e) in
+    let gone : is_none v.cur ≡ true = grind (arith, nat_tests, e) in
+    idle v (current_task s rs) (told.current same) gone)

@@ -1,6 +1,6 @@
 -- What a seat may do next on its way through a start.
-use Rattle.std.proofs.Common.{◌≡◌, ℕ, ◌/◌, ◌<◌, ◌∷◌, List, inl, refl, arith}
-use Rattle.std.specs.Prelude.{◌^◌, Some, None, IsSome}
+use Rattle.std.proofs.Common.{◌≡◌, ◌∙◌, ℕ, ◌/◌, ◌<◌, ◌∷◌, List, inl, refl, ap, arith}
+use Rattle.std.specs.Prelude.{Bool, true, false, ◌==◌, ◌^◌, Some, None, IsSome, if◌then◌else◌}
 use Rattle.std.proofs.lemmas.Bool.Decides.{nat_tests}
 use Rattle.core_data.proofs.QueueLemmas.{times_in-push}
 use Rattle.core_data.specs.Queue.{Queue}
@@ -8,12 +8,13 @@ use Rattle.core_data.specs.declared.values.TaskVal.{TaskVal}
 use Rattle.core_kinds.specs.Steps.{fresh}
 use Rattle.handoff_data.specs.declared.shape.Shape.{Shape}
 use Rattle.run_queue.specs.Queueing.{pushed, placed}
+use Rattle.run_queue.specs.Rests.{Rests}
 use Rattle.run_queue.specs.Starts.{queued_new}
 use Rattle.word_rule.proofs.Uses.{gives_put}
 use Rattle.word_rule.specs.May.{MayQueueWord, MayGiveQueueVal, next_rq}
 use Rattle.word_rule.specs.Told.{TakenQueue}
-use Rattle.word_steps.specs.Folds.{task_held, number_read, last_reads}
-use Rattle.word_steps.specs.Records.{Rec, Took, Queued, Released, LoadedState, LoadedRq}
+use Rattle.word_steps.specs.Folds.{task_held, queue_held, wait_held, current_task, is_claimed, number_read, last_reads}
+use Rattle.word_steps.specs.Records.{Rec, Took, Gave, Queued, Released, LoadedState, LoadedRq, LoadedCpu, StoredCpu}
 use Rattle.word_steps.specs.declared.val.Val.TheVariants as val
 
 module _ (shape : Shape) (s t c : ℕ) (v : Queue) (rs : List Rec) where
@@ -39,3 +40,44 @@ module _ (shape : Shape) (s t c : ℕ) (v : Queue) (rs : List Rec) where
 pub held_started : (t c from on : ℕ) (v : TaskVal) (q : Queue) (rs : List Rec)
     → task_held (queued_new t c q (placed t from c (LoadedRq t on 0 ∷ LoadedState t None fresh ∷ Took t (val.Task v) ∷ rs))) t ≡ Some v
 held_started t c from on v q rs = grind (arith, nat_tests)
+
+-- What a start leaves as it was
+
+either_current : (same : Bool) (s t c from : ℕ) (trace : List Rec)
+    → current_task s (if same then LoadedCpu t from ∷ trace else StoredCpu t c ∷ LoadedCpu t from ∷ trace) ≡ current_task s trace
+either_current true s t c from trace = refl
+either_current false s t c from trace = refl
+
+pub placed_current : (s t c from : ℕ) (trace : List Rec) → current_task s (placed t from c trace) ≡ current_task s trace
+placed_current s t c from trace = either_current (from == c) s t c from trace
+
+either_waits : (same : Bool) (t c from : ℕ) (trace : List Rec)
+    → wait_held (if same then LoadedCpu t from ∷ trace else StoredCpu t c ∷ LoadedCpu t from ∷ trace) ≡ wait_held trace
+either_waits true t c from trace = refl
+either_waits false t c from trace = refl
+
+pub started_rests : (s t c from on : ℕ) (v w given : TaskVal) (q : Queue) (old new : List Rec)
+    → new ≡ Gave t (val.Task w) (val.Task given)
+    ∷ queued_new t c q (placed t from c (LoadedRq t on 0 ∷ LoadedState t None fresh ∷ Took t (val.Task v) ∷ old))
+    → current_task s new ≡ current_task s old → Rests s old new
+started_rests s t c from on v w given q old new did current =
+    record {
+      tasks = λ u e. ap (λ (z : List Rec). task_held z u) did ∙ started_tasks u e;
+      queues = λ f k. ap (λ (z : List Rec). queue_held z k) did ∙ started_queues k (f k);
+      claimed = λ u e. ap (λ (z : List Rec). is_claimed z u) did ∙ started_claimed u e;
+      current = current;
+      waits = ap wait_held did
+          ∙ either_waits (from == c) t c from (LoadedRq t on 0 ∷ LoadedState t None fresh ∷ Took t (val.Task v) ∷ old);
+    }
+  where
+    started_tasks : (u : ℕ) → task_held old u ≡ None → task_held (Gave t (val.Task w) (val.Task given)
+        ∷ queued_new t c q (placed t from c (LoadedRq t on 0 ∷ LoadedState t None fresh ∷ Took t (val.Task v) ∷ old))) u ≡ None
+    started_tasks u e = grind (arith, nat_tests, e)
+
+    started_queues : (k : ℕ) → queue_held old k ≡ None → queue_held (Gave t (val.Task w) (val.Task given)
+        ∷ queued_new t c q (placed t from c (LoadedRq t on 0 ∷ LoadedState t None fresh ∷ Took t (val.Task v) ∷ old))) k ≡ None
+    started_queues k e = grind (arith, nat_tests, e)
+
+    started_claimed : (u : ℕ) → is_claimed old u ≡ false → is_claimed (Gave t (val.Task w) (val.Task given)
+        ∷ queued_new t c q (placed t from c (LoadedRq t on 0 ∷ LoadedState t None fresh ∷ Took t (val.Task v) ∷ old))) u ≡ false
+    started_claimed u e = grind (arith, nat_tests, e)

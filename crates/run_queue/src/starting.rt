@@ -1,8 +1,9 @@
 //! A new task is started.
 ghost use Rattle.std.specs.Prelude.{◌≡◌, ℕ, ◌<◌, ◌+◌, None, Some, IsSome};
+ghost use Rattle.run_queue.specs.Rests.{Rests};
 ghost use Rattle.run_queue.specs.Starts.{DidStart, IsQueuedNew};
 ghost use Rattle.task_words.specs.Views.{IsOf, IsSameSeat};
-ghost use Rattle.word_steps.specs.Folds.{task_held, queue_held, number_read, last_reads};
+ghost use Rattle.word_steps.specs.Folds.{current_task, task_held, queue_held, number_read, last_reads};
 
 use crate::answer::Start;
 use crate::placing::place;
@@ -24,6 +25,7 @@ fn queue_new<B: Kept, R: Wait>(rt: &R, wk: &Wk<B>, pass: &mut Pass, t: TaskNo, c
     requires spare { 0 < pass.old.turn.spare }
     ensures same { IsSameSeat pass.old pass.new }
     ensures did { IsQueuedNew t c pass.old pass.new }
+    ensures current { current_task pass.new.seat pass.new.trace ≡ current_task pass.old.seat pass.old.trace }
 {
     store_running(wk, pass, t);
     let mut queue = lock_queue(rt, wk, pass, c);
@@ -43,6 +45,7 @@ pub fn start<B: Kept, R: Wait>(rt: &R, wk: &Wk<B>, pass: &mut Pass, t: TaskNo, c
     requires spare { 0 < pass.old.turn.spare }
     ensures same { IsSameSeat pass.old pass.new }
     ensures did { DidStart t c pass.old pass.new result }
+    ensures rests { Rests pass.old.seat pass.old.trace pass.new.trace }
 {
     let mut task = lock_task(rt, wk, pass, t);
     let seen = load_state(wk, pass, t);

@@ -8,7 +8,8 @@ use Rattle.core_data.specs.declared.values.TaskVal.{TaskVal}
 use Rattle.handoff_data.specs.declared.state.State.{State}
 use Rattle.run_queue.specs.Queueing.{placed}
 use Rattle.ttwu_core.specs.Claims.{queued_woken}
-use Rattle.ttwu_core.specs.Keeps.{Keeps, Rests}
+use Rattle.run_queue.specs.Rests.{Rests}
+use Rattle.ttwu_core.specs.Keeps.{Keeps}
 use Rattle.ttwu_core.specs.Wakes.{tested}
 use Rattle.word_steps.specs.Folds.{task_held, is_claimed}
 use Rattle.word_steps.specs.Records.{Rec, Gave, LoadedCpu, StoredCpu}

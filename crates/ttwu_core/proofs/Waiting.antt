@@ -1,11 +1,12 @@
 -- What words that were read again and again tell: no more than the last read.
-use Rattle.std.proofs.Common.{◌≡◌, ◌≢◌, ◌∙◌, ℕ, ◌∷◌, [], List, refl, sym, ap, arith}
-use Rattle.std.specs.Prelude.{Bool, true, false, if◌then◌else◌, Option, Some, None, is_none, IfSome}
+use Rattle.std.proofs.Common.{◌≡◌, ◌≢◌, ◌∙◌, ℕ, ◌∷◌, [], List, refl, ap, arith}
+use Rattle.std.specs.Prelude.{Bool, true, false, if◌then◌else◌, Option, Some, None, IfSome}
 use Rattle.std.proofs.lemmas.Bool.Decides.{nat_tests}
 use Rattle.core_data.specs.Queue.{Queue}
 use Rattle.core_data.specs.declared.pos.Rq.{Rq}
 use Rattle.core_gives.specs.Queues.{gives_up}
 use Rattle.handoff_data.specs.declared.shape.Shape.{Shape}
+use Rattle.run_queue.proofs.Guards.{taken_current}
 use Rattle.ttwu_core.specs.Claims.{busy_reads, awaited_clear, queued_woken}
 use Rattle.ttwu_core.specs.Finds.{Look, Left, rq_reads, looked, off_reads, released_there}
 use Rattle.ttwu_core.specs.Keeps.{Keeps}
@@ -58,23 +59,6 @@ module _ (t : ℕ) (trace : List Rec) where
   busy_claimed : (ns : List ℕ) → is_claimed (busy_reads t ns trace) ≡ is_claimed trace
   busy_claimed [] = refl
   busy_claimed (n ∷ ns) = busy_claimed ns
-
-kept_current : (b : Bool) (o : Option ℕ) → (b ≡ true → o ≡ None) → (if b then None else o) ≡ o
-kept_current true o gone = sym (gone refl)
-kept_current false o gone = refl
-
-idle : (v : Queue) (o : Option ℕ) → ((u : ℕ) → o ≡ Some u → v.cur ≡ Some u) → is_none v.cur ≡ true → o ≡ None
-idle v None cur e = refl
-idle v (Some u) cur e = let there = cur u refl in absurd (grind (arith, e, there))
-
--- a queue that is given with the `cur` that it was taken with leaves the seat its current task
-pub taken_current : (shape : Shape) (s c : ℕ) (v : Queue) (rs : List Rec) → TakenQueue shape s rs c v
-    → (if gives_up s c v then None else current_task s rs) ≡ current_task s rs
-taken_current shape s c v rs told =
-    kept_current (gives_up s c v) (current_task s rs) (λ e.
-    let same : s ≡ c = grind (arith, nat_tests, e) in
-    let gone : is_none v.cur ≡ true = grind (arith, nat_tests, e) in
-    idle v (current_task s rs) (told.current same) gone)
 
 seen_if : (b : Bool) (t : ℕ) (h : ℕ → Bool) → b ≡ true → put_if b t true h t ≡ true
 seen_if true t h e = grind (arith, nat_tests)

@@ -1,19 +1,11 @@
--- What a wake-up, and each part of it, leaves as it was.
-use Rattle.std.specs.Prelude.{◌≡◌, ℕ, false, List, None}
-use Rattle.word_steps.specs.Folds.{task_held, queue_held, wait_held, current_task, is_claimed}
+-- What each part of a wake-up leaves as it was.
+use Rattle.std.specs.Prelude.{◌≡◌, ℕ, List, None}
+use Rattle.word_steps.specs.Folds.{task_held, queue_held, wait_held, current_task}
 use Rattle.word_steps.specs.Records.{Rec}
 
--- a part: no task's lock is taken or given, no queue's lock is held after it where none was before, the same task is current
+-- no task's lock is taken or given, no queue's lock is held after it where none was before, the same task is current
 pub record Keeps (s : ℕ) (old new : List Rec) : Type 0 where
   pub held : task_held new ≡ task_held old
   pub free : ((c : ℕ) → queue_held old c ≡ None) → (c : ℕ) → queue_held new c ≡ None
-  pub current : current_task s new ≡ current_task s old
-  pub waits : wait_held new ≡ wait_held old
-
--- the whole: no lock is held after it that wasn't before, no task is claimed that wasn't, the same task is current
-pub record Rests (s : ℕ) (old new : List Rec) : Type 0 where
-  pub tasks : (u : ℕ) → task_held old u ≡ None → task_held new u ≡ None
-  pub queues : ((c : ℕ) → queue_held old c ≡ None) → (c : ℕ) → queue_held new c ≡ None
-  pub claimed : (u : ℕ) → is_claimed old u ≡ false → is_claimed new u ≡ false
   pub current : current_task s new ≡ current_task s old
   pub waits : wait_held new ≡ wait_held old

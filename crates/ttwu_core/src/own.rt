@@ -1,5 +1,6 @@
 //! The wake-up of the waker's own current task.
 ghost use Rattle.std.specs.Prelude.{◌≡◌, ℕ, ◌<◌, Some, true};
+ghost use Rattle.run_queue.specs.Rests.{Rests};
 ghost use Rattle.task_words.specs.States.{IsWakeMask};
 ghost use Rattle.task_words.specs.Views.{IsOf, IsSameSeat};
 ghost use Rattle.ttwu_core.specs.Own.{IsCurrent, DidWakeOwn};
@@ -19,6 +20,7 @@ pub fn wake_own<B: Kept>(wk: &Wk<B>, pass: &mut Pass, mask: State) -> Wake
     requires spare { 0 < pass.old.turn.spare }
     ensures same { IsSameSeat pass.old pass.new }
     ensures did { DidWakeOwn mask pass.old pass.new result }
+    ensures rests { Rests pass.old.seat pass.old.trace pass.new.trace }
 {
     let Some(t) = pass.current() else {
         unreachable!()

@@ -1,9 +1,9 @@
 //! The wake-up of another task.
 ghost use Rattle.std.specs.Prelude.{◌≡◌, ◌≢◌, ℕ, ◌<◌, false, None, Some};
 ghost use Rattle.handoff_data.specs.Shape.{IsShape};
+ghost use Rattle.run_queue.specs.Rests.{Rests};
 ghost use Rattle.task_words.specs.States.{IsWakeMask};
 ghost use Rattle.task_words.specs.Views.{IsOf, IsSameSeat};
-ghost use Rattle.ttwu_core.specs.Keeps.{Rests};
 ghost use Rattle.ttwu_core.specs.Wakes.{DidWake};
 ghost use Rattle.word_steps.specs.Folds.{task_held, queue_held, is_claimed, current_task};
 

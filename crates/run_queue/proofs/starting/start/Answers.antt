@@ -1,16 +1,18 @@
-use Rattle.std.proofs.Common.{arith, ◌≡◌, ◌∙◌, ℕ, ◌∷◌, List, None, ap, refl, inl, inr}
+use Rattle.std.proofs.Common.{arith, ◌≡◌, ◌∙◌, ℕ, ◌∷◌, List, None, Some, subst, ap, refl, inl, inr}
 use Rattle.std.proofs.lemmas.Grind.{common_steps}
 use Rattle.core_kinds.specs.Steps.{fresh}
 use Rattle.handoff_data.specs.declared.state.State.{State}
 use Rattle.run_queue.specs.Queueing.{placed}
 use Rattle.run_queue.specs.Starts.{queued_new}
 use Rattle.run_queue.proofs.Guards.{gave_task, held_there}
-use Rattle.run_queue.proofs.Steps.{held_started}
+use Rattle.run_queue.proofs.Steps.{held_started, placed_current, started_rests}
+use Rattle.run_queue.proofs.starting.start.Given.{Over}
+use Rattle.word_steps.specs.Folds.{task_held, current_task}
 use Rattle.run_queue.proofs.starting.start.Goals as goal
 use Rattle.run_queue.proofs.starting.start.Goals.{then-ne-via-then-ne, then-ne-via-else-ne+then-load_rq-ne0}
 use Rattle.handoff_data.specs.declared.entry.Entry.TheVariants as entry
 use Rattle.task_words.specs.Views.{PassView, logged}
-use Rattle.word_steps.specs.Records.{Rec, Took, LoadedState, LoadedRq}
+use Rattle.word_steps.specs.Records.{Rec, Took, Gave, LoadedState, LoadedRq}
 use Rattle.word_steps.specs.declared.val.Val.TheVariants as val
 
 pub returns-then-ne-clause-did : goal.returns-then-ne-clause-did
@@ -53,38 +55,82 @@ returns-then-ne-clause-did g c =
           })
     ]
 
-pub returns-clause-did : goal.returns-clause-did
-returns-clause-did g c =
+-- what was read before the task was placed
+reads_of : (g : Over) → goal.After-give-2 g → List Rec
+reads_of g c =
+    LoadedRq c.args.t c.load_rq.result.on 0 ∷ LoadedState c.args.t None fresh ∷ Took c.args.t (val.Task c.lock_task-task.result.val) ∷ c.args.pass.now.trace
+
+-- .. and then
+placed_did : (g : Over) (c : goal.After-give-2 g)
+    → c.place.new.pass.trace ≡ placed c.args.t c.place.result c.args.c (reads_of g c)
+unfolding reads_of
+placed_did g c =
     let t = c.args.t in
     let v = c.lock_task-task.result.val in
-    let seen = c.load_state-seen.result in
-    let old = c.args.pass.now in
-    let q = c.queue_new.ensures.did.queue in
     let on = c.load_rq.result.on in
-    let is_fresh : seen ≡ fresh = grind (arith, common_steps, c.if-ne.false, c.ne.ensures) in
+    let is_fresh : c.load_state-seen.result ≡ fresh = grind (arith, common_steps, c.if-ne.false, c.ne.ensures) in
     let first : c.load_rq.result.m ≡ 0 = grind (arith, common_steps, c.if-load_rq-ne0.false) in
-    let taken = Took t (val.Task v) ∷ old.trace in
-    let read : c.load_state-seen.new.pass.trace ≡ LoadedState t None fresh ∷ taken =
+    let read : c.load_state-seen.new.pass.trace ≡ LoadedState t None fresh ∷ Took t (val.Task v) ∷ c.args.pass.now.trace =
     c.load_state-seen.ensures.trace
     ∙ ap (λ (z : State × List Rec). LoadedState t None z.0 ∷ z.1) (λ i. (is_fresh i, c.lock_task-task.ensures.trace i)) in
-    let looked : c.load_rq.new.pass.trace ≡ LoadedRq t on 0 ∷ LoadedState t None fresh ∷ taken =
+    let looked : c.load_rq.new.pass.trace ≡ LoadedRq t on 0 ∷ LoadedState t None fresh ∷ Took t (val.Task v) ∷ c.args.pass.now.trace =
     c.load_rq.ensures.trace ∙ ap (λ (z : ℕ × List Rec). LoadedRq t on z.0 ∷ z.1) (λ i. (first i, read i)) in
-    let put : c.place.new.pass.trace ≡ placed t c.place.result c.args.c (LoadedRq t on 0 ∷ LoadedState t None fresh ∷ taken) =
     c.place.ensures.trace
-    ∙ ap (λ (z : ℕ × List Rec). placed z.0 c.place.result c.args.c z.1) (λ i. (c.lock_task-task.ensures.task i, looked i)) in (
-      refl,
-      record {
-        task = v;
-        on = on;
-        from = c.place.result;
-        queue = q;
-        did = c.give-2.ensures.trace
-            ∙ gave_task t c.lock_task-task.result.task v (record v { wake_cpu = c.args.c }) c.queue_new.new.pass.trace
-            (queued_new t c.args.c q (placed t c.place.result c.args.c (LoadedRq t on 0 ∷ LoadedState t None fresh ∷ taken)))
-            c.lock_task-task.ensures.task (c.queue_new.ensures.did.did ∙ ap (queued_new t c.args.c q) put)
-            (held_started t c.args.c c.place.result on v q old.trace);
-        turn = c.give-2.ensures.same.same_turn ∙ c.queue_new.ensures.did.turn
-            ∙ ap (logged (entry.New t 1 c.args.c)) (c.place.ensures.same.same_turn ∙ c.load_rq.ensures.same.same_turn
-            ∙ c.load_state-seen.ensures.same.same_turn ∙ c.lock_task-task.ensures.same.same_turn);
-      },
-    )
+    ∙ ap (λ (z : ℕ × List Rec). placed z.0 c.place.result c.args.c z.1) (λ i. (c.lock_task-task.ensures.task i, looked i))
+
+-- .. and all
+still_held : (g : Over) (c : goal.After-give-2 g)
+    → task_held (queued_new c.args.t c.args.c c.queue_new.ensures.did.queue (placed c.args.t c.place.result c.args.c (reads_of g c))) c.args.t
+    ≡ Some c.lock_task-task.result.val
+unfolding reads_of
+still_held g c =
+    held_started c.args.t c.args.c c.place.result c.load_rq.result.on c.lock_task-task.result.val c.queue_new.ensures.did.queue c.args.pass.now.trace
+
+started_did : (g : Over) (c : goal.After-give-2 g)
+    → c.give-2.new.pass.trace
+    ≡ Gave c.args.t (val.Task c.lock_task-task.result.val) (val.Task (record c.lock_task-task.result.val { wake_cpu = c.args.c }))
+    ∷ queued_new c.args.t c.args.c c.queue_new.ensures.did.queue (placed c.args.t c.place.result c.args.c (reads_of g c))
+started_did g c =
+    let t = c.args.t in
+    let v = c.lock_task-task.result.val in
+    let q = c.queue_new.ensures.did.queue in
+    c.give-2.ensures.trace
+    ∙ gave_task t c.lock_task-task.result.task v (record v { wake_cpu = c.args.c }) c.queue_new.new.pass.trace
+    (queued_new t c.args.c q (placed t c.place.result c.args.c (reads_of g c)))
+    c.lock_task-task.ensures.task (c.queue_new.ensures.did.did ∙ ap (queued_new t c.args.c q) (placed_did g c))
+    (still_held g c)
+
+pub returns-clause-did : goal.returns-clause-did
+unfolding reads_of
+returns-clause-did g c = (
+  refl,
+  record {
+    task = c.lock_task-task.result.val;
+    on = c.load_rq.result.on;
+    from = c.place.result;
+    queue = c.queue_new.ensures.did.queue;
+    did = started_did g c;
+    turn = c.give-2.ensures.same.same_turn ∙ c.queue_new.ensures.did.turn
+        ∙ ap (logged (entry.New c.args.t 1 c.args.c)) (c.place.ensures.same.same_turn ∙ c.load_rq.ensures.same.same_turn
+        ∙ c.load_state-seen.ensures.same.same_turn ∙ c.lock_task-task.ensures.same.same_turn);
+  },
+)
+
+pub returns-clause-rests : goal.returns-clause-rests
+unfolding reads_of
+returns-clause-rests g c =
+    let t = c.args.t in
+    let s = c.args.pass.now.seat in
+    let v = c.lock_task-task.result.val in
+    let on = c.load_rq.result.on in
+    let old = c.args.pass.now.trace in
+    let seatp : c.place.new.pass.seat ≡ s = c.place.ensures.same.same.same_seat ∙ c.load_rq.ensures.same.same.same_seat
+    ∙ c.load_state-seen.ensures.same.same.same_seat ∙ c.lock_task-task.ensures.same.same.same_seat in
+    let seatq : c.queue_new.new.pass.seat ≡ s = c.queue_new.ensures.same.same_seat ∙ seatp in
+    let kept : current_task s c.queue_new.new.pass.trace ≡ current_task s c.place.new.pass.trace =
+    subst (λ (z : ℕ × ℕ). current_task z.0 c.queue_new.new.pass.trace ≡ current_task z.1 c.place.new.pass.trace)
+    (λ i. (seatq i, seatp i)) c.queue_new.ensures.current in
+    started_rests s t c.args.c c.place.result on v v (record v { wake_cpu = c.args.c }) c.queue_new.ensures.did.queue old
+    c.give-2.new.pass.trace (started_did g c)
+    (ap (current_task s) c.give-2.ensures.trace ∙ kept ∙ ap (current_task s) (placed_did g c)
+    ∙ placed_current s t c.args.c c.place.result (reads_of g c))

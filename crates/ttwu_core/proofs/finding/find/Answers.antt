@@ -2,9 +2,9 @@ use Rattle.std.proofs.Common.{◌≡◌, ◌∙◌, ℕ, ◌∷◌, List, Some, 
 use Rattle.std.specs.Prelude.{if◌then◌else◌}
 use Rattle.core_gives.specs.Queues.{gives_up}
 use Rattle.handoff_data.specs.declared.shape.Shape.{Shape}
-use Rattle.run_queue.proofs.Guards.{gave_queue, queue_there}
+use Rattle.run_queue.proofs.Guards.{gave_queue, queue_there, taken_current}
 use Rattle.ttwu_core.proofs.Steps.{give_looked_may}
-use Rattle.ttwu_core.proofs.Waiting.{off_keeps, off_claimed, taken_current, off_seen, off_number}
+use Rattle.ttwu_core.proofs.Waiting.{off_keeps, off_claimed, off_seen, off_number}
 use Rattle.ttwu_core.proofs.finding.find.Given.{Over}
 use Rattle.ttwu_core.proofs.finding.find.Goals as goal
 use Rattle.ttwu_core.specs.Finds.{Look, Left, looked, off_reads, rq_reads}

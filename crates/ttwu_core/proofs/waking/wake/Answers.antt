@@ -3,7 +3,8 @@ use Rattle.std.specs.Prelude.{unwrap_or}
 use Rattle.core_data.specs.declared.values.TaskVal.{TaskVal}
 use Rattle.ttwu_core.proofs.Resting.{keeps_again, placed_keeps, placed_claimed, queued_others, queued_unclaimed, rests_after}
 use Rattle.ttwu_core.proofs.waking.wake.Goals as goal
-use Rattle.ttwu_core.specs.Keeps.{Keeps, Rests}
+use Rattle.run_queue.specs.Rests.{Rests}
+use Rattle.ttwu_core.specs.Keeps.{Keeps}
 use Rattle.ttwu_core.specs.Wakes.{tested}
 use Rattle.word_steps.specs.Folds.{task_held, is_claimed}
 use Rattle.word_steps.specs.Records.{Rec, Gave, LoadedState}
