@@ -1,6 +1,6 @@
 -- Each shape of what a seat did with a queue allows its give.
-use Rattle.std.proofs.Common.{◌≡◌, ◌≢◌, ℕ, ◌<◌, ◌≤◌, ◌+◌, ◌++◌, ◌∷◌, [], inl, inr, refl, sym, ap, subst, ◌∙◌, List, length, arith}
-use Rattle.std.specs.Prelude.{suc, ◌-◌, ◌/◌, ◌^◌, IsSome, unwrap_or, MatchOption, IfSome, nat_lt, ◌==◌, ◌&&◌, ◌⊎◌, Bool, true, false, Option, Some, None, if◌then◌else◌, is_some}
+use Rattle.std.proofs.Common.{◌≡◌, ℕ, ◌<◌, ◌≤◌, ◌+◌, ◌++◌, ◌∷◌, [], inl, inr, refl, sym, ap, subst, ◌∙◌, List, length, arith}
+use Rattle.std.specs.Prelude.{suc, ◌-◌, ◌/◌, ◌^◌, IsSome, unwrap_or, MatchOption, IfSome, ◌==◌, ◌&&◌, ◌⊎◌, Bool, true, false, Option, Some, None, if◌then◌else◌, is_some}
 use Rattle.std.proofs.lemmas.Bool.{cases_Bool}
 use Rattle.std.proofs.lemmas.Bool.Decides.{nat_tests}
 use Rattle.core_data.proofs.QueueLemmas.{times_in-push, times_in-cons}
@@ -9,15 +9,16 @@ use Rattle.core_data.specs.declared.values.TaskVal.{TaskVal}
 use Rattle.core_gives.specs.Queues.{times, is_some_of}
 use Rattle.handoff_data.specs.declared.shape.Shape.{Shape}
 use Rattle.handoff_data.specs.declared.state.State.{State}
-use Rattle.task_words.specs.Gives.{is_quiet, unquiet, IsAsTaken, IsWoken, IsPicked, IsPutBack, IsAsleep, IsQueuedHere, IsCurrentHere, HasRoomFor, IsJustTaken, IsQueuedUnder}
+use Rattle.task_words.specs.Gives.{is_quiet, unquiet, IsAsTaken, IsWoken, IsPicked, IsPutBack, IsAsleep, HasRoomFor, IsJustTaken, IsQueuedUnder}
+use Rattle.core_kinds.specs.Steps.{is_sleep, dead, running}
+use Rattle.task_words.specs.States.{IsOwnStore}
+use Rattle.task_words.specs.Queues.{MayQueueHere}
 use Rattle.word_rule.proofs.Uses.{gives_same, gives_woken, gives_picked, gives_back, gives_asleep, IsPushed}
 use Rattle.word_rule.proofs.Possible.{value_of}
-use Rattle.word_rule.specs.May.{MayGiveQueueVal, MayGiveTaskVal, MaySetBusyWord, next_busy}
+use Rattle.word_rule.specs.May.{MayGiveQueueVal, MayGiveTaskVal, MaySetBusyWord, MayQueueWord, MayOwnWord, next_busy, next_rq}
 use Rattle.word_rule.specs.Standing.{may_run, is_runnable}
-use Rattle.word_rule.specs.Told.{TakenQueue, IsOff}
-use Rattle.word_steps.specs.Folds.{put_both, has_put, has_added, current_task, stays_queued, queue_held, number_read, task_to_clear}
+use Rattle.word_steps.specs.Folds.{put_both, has_put, current_task, stays_queued, queue_held, number_read, task_to_clear, task_held, ended_known}
 use Rattle.word_steps.specs.Records.{Rec, Took, Gave, OutBody, HomeBody, Queued, Dequeued, Moved, SetBusy, ClearedBusy, StoredOwn, Claimed, Released, LoadedState, LoadedRq, LoadedBusy, LoadedCpu, StoredCpu, Bumped, LoadedCond}
-use Rattle.word_steps.specs.declared.val.Val.TheVariants as val
 
 -- one more at the back, and at the front
 pushed : (xs : List ℕ) (t : ℕ) → IsPushed xs (xs ++ t ∷ []) t
@@ -54,22 +55,22 @@ module _ (shape : Shape) (s : ℕ) (rs : List Rec) (c : ℕ) (given : Queue) (h 
   quiet_gives : (r : Rec) → is_quiet r ≡ true → MayGiveQueueVal s (r ∷ rs) shape c given
   quiet_gives (LoadedState t mask state) q =
       let more : IsMore (LoadedState t mask state) = λ u e. still_known (is_some_of (current_task s rs) t && (stays_queued rs && (is_some (queue_held rs s) && is_runnable state))) (may_run s rs) s t c u e in
-      record { taken = h.taken; held = h.held; stands = h.stands; waits = λ u w. more u (h.waits u w); next = λ u e. elim (h.next u e) [ | inl w ↦ inl (more u w) | inr w ↦ inr w ]; others = h.others; own = h.own; clear = h.clear; left = h.left }
+      record { taken = h.taken; held = h.held; stands = h.stands; waits = λ u w. more u (h.waits u w); next = λ u e. elim (h.next u e) [ inl w ↦ inl (more u w) | inr w ↦ inr w ]; others = h.others; own = h.own; clear = h.clear; left = h.left }
   quiet_gives (LoadedRq t on m) q =
       let more : IsMore (LoadedRq t on m) = λ u e. e in
-      record { taken = h.taken; held = h.held; stands = h.stands; waits = λ u w. more u (h.waits u w); next = λ u e. elim (h.next u e) [ | inl w ↦ inl (more u w) | inr w ↦ inr w ]; others = h.others; own = h.own; clear = h.clear; left = h.left }
+      record { taken = h.taken; held = h.held; stands = h.stands; waits = λ u w. more u (h.waits u w); next = λ u e. elim (h.next u e) [ inl w ↦ inl (more u w) | inr w ↦ inr w ]; others = h.others; own = h.own; clear = h.clear; left = h.left }
   quiet_gives (LoadedBusy t busy n) q =
       let more : IsMore (LoadedBusy t busy n) = λ u e. e in
-      record { taken = h.taken; held = h.held; stands = h.stands; waits = λ u w. more u (h.waits u w); next = λ u e. elim (h.next u e) [ | inl w ↦ inl (more u w) | inr w ↦ inr w ]; others = h.others; own = h.own; clear = h.clear; left = h.left }
+      record { taken = h.taken; held = h.held; stands = h.stands; waits = λ u w. more u (h.waits u w); next = λ u e. elim (h.next u e) [ inl w ↦ inl (more u w) | inr w ↦ inr w ]; others = h.others; own = h.own; clear = h.clear; left = h.left }
   quiet_gives (LoadedCpu t d) q =
       let more : IsMore (LoadedCpu t d) = λ u e. e in
-      record { taken = h.taken; held = h.held; stands = h.stands; waits = λ u w. more u (h.waits u w); next = λ u e. elim (h.next u e) [ | inl w ↦ inl (more u w) | inr w ↦ inr w ]; others = h.others; own = h.own; clear = h.clear; left = h.left }
+      record { taken = h.taken; held = h.held; stands = h.stands; waits = λ u w. more u (h.waits u w); next = λ u e. elim (h.next u e) [ inl w ↦ inl (more u w) | inr w ↦ inr w ]; others = h.others; own = h.own; clear = h.clear; left = h.left }
   quiet_gives (LoadedCond k v) q =
       let more : IsMore (LoadedCond k v) = λ u e. e in
-      record { taken = h.taken; held = h.held; stands = h.stands; waits = λ u w. more u (h.waits u w); next = λ u e. elim (h.next u e) [ | inl w ↦ inl (more u w) | inr w ↦ inr w ]; others = h.others; own = h.own; clear = h.clear; left = h.left }
+      record { taken = h.taken; held = h.held; stands = h.stands; waits = λ u w. more u (h.waits u w); next = λ u e. elim (h.next u e) [ inl w ↦ inl (more u w) | inr w ↦ inr w ]; others = h.others; own = h.own; clear = h.clear; left = h.left }
   quiet_gives (Released t) q =
       let more : IsMore (Released t) = λ u e. released_known ((u == t) && has_put rs c u) (may_run s rs c u) e in
-      record { taken = h.taken; held = h.held; stands = h.stands; waits = λ u w. more u (h.waits u w); next = λ u e. elim (h.next u e) [ | inl w ↦ inl (more u w) | inr w ↦ inr w ]; others = h.others; own = h.own; clear = h.clear; left = h.left }
+      record { taken = h.taken; held = h.held; stands = h.stands; waits = λ u w. more u (h.waits u w); next = λ u e. elim (h.next u e) [ inl w ↦ inl (more u w) | inr w ↦ inr w ]; others = h.others; own = h.own; clear = h.clear; left = h.left }
   quiet_gives (Took n v) q = loud (Took n v) refl q
   quiet_gives (Gave n v w) q = loud (Gave n v w) refl q
   quiet_gives (OutBody t b) q = loud (OutBody t b) refl q
@@ -135,8 +136,10 @@ module _ (shape : Shape) (s : ℕ) (trace : List Rec) where
 
   pub first_may : (c t : ℕ) (now : Queue) (rest : List ℕ) → IsJustTaken shape s trace c now → now.waiting ≡ t ∷ rest
       → (t < shape.tasks) × (may_run s trace c t ≡ true)
-  first_may c t now rest x first = (x.told.waiting t (λ none. absurd (omega (arith, none, one))),
-      subst (λ (z : List Rec). may_run s z c t ≡ true) (sym x.did) (grind (arith, nat_tests, one)))
+  first_may c t now rest x first = (
+    x.told.waiting t (λ none. absurd (omega (arith, none, one))),
+    subst (λ (z : List Rec). may_run s z c t ≡ true) (sym x.did) (grind (arith, nat_tests, one)),
+  )
     where
       one : times_in now.waiting t ≡ times_in rest t + 1
       one = let all = ap (λ (xs : List ℕ). times_in xs t) first in let more = times_in-cons t rest t in grind (arith, nat_tests, all, more)
@@ -175,3 +178,17 @@ ready_may s trace t x held ready none clear room = let out = value_of (queue_hel
   none = none;
   clear = clear;
 }
+
+pub here_may : (s : ℕ) (trace : List Rec) (c t x : ℕ) → MayQueueHere trace c t → x / 4 < 2 ^ 60 → MayQueueWord s trace t x (next_rq x 1)
+here_may s trace c t x h room = record { after = refl; room = room; locked = h.locked; cpu = c; read = h.read; queue = h.queue; ready = h.ready }
+
+pub own_store : (s : ℕ) (trace : List Rec) (state : State) → IsOwnStore s trace state → (t : ℕ) × ((x : ℕ) → MayOwnWord s trace t x state.0)
+own_store s trace state h = let out = value_of (current_task s trace) h.runs in (
+  out.0,
+  λ x. record {
+    current = out.1;
+    stays = h.stays;
+    allowed = subst (λ (t : ℕ). (state ≡ running) ⊎ ((is_sleep state ≡ true) ⊎ ((state ≡ dead) × IsSome (task_held trace t) × (ended_known trace t ≡ Some true))))
+        (ap (λ (o : Option ℕ). unwrap_or o 0) out.1) h.allowed;
+  },
+)

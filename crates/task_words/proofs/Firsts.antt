@@ -30,20 +30,23 @@ module _ (name : TableId) (shape : Shape) (lasting : List (List ℕ)) where
   abbrev pub pass_with : TokenView → PassView
   pass_with t = new_pass t.of t.shape t.lasting t.seat
 
-  news_are : (seats : List ℕ) → map pass_with (map (new_token name shape lasting) seats) ≡ map (new_pass name shape lasting) seats
+  news_are : (seats : List ℕ)
+      → map pass_with (map (new_token name shape lasting) seats) ≡ map (new_pass name shape lasting) seats
   news_are [] = refl
   news_are (s ∷ seats) = λ j. new_pass name shape lasting s ∷ news_are seats j
 
   pub passes_are : (n : ℕ) → map pass_with (first_tokens name shape lasting n) ≡ first_passes name shape lasting n
   passes_are n = news_are (range_with_len 0 n)
 
-  news_of : (seats : List ℕ) → All (IsOf record { name = name; shape = shape; lasting = lasting }) (map (new_pass name shape lasting) seats)
+  news_of : (seats : List ℕ)
+      → All (IsOf record { name = name; shape = shape; lasting = lasting }) (map (new_pass name shape lasting) seats)
   news_of [] k d lt = absurd (omega arith)
   news_of (s ∷ seats) zero d lt = record { table = refl; same_shape = refl; same_lasting = refl }
   news_of (s ∷ seats) (suc k) d lt = news_of seats k d (omega arith)
 
   -- each is of its table
-  pub firsts_of : (n : ℕ) → All (IsOf record { name = name; shape = shape; lasting = lasting }) (first_passes name shape lasting n)
+  pub firsts_of : (n : ℕ)
+      → All (IsOf record { name = name; shape = shape; lasting = lasting }) (first_passes name shape lasting n)
   firsts_of n = news_of (range_with_len 0 n)
 
   seats_are : (seats : List ℕ) → map (λ (p : PassView). p.seat) (map (new_pass name shape lasting) seats) ≡ seats

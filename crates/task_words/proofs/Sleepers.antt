@@ -41,14 +41,20 @@ either_entry : (entries : List WaitEntry) (x : WaitEntry) (t : ℕ) → has_entr
     → (has_entry entries (shared_entry t) ≡ true) ⊎ (has_entry entries (exclusive_entry t) ≡ true)
 either_entry entries x t has is = which x.exclusive (λ j. x.exclusive)
   where
-    which : (b : Bool) → x.exclusive ≡ b → (has_entry entries (shared_entry t) ≡ true) ⊎ (has_entry entries (exclusive_entry t) ≡ true)
-    which true e = inr (subst (λ z. has_entry entries z ≡ true) (let same : x ≡ exclusive_entry t = λ j. record { t = is j; exclusive = e j } in same) has)
-    which false e = inl (subst (λ z. has_entry entries z ≡ true) (let same : x ≡ shared_entry t = λ j. record { t = is j; exclusive = e j } in same) has)
+    which : (b : Bool) → x.exclusive ≡ b
+        → (has_entry entries (shared_entry t) ≡ true) ⊎ (has_entry entries (exclusive_entry t) ≡ true)
+    which true e =
+        let same : x ≡ exclusive_entry t = λ j. record { t = is j; exclusive = e j } in
+        inr (subst (λ z. has_entry entries z ≡ true) same has)
+    which false e =
+        let same : x ≡ shared_entry t = λ j. record { t = is j; exclusive = e j } in
+        inl (subst (λ z. has_entry entries z ≡ true) same has)
 
 equal_of : (a b : ℕ) → (a == b) ≡ true → a ≡ b
 equal_of a b e = grind (arith, nat_tests, e)
 
-of_task : (entries : List WaitEntry) (t : ℕ) → has_task entries t ≡ true → (has_entry entries (shared_entry t) ≡ true) ⊎ (has_entry entries (exclusive_entry t) ≡ true)
+of_task : (entries : List WaitEntry) (t : ℕ) → has_task entries t ≡ true
+    → (has_entry entries (shared_entry t) ≡ true) ⊎ (has_entry entries (exclusive_entry t) ≡ true)
 of_task entries t has =
     let x = any-element (λ (y : WaitEntry). y.t == t) entries has in
     either_entry entries x.0 t (element-entry x.0 entries x.1) (equal_of x.0.t t x.2)
@@ -69,17 +75,24 @@ sleep_at (entry.Sleep t m c) = c
 sleep_at e = 0
 
 -- the seat of a sleeper is that of its processor
-module _ (core : Table) (holds : Holds core) (none : (s t : ℕ) → core.current s ≢ Some t) (t : ℕ) (asleep : is_sleep (core.state t) ≡ true) where
+module _ (core : Table) (holds : Holds core) (none : (s t : ℕ) → core.current s ≢ Some t) (t : ℕ)
+    (asleep : is_sleep (core.state t) ≡ true) where
   off : core.on_rq t ≡ 0
   off =
-      let one : core.on_rq t ≢ 1 = λ e. elim (holds.places.waiting t e (λ s. none s t)) [ inl a ↦ sleep-runnable (core.state t) asleep a | inr b ↦ waking-sleep (core.state t) b.0 asleep ] in
+      let one : core.on_rq t ≢ 1 = λ e. elim
+      (holds.places.waiting t e (λ s. none s t)) [
+        | inl a ↦ sleep-runnable (core.state t) asleep a
+        | inr b ↦ waking-sleep (core.state t) b.0 asleep
+      ] in
       let two : core.on_rq t ≢ 2 = λ e. sleep-runnable (core.state t) asleep (holds.places.moving.runnable t e) in
       let few = holds.places.on_rq t in omega (arith, few, one, two)
 
   sleep_there : IsIn (journals_of core) (core.cpu t) (entry.Sleep t (core.changes t) (core.cpu t))
   sleep_there =
-      let some : core.changes t ≢ 0 = λ z. sleep-runnable (core.state t) asleep (holds.places.new_states.runnable t z) in
-      holds.journals.last_changes.asleep t some off (λ d. sleep-dead (core.state t) asleep d) (λ w. waking-sleep (core.state t) w asleep)
+      let some : core.changes t ≢ 0 = λ z. sleep-runnable (core.state t) asleep
+      (holds.places.new_states.runnable t z) in
+      holds.journals.last_changes.asleep t some off (λ d. sleep-dead (core.state t) asleep d)
+      (λ w. waking-sleep (core.state t) w asleep)
 
   slept_last : SleptLast (journals_of core) (core.cpu t) t
   slept_last = record {
@@ -93,14 +106,18 @@ module _ (core : Table) (holds : Holds core) (none : (s t : ℕ) → core.curren
   seat_is s at =
       let j = journals_of core in let changes = core.changes t in let p = holds.journals in
       let last = sleep_there in
-      let below : at.number ≤ changes = p.numbered.change s at.slept.0 (entry.Sleep t at.number at.c) t at.number at.slept.1 refl in
+      let below : at.number ≤ changes = p.numbered.change s at.slept.0
+      (entry.Sleep t at.number at.c) t at.number at.slept.1 refl in
       let above : changes ≤ at.number = at.last (entry.Sleep t changes (core.cpu t)) changes (core.cpu t, last) refl in
       let same : changes ≡ at.number = omega (arith, below, above) in
-      let entries = once-change j s at.slept.0 (core.cpu t) last.0 (entry.Sleep t at.number at.c) (entry.Sleep t changes (core.cpu t)) t at.number p.rules.not_repeated at.slept.1 last.1 refl (ap (λ z. Some (t, z)) same) in
+      let entries = once-change j s at.slept.0 (core.cpu t) last.0 (entry.Sleep t at.number at.c)
+      (entry.Sleep t changes (core.cpu t)) t at.number p.rules.not_repeated at.slept.1 last.1 refl
+      (ap (λ z. Some (t, z)) same) in
       sym (ap sleep_at entries) ∙ (p.rules.in_range s at.slept.0 (entry.Sleep t at.number at.c) at.slept.1).2
 
 -- a safe sleeper with a test has the condition's value, or is owed a walk
-safe-tested : (core : Table) (k t v : ℕ) → is_sleep (core.state t) ≡ true → core.test (core.cpu t) t k ≡ Some v → IsSafeSleeper core k t
+safe-tested : (core : Table) (k t v : ℕ) → is_sleep (core.state t) ≡ true → core.test (core.cpu t) t k ≡ Some v
+    → IsSafeSleeper core k t
     → (core.cond k ≡ v) ⊎ IsOwed core.owes core.retaken core.passed k t
 safe-tested core k t v asleep test safe = elim safe [
   | inl awake ↦ absurd (sleep-awake (core.state t) asleep awake)
@@ -111,35 +128,45 @@ safe-tested core k t v asleep test safe = elim safe [
   | inr (inr owed) ↦ inr owed
 ]
 
-module _ {B : Type 0} (ended : B → Bool) (shape : Shape) (tokens : List TokenView) (bodies : List B) (states : List State) (conds : List ℕ) (end : IsEnd ended shape tokens bodies states conds) (idle : Each IsIdle tokens) where
+module _ {B : Type 0} {ended : B → Bool} {shape : Shape} {tokens : List TokenView} {bodies : List B}
+    {states : List State} {conds : List ℕ} (end : IsEnd ended shape tokens bodies states conds)
+    (idle : Each IsIdle tokens) where
   abbrev core : Table
   core = core_of shape end.words end.homes (traces_of tokens)
 
   no_wait : (k s : ℕ) → wait_held (traces_of tokens s) k ≡ None
-  no_wait k = each_trace (λ s trace. wait_held trace k ≡ None) (λ s. refl) tokens (each_map IsIdle (λ t. wait_held t.trace k ≡ None) tokens (λ t i. i.waits k) idle)
+  no_wait k = each_trace (λ s trace. wait_held trace k ≡ None) (λ s. refl) tokens
+      (each_map IsIdle (λ t. wait_held t.trace k ≡ None) tokens (λ t i. i.waits k) idle)
 
   waits_home : (k : ℕ) → k < shape.conds → (entries : List WaitEntry) × (core.wait k ≡ Some entries)
   waits_home k lt =
       let locks = end.kept.holds.locks.waits in
-      let free = none_of (core.wait_lock k) (λ q e. not_some (core.wait_out q k) (no_wait k q) (locks.held_out k q e)) in
+      let free = none_of (core.wait_lock k)
+      (λ q e. not_some (core.wait_out q k) (no_wait k q) (locks.held_out k q e)) in
       value_of (core.wait k) (locks.free_home k lt free)
 
   none : (q u : ℕ) → core.current q ≢ Some u
-  none q u e = let no : false ≡ true = ap is_some (sym (no_current ended shape tokens bodies states conds end idle q) ∙ e) in cc
+  none q u e = let no : false ≡ true = ap is_some
+      (sym (no_current end idle q) ∙ e) in cc
 
-  sleeping : length states ≡ shape.tasks → (t : ℕ) (state : State) → slice_get states t ≡ Some state → is_sleep state ≡ true → is_sleep (core.state t) ≡ true
+  sleeping : length states ≡ shape.tasks → (t : ℕ) (state : State) → slice_get states t ≡ Some state
+      → is_sleep state ≡ true → is_sleep (core.state t) ≡ true
   sleeping tasks t state is sleeps =
       let low : t < shape.tasks = (let below = got_below states t state is in omega arith) in
-      ap is_sleep (state_of ended shape tokens bodies states conds end t state low is) ∙ sleeps
+      ap is_sleep (state_of end t state low is) ∙ sleeps
 
   pub sleepers_slept : length states ≡ shape.tasks → SleepersSlept (journals_of core) states
-  sleepers_slept tasks t state is sleeps = (core.cpu t, slept_last core end.kept.holds none t (sleeping tasks t state is sleeps))
+  sleepers_slept tasks t state is sleeps =
+      (core.cpu t, slept_last core end.kept.holds none t (sleeping tasks t state is sleeps))
 
   pub none_missed : length states ≡ shape.tasks → length conds ≡ shape.conds
-      → (s t k v count : ℕ) (state : State) → slice_get states t ≡ Some state → is_sleep state ≡ true → slice_get conds k ≡ Some count
-      → SleptLast (journals_of core) s t → is_asleep s (traces_of tokens s) t k ≡ true → tested s (traces_of tokens s) t k ≡ Some v
+      → (s t k v count : ℕ) (state : State) → slice_get states t ≡ Some state → is_sleep state ≡ true
+      → slice_get conds k ≡ Some count
+      → SleptLast (journals_of core) s t → is_asleep s (traces_of tokens s) t k ≡ true → tested s
+      (traces_of tokens s) t k ≡ Some v
       → (count ≡ v)
-      ⊎ (IsOwed (λ x. owes_walk (traces_of tokens x)) (λ x. has_retaken (traces_of tokens x)) (λ x. has_passed (traces_of tokens x)) k t
+      ⊎ (IsOwed (λ x. owes_walk (traces_of tokens x)) (λ x. has_retaken (traces_of tokens x))
+      (λ x. has_passed (traces_of tokens x)) k t
       ⊎ ((x : ℕ) × (gave_exclusive (traces_of tokens x) k t ≡ true)))
   none_missed tasks lengths s t k v count state is sleeps has at asleep test =
       let holds = end.kept.holds in
@@ -147,8 +174,10 @@ module _ {B : Type 0} (ended : B → Bool) (shape : Shape) (tokens : List TokenV
       let rests = sleeping tasks t state is sleeps in
       let here : core.cpu t ≡ s = seat_is core holds none t rests s at in
       let home = waits_home k cond in
-      let there : core.asleep (core.cpu t) t k ≡ true = subst (λ (q : ℕ). is_asleep q (traces_of tokens q) t k ≡ true) (sym here) asleep in
-      let tests : core.test (core.cpu t) t k ≡ Some v = subst (λ (q : ℕ). tested q (traces_of tokens q) t k ≡ Some v) (sym here) test in
+      let there : core.asleep (core.cpu t) t k ≡ true = subst (λ (q : ℕ). is_asleep q (traces_of tokens q) t k ≡ true)
+      (sym here) asleep in
+      let tests : core.test (core.cpu t) t k ≡ Some v = subst (λ (q : ℕ). tested q (traces_of tokens q) t k ≡ Some v)
+      (sym here) test in
       let entry = holds.sleepers.entry_home k t home.0 there rests home.1 in
       let counts : core.cond k ≡ count = some_same (core.cond k) count (sym (end.cond k cond) ∙ has) in
       elim (of_task home.0 t entry) [

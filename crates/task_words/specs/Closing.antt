@@ -25,7 +25,8 @@ empty_turn tasks = record { entries = []; spare = 4 * tasks + 16 }
 
 -- the pass of the seat s, which did nothing yet, and those of n seats in their order
 abbrev pub new_pass : TableId → Shape → List (List ℕ) → ℕ → PassView
-new_pass name shape lasting s = record { of = name; shape = shape; lasting = lasting; seat = s; trace = []; turn = empty_turn shape.tasks }
+new_pass name shape lasting s =
+    record { of = name; shape = shape; lasting = lasting; seat = s; trace = []; turn = empty_turn shape.tasks }
 
 abbrev pub first_passes : TableId → Shape → List (List ℕ) → ℕ → List PassView
 first_passes name shape lasting n = map (new_pass name shape lasting) (range_with_len 0 n)
@@ -43,14 +44,16 @@ abbrev pub traces_in : List PassView → ℕ → List Rec
 traces_in passes = traces_of (map token_of passes)
 
 abbrev pub journals_in : Shape → List PassView → History
-journals_in shape passes = history shape.cpus shape.tasks (shape.cpus + shape.agents) (λ s. journal s (traces_in passes s))
+journals_in shape passes =
+    history shape.cpus shape.tasks (shape.cpus + shape.agents) (λ s. journal s (traces_in passes s))
 
 abbrev pub AllDead : Shape → List State → Type 0
 AllDead shape states = (t : ℕ) → t < shape.tasks → slice_get states t ≡ Some dead
 
 -- the body of a dead task has ended
 abbrev pub DeadHaveEnded : {B : Type 0} → (B → Bool) → List B → List State → Type 0
-DeadHaveEnded ended bodies states = (t : ℕ) (b : _) → slice_get bodies t ≡ Some b → slice_get states t ≡ Some dead → ended b ≡ true
+DeadHaveEnded ended bodies states =
+    (t : ℕ) (b : _) → slice_get bodies t ≡ Some b → slice_get states t ≡ Some dead → ended b ≡ true
 
 -- a task with a death in one of the journals is dead
 abbrev pub DeathsAreOfDead : History → List State → Type 0
@@ -65,7 +68,8 @@ pub record SleptLast (j : History) (s t : ℕ) : Type 0 where
 
 -- .. as it is of each task in a sleep state
 abbrev pub SleepersSlept : History → List State → Type 0
-SleepersSlept j states = (t : ℕ) (state : State) → slice_get states t ≡ Some state → is_sleep state ≡ true → (s : ℕ) × SleptLast j s t
+SleepersSlept j states =
+    (t : ℕ) (state : State) → slice_get states t ≡ Some state → is_sleep state ≡ true → (s : ℕ) × SleptLast j s t
 
 -- t was put to sleep at the condition k after the value v was tested there, as the trace of its seat s tells
 pub record IsSleeper (shape : Shape) (passes : List PassView) (s t k v : ℕ) : Type 0 where
@@ -77,15 +81,16 @@ pub record IsSleeper (shape : Shape) (passes : List PassView) (s t k v : ℕ) : 
 -- since it last took that lock
 abbrev pub IsStillOwed : List PassView → ℕ → ℕ → Type 0
 IsStillOwed passes =
-    IsOwed (λ x. owes_walk (traces_in passes x)) (λ x. has_retaken (traces_in passes x)) (λ x. has_passed (traces_in passes x))
+    IsOwed (λ x. owes_walk (traces_in passes x)) (λ x. has_retaken (traces_in passes x))
+    (λ x. has_passed (traces_in passes x))
 
 -- a pass has given the wait queue of k with an exclusive entry of t
 abbrev pub IsExclusive : List PassView → ℕ → ℕ → Type 0
 IsExclusive passes k t = (x : ℕ) × (gave_exclusive (traces_in passes x) k t ≡ true)
 
--- No sleeper was missed: where a task in a sleep state was put to sleep at a condition with a value, the condition has that
--- value, unless a pass still owes it. Nothing is said of a task that has an exclusive entry there.
+-- No sleeper was missed: where a task in a sleep state was put to sleep at a condition with a value, the condition has
+-- that value, unless a pass still owes it. Nothing is said of a task that was given an exclusive entry there.
 abbrev pub NoneMissed : Shape → List PassView → List State → List ℕ → Type 0
 NoneMissed shape passes states conds =
-    (s t k v count : ℕ) (state : State) → slice_get states t ≡ Some state → is_sleep state ≡ true → slice_get conds k ≡ Some count
-    → IsSleeper shape passes s t k v → (count ≡ v) ⊎ (IsStillOwed passes k t ⊎ IsExclusive passes k t)
+    (s t k v count : ℕ) (state : State) → slice_get states t ≡ Some state → is_sleep state ≡ true
+    → slice_get conds k ≡ Some count → IsSleeper shape passes s t k v → (count ≡ v) ⊎ (IsStillOwed passes k t ⊎ IsExclusive passes k t)

@@ -1,15 +1,17 @@
 -- What a seat has done with a queue since it took the queue's lock, step by step: each shape of it allows the give. v is the
 -- queue as it was taken, and rs the trace before.
-use Rattle.std.specs.Prelude.{◌≡◌, ℕ, ◌<◌, ◌++◌, ◌∷◌, [], ◌⊎◌, Bool, true, false, List, Option, Some, None, if◌then◌else◌}
+use Rattle.std.specs.Prelude.{◌≡◌, ℕ, ◌<◌, ◌++◌, ◌∷◌, [], ◌⊎◌, Bool, true, false, List, Some, None, if◌then◌else◌}
 use Rattle.core_data.specs.Queue.{Queue}
 use Rattle.core_data.specs.declared.values.TaskVal.{TaskVal}
+use Rattle.core_data.specs.declared.values.WaitEntry.{WaitEntry}
+use Rattle.core_gives.specs.Waits.{has_task}
 use Rattle.core_kinds.specs.Locks.{IsKept}
 use Rattle.handoff_data.specs.declared.shape.Shape.{Shape}
 use Rattle.handoff_data.specs.declared.state.State.{State}
 use Rattle.word_rule.specs.May.{number_of}
-use Rattle.word_rule.specs.Told.{TakenQueue, IsOff}
+use Rattle.word_rule.specs.Told.{TakenQueue, TakenWait, IsOff}
 use Rattle.word_steps.specs.Folds.{task_held, current_task, stays_queued, body_held, task_to_clear, is_claimed, is_moving}
-use Rattle.word_steps.specs.Records.{Rec, Took, Queued, Dequeued, SetBusy, Released, LoadedState, LoadedRq, LoadedBusy, LoadedCpu, LoadedCond}
+use Rattle.word_steps.specs.Records.{Rec, Took, Queued, Dequeued, SetBusy, StoredOwn, Released, LoadedState, LoadedRq, LoadedBusy, LoadedCpu, LoadedCond}
 use Rattle.word_steps.specs.declared.val.Val.TheVariants as val
 
 -- loads, and TASK_RUNNING stored of another task, change nothing of a queue
@@ -119,3 +121,16 @@ pub record IsQueuedUnder (shape : Shape) (trace : List Rec) (t : ℕ) (given : T
   pub unclaimed : is_claimed trace t ≡ false
   pub unmoved : is_moving trace t ≡ false
   pub number : 0 < number_of trace t
+
+-- the current task's entry was put in at the back of a wait queue that had none of it, and then a state was stored
+pub record IsEntered (shape : Shape) (s : ℕ) (trace : List Rec) (k : ℕ) (given : List WaitEntry) : Type 0 where
+  pub v : List WaitEntry
+  pub x : WaitEntry
+  pub put : given ≡ v ++ x ∷ []
+  pub state : State
+  pub rs : List Rec
+  pub did : trace ≡ StoredOwn x.t state ∷ Took k (val.Wait v) ∷ rs
+  pub told : TakenWait shape v
+  pub absent : has_task v x.t ≡ false
+  pub current : current_task s rs ≡ Some x.t
+  pub task : x.t < shape.tasks

@@ -1,17 +1,23 @@
 //! Queues put and given after what a seat has done with them since it took their lock.
-ghost use Rattle.std.specs.Prelude.{◌≡◌, ◌++◌, ◌∷◌, [], ◌<◌, ◌≤◌, true, Some, None, ◌+◌, MatchOption, IfSome, IsSome, unwrap_or};
+ghost use Rattle.std.specs.Prelude.{◌≡◌, ◌++◌, ◌∷◌, [], ◌<◌, ◌≤◌, true, Some, None, ◌+◌, MatchOption, ◌==◌, IfSome, IsSome, unwrap_or};
+ghost use Rattle.core_data.specs.declared.values.WaitEntry.{WaitEntry};
+ghost use Rattle.core_gives.specs.Waits.{has_task};
+ghost use Rattle.std.specs.List.{list_any};
 ghost use Rattle.handoff_data.specs.declared.entry.Entry.TheVariants as entry;
-ghost use Rattle.task_words.specs.Gives.{HasRoomFor, IsAsTaken, IsWoken, IsPicked, IsPutBack, IsAsleep, IsJustTaken, IsQueuedUnder};
+ghost use Rattle.task_words.specs.Gives.{HasRoomFor, IsAsTaken, IsWoken, IsPicked, IsPutBack, IsAsleep, IsEntered, IsJustTaken, IsQueuedUnder};
 ghost use Rattle.task_words.specs.Views.{IsOf, IsSame, IsSameSeat, logged};
+ghost use Rattle.word_rule.specs.May.{IsPutHere};
 ghost use Rattle.word_rule.specs.Standing.{may_run};
-ghost use Rattle.word_steps.specs.Folds.{current_task, queue_held, task_held, task_to_clear};
-ghost use Rattle.word_steps.specs.Records.{Gave, SetBusy};
+ghost use Rattle.word_steps.specs.Folds.{current_task, queue_held, task_held, task_to_clear, wait_held};
+ghost use Rattle.word_steps.specs.Records.{Gave, Released, SetBusy};
 ghost use Rattle.word_steps.specs.declared.val.Val.TheVariants as val;
 
-use crate::guards::{QueueGuard, TaskGuard};
+use crate::guards::{QueueGuard, TaskGuard, WaitGuard};
 use crate::pass::Pass;
 use crate::runs::set_busy;
+use crate::states::store_running;
 use crate::wk::Wk;
+use core_data::WaitEntry;
 use handoff_data::TaskNo;
 use std::sync::Wait;
 use word_table::Kept;
@@ -21,6 +27,20 @@ fn few_tasks<B: Kept>(wk: &Wk<B>)
     ensures { wk.now.shape.tasks ≤ 200 }
 {
     let _words = &wk.words;
+}
+
+// Whether some entry is of the task, as std tells it.
+fn any_of(entries: &[WaitEntry], t: TaskNo) -> bool
+    ensures { result ≡ list_any (λ (x : WaitEntry). x.t == t) entries.now }
+{
+    entries.iter().any(|x| x.t == t)
+}
+
+// Whether some entry is of the task.
+fn has_task(entries: &[WaitEntry], t: TaskNo) -> bool
+    ensures { result ≡ has_task entries.now t }
+{
+    any_of(entries, t)
 }
 
 impl QueueGuard {
@@ -67,6 +87,17 @@ impl QueueGuard {
     {
         self.val.cur = Some(t);
         set_busy(rt, wk, pass, self, t)
+    }
+
+    /// Stores TASK_RUNNING as the state of a task that the seat has just queued here.
+    pub fn store_running<B: Kept>(&self, wk: &Wk<B>, pass: &mut Pass, t: TaskNo)
+        requires of { IsOf wk.now pass.old }
+        requires task { t < wk.now.shape.tasks }
+        requires here { IsPutHere pass.old.seat pass.old.trace self.now.cpu t }
+        ensures same { IsSame pass.old pass.new }
+        ensures trace { pass.new.trace ≡ Released t ∷ pass.old.trace }
+    {
+        store_running(wk, pass, t);
     }
 
     /// Gives the lock with the queue as it was taken.
@@ -136,6 +167,26 @@ impl TaskGuard {
         requires may { IsQueuedUnder pass.old.shape pass.old.trace self.task self.val }
         ensures same { IsSame pass.old pass.new }
         ensures trace { pass.new.trace ≡ Gave self.task (val.Task (unwrap_or (task_held pass.old.trace self.task) self.val)) (val.Task self.val) ∷ pass.old.trace }
+    {
+        self.give(wk, pass);
+    }
+}
+
+impl WaitGuard {
+    /// Whether a task has an entry there.
+    pub fn has_task(&self, t: TaskNo) -> bool
+        ensures { result ≡ has_task self.now.val t }
+    {
+        has_task(&self.val.entries, t)
+    }
+
+    /// Gives the lock after the seat's current task has put its entry in at the back and stored its state.
+    pub fn give_entered<B: Kept>(self, wk: &Wk<B>, pass: &mut Pass)
+        requires of { IsOf wk.now pass.old }
+        requires condition { self.cond < wk.now.shape.conds }
+        requires may { IsEntered pass.old.shape pass.old.seat pass.old.trace self.cond self.val }
+        ensures same { IsSame pass.old pass.new }
+        ensures trace { pass.new.trace ≡ Gave self.cond (val.Wait (unwrap_or (wait_held pass.old.trace self.cond) self.val)) (val.Wait self.val) ∷ pass.old.trace }
     {
         self.give(wk, pass);
     }

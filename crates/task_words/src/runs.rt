@@ -2,8 +2,9 @@
 ghost use Rattle.std.specs.Prelude.{◌≡◌, ℕ, ◌+◌, ◌/◌, ◌%◌, ◌^◌, ◌<◌, ◌∷◌, Some};
 ghost use Rattle.core_kinds.specs.Running.{queue_entry, dequeue_entry, is_dead};
 ghost use Rattle.handoff_data.specs.declared.entry.Entry.TheVariants as entry;
+ghost use Rattle.task_words.specs.Queues.{MayQueueHere};
 ghost use Rattle.task_words.specs.Views.{IsOf, IsSameSeat, logged};
-ghost use Rattle.word_rule.specs.May.{MayQueueWord, MayDequeueWord, MayMoveWord, MaySetBusyWord, MayClearBusyWord, next_rq, next_busy};
+ghost use Rattle.word_rule.specs.May.{MayDequeueWord, MayMoveWord, MaySetBusyWord, MayClearBusyWord, next_rq, next_busy};
 ghost use Rattle.word_steps.specs.Folds.{seen_state, last_reads};
 ghost use Rattle.word_table.specs.Views.{IsOf as IsTokenOf, IsSame as IsSameToken};
 ghost use Rattle.word_steps.specs.Records.{Queued, Dequeued, Moved, SetBusy, ClearedBusy};
@@ -63,8 +64,7 @@ pub fn queue_task<B: Kept, R: Wait>(
 ) -> Rq
     requires of { IsOf wk.now pass.old }
     requires task { t < wk.now.shape.tasks }
-    requires here { (last_reads pass.old.trace t).cpu ≡ Some queue.now.cpu }
-    requires may { (x : ℕ) → x / 4 < 2 ^ 60 → MayQueueWord pass.old.seat pass.old.trace t x (next_rq x 1) }
+    requires may { MayQueueHere pass.old.trace queue.now.cpu t }
     requires spare { 0 < pass.old.turn.spare }
     ensures same { IsSameSeat pass.old pass.new }
     ensures trace { pass.new.trace ≡ Queued t queue.now.cpu result.on result.m ∷ pass.old.trace }

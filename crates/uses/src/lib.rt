@@ -2,7 +2,17 @@
 #![tactic(auto)]
 
 mod locks;
+#[cfg(test)]
+mod random_tests;
+#[cfg(test)]
+mod run_tests;
 mod runs;
+mod sleeps;
+mod threads;
+mod wakes;
 
 pub use locks::copy_wake_cpu;
 pub use runs::{pick, put_back, run, start};
+pub use sleeps::{sleep, switch_out};
+pub use threads::both;
+pub use wakes::wake;

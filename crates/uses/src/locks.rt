@@ -9,7 +9,13 @@ use task_words::{Kept, Pass, Wk, lock_task};
 
 /// Copies the hint on where a task was woken last from one task to another, under both locks, and gives the lock first
 /// that it took first.
-pub fn copy_wake_cpu<B: Kept, R: Wait>(rt: &R, wk: &Wk<B>, pass: &mut Pass, from: TaskNo, to: TaskNo)
+pub fn copy_wake_cpu<B: Kept, R: Wait>(
+    rt: &R,
+    wk: &Wk<B>,
+    pass: &mut Pass,
+    from: TaskNo,
+    to: TaskNo,
+)
     requires of { IsOf wk.now pass.old }
     requires tasks { (from < wk.now.shape.tasks) × (to < wk.now.shape.tasks) }
     requires apart { from ≢ to }

@@ -1,25 +1,29 @@
 //! A task's way through a processor: started, picked, put back.
-ghost use Rattle.std.specs.Prelude.{◌≡◌, ◌≢◌, ℕ, ◌<◌, true, None, Some, IsSome};
+ghost use Rattle.std.specs.Prelude.{◌≡◌, ◌≢◌, ◌<◌, true, None, Some, IfSome, IfNone};
 ghost use Rattle.task_words.specs.Views.{IsOf, IsSame, IsSameSeat};
-ghost use Rattle.word_steps.specs.Folds.{body_held, current_task, queue_held, stays_queued, task_held, task_to_clear};
+ghost use Rattle.uses.specs.Between.{IsBetween, IsRunning};
+ghost use Rattle.uses.specs.Holds.{HoldsNothing};
+ghost use Rattle.word_steps.specs.Folds.{current_task, stays_queued, task_to_clear};
 
 use handoff_data::{State, TaskNo};
 use std::sync::Wait;
 use task_words::{
     Kept, Pass, Wk, body_home, body_out, clear_busy, load_cpu, load_rq, load_state, lock_queue,
-    lock_task, queue_task, store_running,
+    lock_task, queue_task,
 };
 
 /// Puts a new task at the back of its processor's queue, as Linux's `wake_up_new_task`; whether it was new.
 pub fn start<B: Kept, R: Wait>(rt: &R, wk: &Wk<B>, pass: &mut Pass, t: TaskNo) -> bool
     requires of { IsOf wk.now pass.old }
     requires task { t < wk.now.shape.tasks }
-    requires free { task_held pass.old.trace t ≡ None }
-    requires free_queues { (c : ℕ) → queue_held pass.old.trace c ≡ None }
+    requires nothing { HoldsNothing pass.old.trace }
     requires other { current_task pass.old.seat pass.old.trace ≢ Some t }
     requires spare { 0 < pass.old.turn.spare }
     ensures same { IsSameSeat pass.old pass.new }
-    ensures free { task_held pass.new.trace t ≡ None }
+    ensures nothing { HoldsNothing pass.new.trace }
+    ensures current { current_task pass.new.seat pass.new.trace ≡ current_task pass.old.seat pass.old.trace }
+    ensures clear { task_to_clear pass.new.seat pass.new.trace ≡ task_to_clear pass.old.seat pass.old.trace }
+    ensures between { IsBetween pass.old → IsBetween pass.new }
 {
     let task = lock_task(rt, wk, pass, t);
     let seen = load_rq(wk, pass, t);
@@ -31,24 +35,28 @@ pub fn start<B: Kept, R: Wait>(rt: &R, wk: &Wk<B>, pass: &mut Pass, t: TaskNo) -
     let mut queue = lock_queue(rt, wk, pass, c);
     queue_task(rt, wk, pass, &queue, t);
     queue.push(wk, pass, t);
-    store_running(wk, pass, t);
+    queue.store_running(wk, pass, t);
     queue.give_woken(wk, pass);
     task.give_queued(wk, pass);
     true
 }
 
-/// Picks the first task that waits in the seat's own queue, as Linux's `pick_next_task`; none where the queue has a next
-/// task already, or nobody waits.
+/// Picks the first task that waits in the seat's own queue, as Linux's `pick_next_task`; none where the queue has a
+/// next task already, or nobody waits.
 pub fn pick<B: Kept, R: Wait>(rt: &R, wk: &Wk<B>, pass: &mut Pass) -> Option<TaskNo>
     requires of { IsOf wk.now pass.old }
     requires processor { pass.old.seat < wk.now.shape.cpus }
-    requires free { queue_held pass.old.trace pass.old.seat ≡ None }
+    requires nothing { HoldsNothing pass.old.trace }
     requires idle { current_task pass.old.seat pass.old.trace ≡ None }
     requires clear { task_to_clear pass.old.seat pass.old.trace ≡ None }
     requires spare { 0 < pass.old.turn.spare }
     ensures same { IsSameSeat pass.old pass.new }
     ensures current { current_task pass.new.seat pass.new.trace ≡ result }
-    ensures free { queue_held pass.new.trace pass.new.seat ≡ None }
+    ensures task { IfSome result (λ t. t < wk.now.shape.tasks) }
+    ensures stays { IfSome result (λ t. stays_queued pass.new.trace ≡ true) }
+    ensures nothing { HoldsNothing pass.new.trace }
+    ensures none { IsBetween pass.old → IfNone result (IsBetween pass.new) }
+    ensures some { IsBetween pass.old → IfSome result (λ t. IsRunning t pass.new) }
 {
     let c = pass.seat();
     let mut queue = lock_queue(rt, wk, pass, c);
@@ -69,28 +77,32 @@ pub fn pick<B: Kept, R: Wait>(rt: &R, wk: &Wk<B>, pass: &mut Pass) -> Option<Tas
 pub fn run<B: Kept>(wk: &Wk<B>, pass: &mut Pass, t: TaskNo)
     requires of { IsOf wk.now pass.old }
     requires current { current_task pass.old.seat pass.old.trace ≡ Some t }
-    requires home { body_held pass.old.trace ≡ None }
+    requires nothing { HoldsNothing pass.old.trace }
     ensures same { IsSame pass.old pass.new }
     ensures current { current_task pass.new.seat pass.new.trace ≡ Some t }
-    ensures home { body_held pass.new.trace ≡ None }
+    ensures stays { stays_queued pass.new.trace ≡ stays_queued pass.old.trace }
+    ensures nothing { HoldsNothing pass.new.trace }
+    ensures running { IsRunning t pass.old → IsRunning t pass.new }
 {
     let body = body_out(wk, pass);
     body_home(wk, pass, body);
 }
 
-/// Puts the current task, while it runs, at the back of its queue, as Linux's `schedule` of a preempted task; whether it
-/// ran.
+/// Puts the current task, while it runs, at the back of its queue, as Linux's `schedule` of a preempted task; whether
+/// it ran.
 pub fn put_back<B: Kept, R: Wait>(rt: &R, wk: &Wk<B>, pass: &mut Pass, t: TaskNo) -> bool
     requires of { IsOf wk.now pass.old }
     requires processor { pass.old.seat < wk.now.shape.cpus }
     requires task { t < wk.now.shape.tasks }
-    requires free { queue_held pass.old.trace pass.old.seat ≡ None }
+    requires nothing { HoldsNothing pass.old.trace }
     requires current { current_task pass.old.seat pass.old.trace ≡ Some t }
     requires stays { stays_queued pass.old.trace ≡ true }
-    requires home { body_held pass.old.trace ≡ None }
     requires spare { 0 < pass.old.turn.spare }
     ensures same { IsSameSeat pass.old pass.new }
-    ensures free { queue_held pass.new.trace pass.new.seat ≡ None }
+    ensures nothing { HoldsNothing pass.new.trace }
+    ensures gone { result ≡ true → current_task pass.new.seat pass.new.trace ≡ None }
+    ensures clear { result ≡ true → task_to_clear pass.new.seat pass.new.trace ≡ None }
+    ensures back { result ≡ true → IsRunning t pass.old → IsBetween pass.new }
 {
     let c = pass.seat();
     let mut queue = lock_queue(rt, wk, pass, c);

@@ -28,7 +28,10 @@ pub fn take<B: Kept, L: Lock, R: Wait>(rt: &R, words: &Words<B>, token: &mut Tok
     ensures told { TakeTold words.now.shape token.old.seat token.old.trace L.sort n result }
 {
     let mut seat: Seat<Slot<B>, View> = mem::replace(&mut token.badge, Badge::blank()).into_seat();
-    let val = take_value::<B, L, R>(rt, words, &mut seat, token.seat, n);
+    let slot = take_value::<B, L, R>(rt, words, &mut seat, token.seat, n);
+    let Slot::Held(val) = slot else {
+        unreachable!()
+    };
     token.badge = seat.into_badge();
     val
 }

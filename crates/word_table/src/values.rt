@@ -1,14 +1,14 @@
 //! How values leave their slots and come back. Between two calls each slot is at home, and one whose value is out is
 //! empty.
-ghost use Rattle.std.specs.Prelude.{◌≡◌, ℕ, ◌<◌, IsSome, [], slice_index_or, unwrap_or};
+ghost use Rattle.std.specs.Prelude.{◌≡◌, ℕ, ◌<◌, ◌*◌, IsSome, [], slice_index_or, unwrap_or};
 ghost use Rattle.word_rule.specs.May.{MayGive, MayTakeBody, MayReturnBody};
 ghost use Rattle.word_rule.specs.Sorts.{lock_of, count_of, held_of, IsOf};
 ghost use Rattle.word_rule.specs.Told.{TakeTold};
 ghost use Rattle.word_steps.specs.Records.{Took, Gave, OutBody, HomeBody};
 ghost use Rattle.word_steps.specs.Words.{BODY};
 ghost use Rattle.word_steps.specs.declared.val.Val.{Val};
-ghost use Rattle.word_table.specs.Layout.{word_at, slot_at, slot_of, BODY_SLOT};
-ghost use Rattle.word_table.specs.Plays.{IsRest, Takes, trace_in, push};
+ghost use Rattle.word_table.specs.Layout.{word_at, slot_at, slot_of, rows_of, BODY_SLOT};
+ghost use Rattle.word_table.specs.Plays.{IsRest, trace_in, push, lift};
 ghost use Rattle.word_table.specs.declared.slot.Slot.TheVariants.{Held};
 
 use crate::layout::{BODY, SLOTS, STRIDE};
@@ -20,7 +20,11 @@ use crate::words::Words;
 use atomic_table::Seat;
 use crossbeam_utils::Backoff;
 use std::sync::Wait;
+use std::time::Duration;
 use word_steps::Val;
+
+// How long a thread that waits for a lock sleeps at most before it tries again.
+const NAP_MICROS: u64 = 50;
 
 // The word of a lock.
 fn word_of<L: Lock>(n: u32) -> usize
@@ -48,50 +52,63 @@ fn acquire<B: Kept, L: Lock, R: Wait>(
     requires row { n < count_of L.sort words.now.shape }
     requires rest { IsRest seat.old.me number }
     ensures id { seat.new.table_id ≡ seat.old.table_id }
-    ensures took { Takes L.sort n seat.old.me seat.new.me }
+    ensures took { (v : Val) × IsOf L.sort v × TakeTold seat.old.me.0.known.shape number (trace_in seat.old.me.0.parts) L.sort n v × (seat.new.me ≡ lift (slot_at n (slot_of L.sort)) (Held v) (push (Took n v) seat.old.me)) }
 {
     let backoff = Backoff::new();
     let word = word_of::<L>(n);
     for _ in rt.forever() {
-        if words
+        let found = words
             .table
             .shared
-            .compare_exchange::<Take<L>>(seat, word, 0, 1 + number as u64)
-            == 0
-        {
+            .compare_exchange::<Take<L>>(seat, word, 0, 1 + number as u64);
+        if found == 0 {
             return;
         }
-        backoff.snooze();
+        back_off(rt, words, &backoff, word, found);
     }
     unreachable!()
 }
 
-/// Takes a lock, and its value out.
+// Backs off, and after some tries sleeps while the lock's word is as it was found, for no longer than a nap: so who gives
+// the lock need not wake anybody.
+fn back_off<B: Kept, R: Wait>(rt: &R, words: &Words<B>, backoff: &Backoff, word: usize, found: u64)
+    requires word { word < STRIDE * rows_of words.now.shape }
+{
+    if !backoff.is_completed() {
+        backoff.snooze();
+        return;
+    }
+    let low = (found % (1 << 32)) as u32;
+    words
+        .table
+        .shared
+        .park_timeout(rt, word, low, Duration::from_micros(NAP_MICROS));
+}
+
+/// Takes a lock, and what is in its slot out: the lock's value.
 pub(crate) fn take_value<B: Kept, L: Lock, R: Wait>(
     rt: &R,
     words: &Words<B>,
     seat: &mut Seat<Slot<B>, View>,
     number: u32,
     n: u32,
-) -> Val
+) -> Slot<B>
     requires id { seat.old.table_id ≡ words.now.name }
     requires row { n < count_of L.sort words.now.shape }
     requires rest { IsRest seat.old.me number }
     ensures id { seat.new.table_id ≡ seat.old.table_id }
-    ensures sort { IsOf L.sort result }
-    ensures told { TakeTold seat.old.me.0.known.shape number (trace_in seat.old.me.0.parts) L.sort n result }
-    ensures seat { seat.new.me ≡ push (Took n result) seat.old.me }
+    ensures held { (v : Val) × (result ≡ Held v) }
+    ensures sort { (v : Val) → result ≡ Held v → IsOf L.sort v }
+    ensures told { (v : Val) → result ≡ Held v → TakeTold seat.old.me.0.known.shape number (trace_in seat.old.me.0.parts) L.sort n v }
+    ensures seat { (v : Val) → result ≡ Held v → seat.new.me ≡ push (Took n v) seat.old.me }
 {
     acquire::<B, L, R>(rt, words, seat, number, n);
     let slot = words
         .table
         .shared
         .exchange(seat, slot_under::<L>(n), Slot::Empty);
-    let Slot::Held(val) = slot else {
-        unreachable!()
-    };
     words.table.shared.load::<Lay>(seat, word_of::<L>(n));
-    val
+    slot
 }
 
 /// Puts the value home, and gives its lock.
@@ -112,12 +129,11 @@ pub(crate) fn give_value<B: Kept, L: Lock>(
 {
     let word = word_of::<L>(n);
     words.table.shared.load::<Lift<L>>(seat, word);
-    drop(
-        words
-            .table
-            .shared
-            .exchange(seat, slot_under::<L>(n), Slot::Held(val)),
-    );
+    let slot = words
+        .table
+        .shared
+        .exchange(seat, slot_under::<L>(n), Slot::Held(val));
+    let Slot::Empty = slot else { unreachable!() };
     words.table.shared.store::<Give<L>>(seat, word, 0);
 }
 
@@ -167,11 +183,10 @@ pub(crate) fn put_body<B: Kept>(
 {
     let word = STRIDE * t as usize + BODY;
     words.table.shared.load::<LiftBody>(seat, word);
-    drop(
-        words
-            .table
-            .shared
-            .exchange(seat, SLOTS * t as usize + BODY, Slot::Body(body)),
-    );
+    let slot = words
+        .table
+        .shared
+        .exchange(seat, SLOTS * t as usize + BODY, Slot::Body(body));
+    let Slot::Empty = slot else { unreachable!() };
     words.table.shared.load::<Come>(seat, word);
 }

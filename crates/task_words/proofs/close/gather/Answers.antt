@@ -13,13 +13,15 @@ loop-pass-init g c =
     let passes = c.args.passes.items in record {
       of = all_each (IsOf c.args.words.now) passes c.requires.of;
       gathered = c.gather-gathered.ensures.of;
-      done = ap (λ (z : List TokenView). map token_of passes ++ z) c.gather-gathered.ensures.none ∙ append-nil (map token_of passes);
+      done = ap (λ (z : List TokenView). map token_of passes ++ z) c.gather-gathered.ensures.none
+          ∙ append-nil (map token_of passes);
     }
 
 pub take_back-requires-clause-of : goal.take_back-requires-clause-of
 take_back-requires-clause-of g c κs live =
     token_is_of c.args.words.now c.in-Some.pass c.into_token.result c.into_token.ensures
-    (last_of (IsOf c.args.words.now) c.loop-pass.passes.items c.pop.new.self.items c.in-Some.pass c.in-Some.ensures.items c.loop-pass.invariant.of)
+    (last_of (IsOf c.args.words.now) c.loop-pass.passes.items c.pop.new.self.items c.in-Some.pass
+    c.in-Some.ensures.items c.loop-pass.invariant.of)
 
 pub loop-pass-preserved : goal.loop-pass-preserved
 loop-pass-preserved g c =
@@ -28,7 +30,8 @@ loop-pass-preserved g c =
     record {
       of = others_of (IsOf c.args.words.now) before.passes.items left pass is was.of;
       gathered = c.take_back.ensures.of;
-      done = ap (λ (z : List TokenView). map token_of left ++ z) (c.take_back.ensures.tokens ∙ ap (λ (t : TokenView). t ∷ done) c.into_token.ensures)
+      done = ap (λ (z : List TokenView). map token_of left ++ z)
+          (c.take_back.ensures.tokens ∙ ap (λ (t : TokenView). t ∷ done) c.into_token.ensures)
           ∙ sym (append_assoc (map token_of left) (token_of pass ∷ []) done)
           ∙ ap (λ (z : List TokenView). z ++ done) (sym (ap (map token_of) is ∙ map_push token_of left pass))
           ∙ was.done;
@@ -37,4 +40,5 @@ loop-pass-preserved g c =
 pub returns-clause-tokens : goal.returns-clause-tokens
 returns-clause-tokens g c =
     let was = c.loop-pass.invariant in let none : length c.loop-pass.passes.items ≡ 0 = search rules in
-    ap (λ (z : List PassView). map token_of z ++ c.loop-pass.gathered.tokens) (sym (none_left c.loop-pass.passes.items none)) ∙ was.done
+    ap (λ (z : List PassView). map token_of z ++ c.loop-pass.gathered.tokens)
+    (sym (none_left c.loop-pass.passes.items none)) ∙ was.done

@@ -1,4 +1,4 @@
-use Rattle.std.proofs.Common.{◌<◌, ◌≡◌, length, arith, subst, sym}
+use Rattle.std.proofs.Common.{◌<◌, length, arith, subst, sym}
 use Rattle.handoff_data.specs.declared.shape.Shape.{Shape}
 use Rattle.task_words.proofs.Allowed.{absent_of, room_of}
 use Rattle.task_words.proofs.guards.QueueGuard.push.Goals as goal

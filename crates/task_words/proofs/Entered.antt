@@ -1,0 +1,79 @@
+-- A wait queue in which the current task has put its entry may be given.
+use Rattle.std.proofs.Common.{◌≡◌, ℕ, inl, inr, ◌<◌, ◌++◌, ◌∷◌, [], refl, sym, ap, subst, ◌∙◌, List, arith}
+use Rattle.std.specs.Prelude.{◌==◌, Bool, true, false, Some, if◌then◌else◌}
+use Rattle.std.proofs.lemmas.Bool.{cases_Bool, false≢true}
+use Rattle.std.proofs.lemmas.Bool.Decides.{nat_tests}
+use Rattle.core_data.specs.Entries.{any_from, has_entry, same_entry}
+use Rattle.core_data.specs.declared.values.WaitEntry.{WaitEntry}
+use Rattle.core_gives.specs.Waits.{has_task, HasEachOnce}
+use Rattle.handoff_data.specs.declared.shape.Shape.{Shape}
+use Rattle.task_words.specs.Gives.{IsEntered}
+use Rattle.word_rule.specs.May.{MayGiveWaitVal}
+use Rattle.word_steps.specs.Records.{Rec, Took, StoredOwn}
+use Rattle.word_steps.specs.Folds.{has_own_stored}
+use Rattle.word_steps.specs.declared.val.Val.TheVariants as val
+
+-- one more at the back
+any_back : {A : Type 0} (p : A → Bool) (known : Bool) (xs : List A) (x : A)
+    → any_from p known (xs ++ x ∷ []) ≡ (if p x then true else any_from p known xs)
+any_back p known [] x = refl
+any_back p known (y ∷ ys) x = any_back p (if p y then true else known) ys x
+
+any_none : {A : Type 0} (p : A → Bool) (xs : List A) → any_from p true xs ≡ true
+any_none p [] = refl
+any_none p (x ∷ xs) = elim (p x) as (λ b. any_from p (if b then true else true) xs ≡ true) [ true ↦ any_none p xs | false ↦ any_none p xs ]
+
+-- the first and the rest have none that passes
+none_of : {A : Type 0} (p : A → Bool) (y : A) (ys : List A) → any_from p false (y ∷ ys) ≡ false → (p y ≡ false) × (any_from p false ys ≡ false)
+none_of p y ys e = elim (cases_Bool (p y)) [
+  | inl q ↦ absurd (false≢true (sym e ∙ ap (λ (b : Bool). any_from p (if b then true else false) ys) q ∙ any_none p ys))
+  | inr q ↦ (q, sym (ap (λ (b : Bool). any_from p (if b then true else false) ys) q) ∙ e)
+]
+
+once_back : (xs : List WaitEntry) (x : WaitEntry) → HasEachOnce xs → has_task xs x.t ≡ false → HasEachOnce (xs ++ x ∷ [])
+once_back [] x once none = (refl, tt)
+once_back (y ∷ ys) x once none =
+    let apart = none_of (λ (z : WaitEntry). z.t == x.t) y ys none in
+    let other : (x.t == y.t) ≡ false = grind (arith, nat_tests, apart.0) in (
+      any_back (λ (z : WaitEntry). z.t == y.t) false ys x ∙ ap (λ (b : Bool). if b then true else has_task ys y.t) other ∙ once.0,
+      once_back ys x once.1 apart.1,
+    )
+
+-- an entry that is among more than before
+new_is : (known b : Bool) → (if b then true else known) ≡ true → known ≡ false → b ≡ true
+new_is known true e none = refl
+new_is known false e none = absurd (false≢true (sym none ∙ e))
+
+entry_task : (x y : WaitEntry) → same_entry x y ≡ true → x.t ≡ y.t
+entry_task x y e = elim (cases_Bool (x.t == y.t)) [
+  | inl q ↦ grind (arith, nat_tests, q)
+  | inr q ↦ absurd (grind (arith, nat_tests, q, e))
+]
+
+pub entered_gives : (shape : Shape) (s : ℕ) (trace : List Rec) (k : ℕ) (given : List WaitEntry) → IsEntered shape s trace k given
+    → MayGiveWaitVal s trace shape k given
+entered_gives shape s trace k given h =
+    subst (λ (z : List Rec). MayGiveWaitVal s z shape k given) (sym h.did) (subst (λ (z : List WaitEntry). MayGiveWaitVal s (StoredOwn h.x.t h.state ∷ Took k (val.Wait h.v) ∷ h.rs) shape k z) (sym h.put) record {
+      taken = h.v;
+      held = grind (arith, nat_tests);
+      once = once_back h.v h.x h.told.once h.absent;
+      tasks = λ y e. elim (cases_Bool (has_entry h.v y)) [
+        | inl q ↦ h.told.tasks y q
+        | inr q ↦ subst (λ (t : ℕ). t < shape.tasks) (is_entered y e q) h.task
+      ];
+      put_in = λ y e none. let same = is_entered y e none in (h.current ∙ ap (λ (t : ℕ). Some t) same, subst (λ (t : ℕ). has_own_stored (StoredOwn h.x.t h.state ∷ Took k (val.Wait h.v) ∷ h.rs) k t ≡ true) same stored);
+      taken_out = λ y was e. absurd (false≢true (sym e ∙ back y ∙ ap (λ (b : Bool). if same_entry h.x y then true else b) was ∙ both (same_entry h.x y)));
+    })
+  where
+    both : (b : Bool) → (if b then true else true) ≡ true
+    both true = refl
+    both false = refl
+
+    stored : has_own_stored (StoredOwn h.x.t h.state ∷ Took k (val.Wait h.v) ∷ h.rs) k h.x.t ≡ true
+    stored = grind (arith, nat_tests)
+
+    back : (y : WaitEntry) → has_entry (h.v ++ h.x ∷ []) y ≡ (if same_entry h.x y then true else has_entry h.v y)
+    back y = any_back (λ (z : WaitEntry). same_entry z y) false h.v h.x
+
+    is_entered : (y : WaitEntry) → has_entry (h.v ++ h.x ∷ []) y ≡ true → has_entry h.v y ≡ false → h.x.t ≡ y.t
+    is_entered y e none = entry_task h.x y (new_is (has_entry h.v y) (same_entry h.x y) (sym (back y) ∙ e) none)

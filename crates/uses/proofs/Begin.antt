@@ -1,0 +1,23 @@
+-- The passes of a new table stand between two scenarios.
+use Rattle.std.proofs.Common.{ℕ, zero, suc, map, refl, List, [], ◌∷◌, arith}
+use Rattle.std.specs.List.{All, range_with_len}
+use Rattle.atomic_table.specs.Seated.{TableId}
+use Rattle.handoff_data.specs.declared.shape.Shape.{Shape}
+use Rattle.task_words.specs.Closing.{new_pass, first_passes}
+use Rattle.uses.specs.Between.{IsBetween}
+
+module _ (name : TableId) (shape : Shape) (lasting : List (List ℕ)) where
+  news_between : (seats : List ℕ) → All IsBetween (map (new_pass name shape lasting) seats)
+  news_between [] k d lt = absurd (omega arith)
+  news_between (s ∷ seats) zero d lt = record {
+    free = record {
+      nothing = record { tasks = λ t. refl; queues = λ c. refl; works = λ c. refl; waits = λ k. refl; body = refl };
+      unclaimed = λ t. refl;
+    };
+    idle = refl;
+    clear = refl;
+  }
+  news_between (s ∷ seats) (suc k) d lt = news_between seats k d (omega arith)
+
+  pub firsts_between : (n : ℕ) → All IsBetween (first_passes name shape lasting n)
+  firsts_between n = news_between (range_with_len 0 n)

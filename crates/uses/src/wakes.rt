@@ -1,0 +1,122 @@
+//! A wake-up, step by step.
+ghost use Rattle.std.specs.Prelude.{◌≡◌, ◌≢◌, ℕ, ◌<◌, true, false, Some, None, IsSome};
+ghost use Rattle.uses.specs.Between.{IsBetween};
+ghost use Rattle.core_data.specs.Table.{put};
+ghost use Rattle.task_words.specs.Views.{IsOf, IsSame, IsSameSeat};
+ghost use Rattle.word_rule.specs.May.{number_of};
+ghost use Rattle.word_steps.specs.Folds.{body_held, current_task, is_claimed, is_moving, last_reads, queue_held};
+ghost use Rattle.word_steps.specs.Folds.{saw_clear, task_held, task_to_clear, wait_held, works_held};
+
+use handoff_data::{CpuNo, State, TaskNo, matches};
+use std::sync::Wait;
+use task_words::{
+    Kept, Pass, TaskGuard, Wk, load_cpu, load_rq, lock_queue, lock_task, match_state, queue_task,
+    store_cpu, store_running, store_waking, wait_clear,
+};
+
+/// Wakes a task that sleeps as TASK_NORMAL says, as Linux's `try_to_wake_up`, on the processor `to`; whether it did.
+pub fn wake<B: Kept, R: Wait>(rt: &R, wk: &Wk<B>, pass: &mut Pass, t: TaskNo, to: CpuNo) -> bool
+    requires of { IsOf wk.now pass.old }
+    requires task { t < wk.now.shape.tasks }
+    requires processor { to < wk.now.shape.cpus }
+    requires free { task_held pass.old.trace t ≡ None }
+    requires free_queues { (c : ℕ) → queue_held pass.old.trace c ≡ None }
+    requires unclaimed { is_claimed pass.old.trace t ≡ false }
+    requires other { current_task pass.old.seat pass.old.trace ≢ Some t }
+    requires spare { 1 < pass.old.turn.spare }
+    ensures same { IsSameSeat pass.old pass.new }
+    ensures free { task_held pass.new.trace t ≡ None }
+    ensures between { IsBetween pass.old → IsBetween pass.new }
+{
+    let task = lock_task(rt, wk, pass, t);
+    let state = match_state(wk, pass, t, State::TASK_NORMAL);
+    if !matches(state, State::TASK_NORMAL) {
+        task.give(wk, pass);
+        return false;
+    }
+    let seen = load_rq(wk, pass, t);
+    if seen.on == 1 {
+        let c = load_cpu(wk, pass, t);
+        let queue = lock_queue(rt, wk, pass, c);
+        let again = load_rq(wk, pass, t);
+        if again.on != 1 {
+            queue.give_as_taken(wk, pass);
+            task.give(wk, pass);
+            return false;
+        }
+        store_running(wk, pass, t);
+        queue.give_as_taken(wk, pass);
+        task.give(wk, pass);
+        return true;
+    }
+    if seen.on != 0 {
+        task.give(wk, pass);
+        return false;
+    }
+    store_waking(wk, pass, t, seen.m);
+    wait_clear(rt, wk, pass, t);
+    place(wk, pass, &task, to);
+    queue_woken(rt, wk, pass, t, to);
+    task.give_queued(wk, pass);
+    true
+}
+
+// Puts a claimed task at the back of its processor's queue, to run.
+fn queue_woken<B: Kept, R: Wait>(rt: &R, wk: &Wk<B>, pass: &mut Pass, t: TaskNo, to: CpuNo)
+    requires of { IsOf wk.now pass.old }
+    requires task { t < wk.now.shape.tasks }
+    requires processor { to < wk.now.shape.cpus }
+    requires locked { IsSome (task_held pass.old.trace t) }
+    requires cpu { (last_reads pass.old.trace t).cpu ≡ Some to }
+    requires claimed { is_claimed pass.old.trace t ≡ true }
+    requires clear { saw_clear pass.old.trace t ≡ true }
+    requires free { queue_held pass.old.trace to ≡ None }
+    requires other { current_task pass.old.seat pass.old.trace ≢ Some t }
+    requires spare { 0 < pass.old.turn.spare }
+    ensures same { IsSameSeat pass.old pass.new }
+    ensures tasks { task_held pass.new.trace ≡ task_held pass.old.trace }
+    ensures queues { ((c : ℕ) → queue_held pass.old.trace c ≡ None) → (c : ℕ) → queue_held pass.new.trace c ≡ None }
+    ensures works { works_held pass.new.trace ≡ works_held pass.old.trace }
+    ensures waits { wait_held pass.new.trace ≡ wait_held pass.old.trace }
+    ensures body { body_held pass.new.trace ≡ body_held pass.old.trace }
+    ensures idle { current_task pass.old.seat pass.old.trace ≡ None → current_task pass.new.seat pass.new.trace ≡ None }
+    ensures cleared { current_task pass.old.seat pass.old.trace ≡ None → task_to_clear pass.new.seat pass.new.trace ≡ task_to_clear pass.old.seat pass.old.trace }
+    ensures claims { is_claimed pass.new.trace ≡ put (is_claimed pass.old.trace) t false }
+    ensures claimed { is_claimed pass.new.trace t ≡ false }
+    ensures moving { is_moving pass.new.trace t ≡ false }
+    ensures number { 0 < number_of pass.new.trace t }
+{
+    let mut queue = lock_queue(rt, wk, pass, to);
+    queue_task(rt, wk, pass, &queue, t);
+    queue.push(wk, pass, t);
+    queue.store_running(wk, pass, t);
+    queue.give_woken(wk, pass);
+}
+
+// Stores the processor of a claimed task where it isn't that one already.
+fn place<B: Kept>(wk: &Wk<B>, pass: &mut Pass, task: &TaskGuard, to: CpuNo)
+    requires of { IsOf wk.now pass.old }
+    requires task { task.now.task < wk.now.shape.tasks }
+    requires processor { to < wk.now.shape.cpus }
+    requires claimed { is_claimed pass.old.trace task.now.task ≡ true }
+    requires clear { saw_clear pass.old.trace task.now.task ≡ true }
+    ensures same { IsSame pass.old pass.new }
+    ensures cpu { (last_reads pass.new.trace task.now.task).cpu ≡ Some to }
+    ensures tasks { task_held pass.new.trace ≡ task_held pass.old.trace }
+    ensures works { works_held pass.new.trace ≡ works_held pass.old.trace }
+    ensures waits { wait_held pass.new.trace ≡ wait_held pass.old.trace }
+    ensures body { body_held pass.new.trace ≡ body_held pass.old.trace }
+    ensures cleared { task_to_clear pass.new.seat pass.new.trace ≡ task_to_clear pass.old.seat pass.old.trace }
+    ensures queues { queue_held pass.new.trace ≡ queue_held pass.old.trace }
+    ensures claimed { is_claimed pass.new.trace ≡ is_claimed pass.old.trace }
+    ensures moving { is_moving pass.new.trace ≡ is_moving pass.old.trace }
+    ensures clear { saw_clear pass.new.trace ≡ saw_clear pass.old.trace }
+    ensures current { current_task pass.new.seat pass.new.trace ≡ current_task pass.old.seat pass.old.trace }
+{
+    let t = task.task();
+    let c = load_cpu(wk, pass, t);
+    if c == to {
+        return;
+    }
+    store_cpu(wk, pass, task, to);
+}
