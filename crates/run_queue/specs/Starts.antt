@@ -15,14 +15,16 @@ use Rattle.word_steps.specs.declared.val.Val.TheVariants as val
 -- TASK_RUNNING was stored, and t put at the back of the queue of c under its lock
 abbrev pub queued_new : ℕ → ℕ → Queue → List Rec → List Rec
 queued_new t c queue trace =
-    Gave c (val.Queue queue) (val.Queue (pushed t queue)) ∷ Queued t c 0 0 ∷ Took c (val.Queue queue) ∷ Released t ∷ trace
+    Gave c (val.Queue queue) (val.Queue (pushed t queue)) ∷ Queued t c 0 0 ∷ Took c (val.Queue queue) ∷ Released t
+    ∷ trace
 
 pub record IsQueuedNew (t c : ℕ) (old new : PassView) : Type 0 where
   pub queue : Queue
   pub did : new.trace ≡ queued_new t c queue old.trace
   pub turn : new.turn ≡ logged (entry.New t 1 c) old.turn
 
--- under the lock of t its state was read as TASK_NEW and the number of its changes as 0; it was placed on c and queued there
+-- under the lock of t its state was read as TASK_NEW and the number of its changes as 0; it was placed on c and queued
+-- there
 pub record IsStarted (t c : ℕ) (old new : PassView) : Type 0 where
   pub task : TaskVal
   pub on : ℕ
@@ -30,14 +32,16 @@ pub record IsStarted (t c : ℕ) (old new : PassView) : Type 0 where
   pub queue : Queue
   pub did : new.trace
       ≡ Gave t (val.Task task) (val.Task (record task { wake_cpu = c }))
-      ∷ queued_new t c queue (placed t from c (LoadedRq t on 0 ∷ LoadedState t None fresh ∷ Took t (val.Task task) ∷ old.trace))
+      ∷ queued_new t c queue
+      (placed t from c (LoadedRq t on 0 ∷ LoadedState t None fresh ∷ Took t (val.Task task) ∷ old.trace))
   pub turn : new.turn ≡ logged (entry.New t 1 c) old.turn
 
 -- under the lock of t its state was read as another than TASK_NEW
 pub record IsOther (t : ℕ) (seen : State) (old new : PassView) : Type 0 where
   pub task : TaskVal
   pub other : seen ≢ fresh
-  pub did : new.trace ≡ Gave t (val.Task task) (val.Task task) ∷ LoadedState t None seen ∷ Took t (val.Task task) ∷ old.trace
+  pub did : new.trace
+      ≡ Gave t (val.Task task) (val.Task task) ∷ LoadedState t None seen ∷ Took t (val.Task task) ∷ old.trace
   pub turn : new.turn ≡ old.turn
 
 -- .. or as TASK_NEW, and the number of its changes as another than 0
@@ -48,7 +52,8 @@ pub record IsChanged (t : ℕ) (seen : State) (old new : PassView) : Type 0 wher
   pub unstarted : seen ≡ fresh
   pub changed : m ≢ 0
   pub did : new.trace
-      ≡ Gave t (val.Task task) (val.Task task) ∷ LoadedRq t on m ∷ LoadedState t None fresh ∷ Took t (val.Task task) ∷ old.trace
+      ≡ Gave t (val.Task task) (val.Task task) ∷ LoadedRq t on m ∷ LoadedState t None fresh ∷ Took t (val.Task task)
+      ∷ old.trace
   pub turn : new.turn ≡ old.turn
 
 abbrev pub DidStart : ℕ → ℕ → PassView → PassView → Start → Type 0

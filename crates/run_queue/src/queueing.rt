@@ -1,9 +1,8 @@
 //! A task whose queue word is known is queued.
-ghost use Rattle.std.specs.Prelude.{◌≡◌, ℕ, ◌/◌, ◌^◌, ◌<◌, ◌∷◌, Some};
+ghost use Rattle.std.specs.Prelude.{◌≡◌, ◌<◌, ◌∷◌};
 ghost use Rattle.core_kinds.specs.Running.{queue_entry};
+ghost use Rattle.task_words.specs.Queues.{MayQueueHere};
 ghost use Rattle.task_words.specs.Views.{IsOf, IsSameSeat, logged};
-ghost use Rattle.word_rule.specs.May.{MayQueueWord, next_rq};
-ghost use Rattle.word_steps.specs.Folds.{last_reads};
 ghost use Rattle.word_steps.specs.Records.{Queued};
 
 use core_data::Rq;
@@ -23,8 +22,7 @@ pub fn queue_seen<B: Kept, R: Wait>(
 )
     requires of { IsOf wk.now pass.old }
     requires task { t < wk.now.shape.tasks }
-    requires here { (last_reads pass.old.trace t).cpu ≡ Some queue.now.cpu }
-    requires may { (x : ℕ) → x / 4 < 2 ^ 60 → MayQueueWord pass.old.seat pass.old.trace t x (next_rq x 1) }
+    requires may { MayQueueHere pass.old.trace queue.now.cpu t }
     requires spare { 0 < pass.old.turn.spare }
     ensures same { IsSameSeat pass.old pass.new }
     ensures trace { pass.new.trace ≡ Queued t queue.now.cpu seen.on seen.m ∷ pass.old.trace }

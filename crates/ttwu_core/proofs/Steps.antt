@@ -1,32 +1,19 @@
 -- What a seat may do next on its way through a wake-up.
-use Rattle.std.proofs.Common.{◌≡◌, ◌≢◌, ℕ, ◌/◌, ◌<◌, ◌∷◌, List, inl, inr, refl, arith}
-use Rattle.std.specs.Prelude.{◌^◌, true, Some, IsSome}
+use Rattle.std.proofs.Common.{◌≢◌, ℕ, ◌∷◌, List, inr, refl, arith}
+use Rattle.std.specs.Prelude.{Some}
 use Rattle.std.proofs.lemmas.Bool.Decides.{nat_tests}
 use Rattle.core_data.specs.Queue.{Queue}
 use Rattle.handoff_data.specs.declared.shape.Shape.{Shape}
 use Rattle.word_rule.proofs.Uses.{gives_same}
-use Rattle.word_rule.specs.May.{MayQueueWord, MayReleaseWord, MayGiveQueueVal, next_rq}
+use Rattle.word_rule.specs.May.{MayReleaseWord, MayGiveQueueVal}
 use Rattle.word_rule.specs.Told.{TakenQueue}
-use Rattle.word_steps.specs.Folds.{task_held, current_task, is_claimed, saw_clear, last_reads}
+use Rattle.word_steps.specs.Folds.{current_task}
 use Rattle.word_steps.specs.Records.{Rec, Took, Queued, LoadedRq}
 use Rattle.word_steps.specs.declared.val.Val.TheVariants as val
 
 -- The queueing of a claimed task
 
 module _ (shape : Shape) (s t c m : ℕ) (v : Queue) (rs : List Rec) where
-  pub queue_woken_may : IsSome (task_held rs t) → is_claimed rs t ≡ true → saw_clear rs t ≡ true
-      → (last_reads rs t).cpu ≡ Some c → (x : ℕ) → x / 4 < 2 ^ 60
-      → MayQueueWord s (Took c (val.Queue v) ∷ rs) t x (next_rq x 1)
-  queue_woken_may locked claimed clear here x room = record {
-    after = refl;
-    room = room;
-    locked = locked;
-    cpu = c;
-    read = here;
-    queue = grind (arith, nat_tests);
-    ready = inr (inl (claimed, clear));
-  }
-
   pub release_woken_may : current_task s rs ≢ Some t → (x : ℕ)
       → MayReleaseWord s (Queued t c 0 m ∷ Took c (val.Queue v) ∷ rs) t x 0
   release_woken_may other x = record {

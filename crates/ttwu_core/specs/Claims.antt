@@ -40,8 +40,8 @@ pub record IsPointer (task : TaskVal) (pointer : CpuMask) : Type 0 where
   pub narrowed : (c : ℕ) → task.narrowed ≡ Some c → (k : ℕ) → HasCpu pointer k ↔ ((k ≡ c) × (c < 16))
   pub whole : task.narrowed ≡ None → pointer ≡ task.mask
 
--- the task is put on c: every processor is active, and it was last woken on `wake_cpu`. Where none is allowed, c is what
--- the widened mask gives.
+-- the task is put on c: every processor is active, and it was last woken on `wake_cpu`. Where none is allowed, c is
+-- what the widened mask gives.
 pub record IsChosen (task : TaskVal) (shape : Shape) (c : ℕ) : Type 0 where
   pub pointer : CpuMask
   pub all : CpuMask
@@ -53,7 +53,8 @@ pub record IsChosen (task : TaskVal) (shape : Shape) (c : ℕ) : Type 0 where
 -- t was put at the back of the queue of c under its lock, and TASK_RUNNING stored there
 abbrev pub queued_woken : ℕ → ℕ → ℕ → Queue → List Rec → List Rec
 queued_woken t c m queue trace =
-    Gave c (val.Queue queue) (val.Queue (pushed t queue)) ∷ Released t ∷ Queued t c 0 m ∷ Took c (val.Queue queue) ∷ trace
+    Gave c (val.Queue queue) (val.Queue (pushed t queue)) ∷ Released t ∷ Queued t c 0 m ∷ Took c (val.Queue queue)
+    ∷ trace
 
 pub record IsQueuedWoken (t c m : ℕ) (old new : PassView) : Type 0 where
   pub queue : Queue

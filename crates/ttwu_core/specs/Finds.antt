@@ -20,8 +20,8 @@ pub record IsAwaited (t m : ℕ) (old new : List Rec) : Type 0 where
   pub queued : All (λ r. r.on ≢ 0) waits
   pub did : new ≡ LoadedRq t 0 m ∷ rq_reads t waits old
 
--- a look at the queue of a task: its queue word as it was read first, its processor, that processor's queue, and the queue
--- word as it was read under that queue's lock
+-- a look at the queue of a task: its queue word as it was read first, its processor, that processor's queue, and the
+-- queue word as it was read under that queue's lock
 pub record Look : Type 0 where
   pub first : Rq
   pub cpu : ℕ
@@ -30,7 +30,8 @@ pub record Look : Type 0 where
 
 abbrev pub looked : ℕ → Look → List Rec → List Rec
 looked t x trace =
-    LoadedRq t x.second.on x.second.m ∷ Took x.cpu (val.Queue x.queue) ∷ LoadedCpu t x.cpu ∷ LoadedRq t x.first.on x.first.m ∷ trace
+    LoadedRq t x.second.on x.second.m ∷ Took x.cpu (val.Queue x.queue) ∷ LoadedCpu t x.cpu
+    ∷ LoadedRq t x.first.on x.first.m ∷ trace
 
 -- the task had left that queue meanwhile, so its queue word was read until it was 0
 pub record Left : Type 0 where
@@ -46,7 +47,8 @@ pub record IsLeft (x : Left) : Type 0 where
 abbrev pub off_reads : ℕ → Option Left → ℕ → List Rec → List Rec
 off_reads t None m trace = LoadedRq t 0 m ∷ trace
 off_reads t (Some x) m trace =
-    LoadedRq t 0 m ∷ rq_reads t x.waits (Gave x.look.cpu (val.Queue x.look.queue) (val.Queue x.look.queue) ∷ looked t x.look trace)
+    LoadedRq t 0 m
+    ∷ rq_reads t x.waits (Gave x.look.cpu (val.Queue x.look.queue) (val.Queue x.look.queue) ∷ looked t x.look trace)
 
 pub record IsFoundOff (t m : ℕ) (old new : List Rec) : Type 0 where
   pub left : Option Left

@@ -35,7 +35,8 @@ pub record IsRunnableStill (t : ℕ) (mask : State) (old new : PassView) : Type 
   pub matched : is_match seen mask ≡ true
   pub queued : look.first.on ≢ 0
   pub there : look.second.on ≡ 1
-  pub did : new.trace ≡ Gave t (val.Task task) (val.Task task) ∷ released_there t look (tested t task mask seen old.trace)
+  pub did : new.trace
+      ≡ Gave t (val.Task task) (val.Task task) ∷ released_there t look (tested t task mask seen old.trace)
   pub turn : new.turn ≡ old.turn
 
 -- .. and t was off every queue after m changes, was claimed, read as clear, placed on c and queued there

@@ -4,7 +4,8 @@ ghost use Rattle.handoff_data.specs.Shape.{IsShape};
 ghost use Rattle.task_words.specs.Views.{IsOf, IsSame, IsSameSeat};
 ghost use Rattle.ttwu_core.specs.Claims.{IsAwaitedClear, IsTaken, IsChosen, IsPointer, IsQueuedWoken};
 ghost use Rattle.ttwu_core.specs.Keeps.{Keeps};
-ghost use Rattle.word_steps.specs.Folds.{task_held, queue_held, saw_off, saw_clear, is_claimed, number_read, last_reads, current_task};
+ghost use Rattle.word_steps.specs.Folds.{task_held, queue_held, saw_off, saw_clear, is_claimed, number_read};
+ghost use Rattle.word_steps.specs.Folds.{last_reads, current_task};
 
 use core_data::{Rq, TaskVal};
 use crossbeam_utils::Backoff;

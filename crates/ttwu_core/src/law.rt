@@ -9,9 +9,9 @@ ghost use Rattle.ttwu_core.specs.declared.answers.How.TheVariants as how;
 ghost use Rattle.ttwu_core.specs.declared.answers.Wake.TheVariants as wake;
 ghost use Rattle.word_steps.specs.Folds.{current_task};
 
-/// A task that was still queued, or is the waker's own, was read in a state that has a bit of the mask, and TASK_RUNNING
-/// was stored after that. One that was off every queue was claimed, and then queued on the processor of the answer. A
-/// law: the call does nothing.
+/// A task that was still queued, or is the waker's own, was read in a state that has a bit of the mask, and
+/// TASK_RUNNING was stored after that. One that was off every queue was claimed, and then queued on the processor of
+/// the answer. A law: the call does nothing.
 pub fn law_woken()
     ensures runnable { (t : ℕ) (mask : State) (shape : Shape) (old new : PassView)
         → DidWake t mask shape old new (wake.Woke how.Runnable) → IsReadAndReleased t mask old.trace new.trace }

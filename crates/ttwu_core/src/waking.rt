@@ -15,9 +15,9 @@ use run_queue::place;
 use std::sync::Wait;
 use task_words::{Kept, Pass, Wk, lock_task, match_state};
 
-/// Wakes a task that isn't the pass's current one, where its state has a bit of the mask, as Linux's `try_to_wake_up`: a
-/// task that is still queued is runnable again, and one that is off every queue is queued on the processor that placement
-/// gives. The shape is that of the table.
+/// Wakes a task that isn't the pass's current one, where its state has a bit of the mask, as Linux's `try_to_wake_up`:
+/// a task that is still queued is runnable again, and one that is off every queue is queued on the processor that
+/// placement gives. The shape is that of the table.
 pub fn wake<B: Kept, R: Wait>(
     rt: &R,
     wk: &Wk<B>,

@@ -5,23 +5,12 @@ use Rattle.std.specs.Prelude.{unwrap_or}
 use Rattle.run_queue.specs.Queueing.{pushed}
 use Rattle.run_queue.proofs.Guards.{taken_current}
 use Rattle.word_steps.specs.Folds.{queue_held, current_task}
-use Rattle.run_queue.proofs.Steps.{queue_new_may, give_new_may}
+use Rattle.run_queue.proofs.Steps.{give_new_may}
 use Rattle.run_queue.proofs.starting.queue_new.Goals as goal
-use Rattle.word_rule.specs.May.{MayQueueWord, MayGiveQueueVal, next_rq}
+use Rattle.word_rule.specs.May.{MayGiveQueueVal}
 use Rattle.word_rule.specs.Told.{TakenQueue}
 use Rattle.word_steps.specs.Records.{Rec, Took, Gave, Queued, Released}
 use Rattle.word_steps.specs.declared.val.Val.TheVariants as val
-
-pub queue_seen-requires-clause-may : goal.queue_seen-requires-clause-may
-queue_seen-requires-clause-may g c κs within = λ x room.
-    let t = c.args.t in
-    let trace = c.lock_queue-queue.ensures.trace
-    ∙ ap (λ (z : List Rec). Took c.args.c (val.Queue c.lock_queue-queue.result.val) ∷ z) c.store_running.ensures.trace in
-    let seat = c.lock_queue-queue.ensures.same.same.same_seat ∙ c.store_running.ensures.same.same.same_seat in
-    subst (λ (z : ℕ × List Rec). MayQueueWord z.0 z.1 t x (next_rq x 1))
-    (λ i. (sym seat i, sym trace i))
-    (queue_new_may c.args.wk.now.shape c.args.pass.now.seat t c.args.c c.lock_queue-queue.result.val c.args.pass.now.trace
-    c.requires.locked c.requires.never c.requires.here x room)
 
 pub give-requires-clause-may : goal.give-requires-clause-may
 give-requires-clause-may g c κs within =

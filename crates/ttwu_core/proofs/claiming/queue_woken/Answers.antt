@@ -4,19 +4,12 @@ use Rattle.run_queue.proofs.Guards.{gave_queue, queue_there}
 use Rattle.ttwu_core.proofs.Waiting.{queued_keeps}
 use Rattle.ttwu_core.specs.Claims.{queued_woken}
 use Rattle.ttwu_core.specs.Keeps.{Keeps}
-use Rattle.ttwu_core.proofs.Steps.{queue_woken_may, release_woken_may}
+use Rattle.ttwu_core.proofs.Steps.{release_woken_may}
 use Rattle.ttwu_core.proofs.claiming.queue_woken.Given.{Over}
 use Rattle.ttwu_core.proofs.claiming.queue_woken.Goals as goal
-use Rattle.word_rule.specs.May.{MayQueueWord, MayReleaseWord, next_rq}
+use Rattle.word_rule.specs.May.{MayReleaseWord}
 use Rattle.word_steps.specs.Records.{Rec, Took, Gave, Queued, Released}
 use Rattle.word_steps.specs.declared.val.Val.TheVariants as val
-
-pub queue_seen-requires-clause-may : goal.queue_seen-requires-clause-may
-queue_seen-requires-clause-may g c κs within = λ x room.
-    subst (λ (z : ℕ × List Rec). MayQueueWord z.0 z.1 c.args.t x (next_rq x 1))
-    (λ i. (sym c.lock_queue-queue.ensures.same.same.same_seat i, sym c.lock_queue-queue.ensures.trace i))
-    (queue_woken_may c.args.wk.now.shape c.args.pass.now.seat c.args.t c.args.c c.args.m c.lock_queue-queue.result.val c.args.pass.now.trace
-    c.requires.locked c.requires.claimed c.requires.clear c.requires.here x room)
 
 pub store_running-requires-clause-may : goal.store_running-requires-clause-may
 store_running-requires-clause-may g c κs within = λ x.
