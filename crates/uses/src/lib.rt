@@ -6,6 +6,8 @@ mod locks;
 mod run_tests;
 mod runs;
 mod sleeps;
+#[cfg(test)]
+mod step_tests;
 mod threads;
 mod wakes;
 
