@@ -9,16 +9,17 @@ use Rattle.core_data.specs.declared.values.TaskVal.{TaskVal}
 use Rattle.core_gives.specs.Queues.{times, is_some_of}
 use Rattle.handoff_data.specs.declared.shape.Shape.{Shape}
 use Rattle.handoff_data.specs.declared.state.State.{State}
-use Rattle.task_words.specs.Gives.{is_quiet, unquiet, IsAsTaken, IsWoken, IsPicked, IsPutBack, IsAsleep, HasRoomFor, IsJustTaken, IsQueuedUnder}
+use Rattle.task_words.specs.Gives.{is_quiet, unquiet, IsAsTaken, IsPut, IsWoken, IsPicked, IsPutBack, IsAsleep, HasRoomFor, IsJustTaken, IsQueuedUnder}
 use Rattle.core_kinds.specs.Steps.{is_sleep, dead, running}
 use Rattle.task_words.specs.States.{IsOwnStore}
 use Rattle.task_words.specs.Queues.{MayQueueHere}
-use Rattle.word_rule.proofs.Uses.{gives_same, gives_woken, gives_picked, gives_back, gives_asleep, IsPushed}
+use Rattle.word_rule.proofs.Uses.{gives_same, gives_put, gives_woken, gives_picked, gives_back, gives_asleep, IsPushed}
 use Rattle.word_rule.proofs.Possible.{value_of}
 use Rattle.word_rule.specs.May.{MayGiveQueueVal, MayGiveTaskVal, MaySetBusyWord, MayQueueWord, MayOwnWord, next_busy, next_rq}
 use Rattle.word_rule.specs.Standing.{may_run, is_runnable}
 use Rattle.word_steps.specs.Folds.{put_both, has_put, current_task, stays_queued, queue_held, number_read, task_to_clear, task_held, ended_known}
 use Rattle.word_steps.specs.Records.{Rec, Took, Gave, OutBody, HomeBody, Queued, Dequeued, Moved, SetBusy, ClearedBusy, StoredOwn, Claimed, Released, LoadedState, LoadedRq, LoadedBusy, LoadedCpu, StoredCpu, Bumped, LoadedCond}
+use Rattle.word_steps.specs.declared.val.Val.TheVariants as val
 
 -- one more at the back, and at the front
 pushed : (xs : List ℕ) (t : ℕ) → IsPushed xs (xs ++ t ∷ []) t
@@ -85,6 +86,29 @@ module _ (shape : Shape) (s : ℕ) (rs : List Rec) (c : ℕ) (given : Queue) (h 
   quiet_gives (StoredCpu t d) q = loud (StoredCpu t d) refl q
   quiet_gives (Bumped k v) q = loud (Bumped k v) refl q
 
+-- What reads that a task runs tell, reads that it is new tell too
+
+module _ (shape : Shape) (s : ℕ) (rs : List Rec) (c t : ℕ) (state : State) (runs : is_runnable state ≡ true) where
+  runnable_may : (u : ℕ) → may_run s (LoadedState t None (record { 0 = 0 }) ∷ rs) c u ≡ true
+      → may_run s (LoadedState t None state ∷ rs) c u ≡ true
+  runnable_may u e = subst
+      (λ (b : Bool). (if is_some_of (current_task s rs) t && (stays_queued rs && (is_some (queue_held rs s) && b)) then put_both (may_run s rs) s t true else may_run s rs) c u ≡ true)
+      (sym runs) e
+
+  runnable_gives : (given : Queue) → MayGiveQueueVal s (LoadedState t None (record { 0 = 0 }) ∷ rs) shape c given
+      → MayGiveQueueVal s (LoadedState t None state ∷ rs) shape c given
+  runnable_gives given h = record {
+    taken = h.taken;
+    held = h.held;
+    stands = h.stands;
+    waits = λ u w. runnable_may u (h.waits u w);
+    next = λ u e. elim (h.next u e) [ inl w ↦ inl (runnable_may u w) | inr w ↦ inr w ];
+    others = h.others;
+    own = h.own;
+    clear = h.clear;
+    left = h.left;
+  }
+
 module _ (shape : Shape) (s : ℕ) (c : ℕ) where
   unquiet_gives : (given : Queue) (trace : List Rec) → MayGiveQueueVal s (unquiet trace) shape c given → MayGiveQueueVal s trace shape c given
   unquiet_gives given [] h = h
@@ -96,6 +120,13 @@ module _ (shape : Shape) (s : ℕ) (c : ℕ) where
   pub as_taken_gives : (trace : List Rec) (given : Queue) → IsAsTaken shape s trace c given → MayGiveQueueVal s trace shape c given
   as_taken_gives trace given x = unquiet_gives given trace
       (subst (λ (z : List Rec). MayGiveQueueVal s z shape c given) (sym x.did) (gives_same shape s c given x.rs x.told))
+
+  pub put_gives : (trace : List Rec) (given : Queue) → IsPut shape s trace c given → MayGiveQueueVal s trace shape c given
+  put_gives trace given x =
+      subst (λ (z : List Rec). MayGiveQueueVal s z shape c given) (sym x.did)
+      (gives_put shape s c x.v x.rs x.told x.t x.on x.m given x.ready
+      (subst (λ (q : Queue). IsPushed x.v.waiting q.waiting x.t) (sym x.put) (pushed x.v.waiting x.t))
+      (ap (λ (q : Queue). q.cur) x.put) (ap (λ (q : Queue). q.left) x.put))
 
   pub woken_gives : (trace : List Rec) (given : Queue) → IsWoken shape s trace c given → MayGiveQueueVal s trace shape c given
   woken_gives trace given x =
@@ -115,9 +146,10 @@ module _ (shape : Shape) (s : ℕ) (trace : List Rec) where
   pub back_gives : (given : Queue) → IsPutBack shape s trace given → MayGiveQueueVal s trace shape s given
   back_gives given x =
       subst (λ (z : List Rec). MayGiveQueueVal s z shape s given) (sym x.did)
+      (runnable_gives shape s (Took s (val.Queue x.v) ∷ x.rs) s x.t x.state x.runs given
       (gives_back shape s x.v x.rs x.told x.t given x.current x.stays x.home
       (subst (λ (q : Queue). IsPushed x.v.waiting q.waiting x.t) (sym x.back) (pushed x.v.waiting x.t))
-      (ap (λ (q : Queue). q.cur) x.back) (ap (λ (q : Queue). q.left) x.back))
+      (ap (λ (q : Queue). q.cur) x.back) (ap (λ (q : Queue). q.left) x.back)))
 
   pub asleep_gives : (given : Queue) → IsAsleep shape s trace given → MayGiveQueueVal s trace shape s given
   asleep_gives given x =

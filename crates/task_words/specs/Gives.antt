@@ -9,6 +9,7 @@ use Rattle.core_kinds.specs.Locks.{IsKept}
 use Rattle.handoff_data.specs.declared.shape.Shape.{Shape}
 use Rattle.handoff_data.specs.declared.state.State.{State}
 use Rattle.word_rule.specs.May.{number_of}
+use Rattle.word_rule.specs.Standing.{is_runnable}
 use Rattle.word_rule.specs.Told.{TakenQueue, TakenWait, IsOff}
 use Rattle.word_steps.specs.Folds.{task_held, current_task, stays_queued, body_held, task_to_clear, is_claimed, is_moving}
 use Rattle.word_steps.specs.Records.{Rec, Took, Queued, Dequeued, SetBusy, StoredOwn, Released, LoadedState, LoadedRq, LoadedBusy, LoadedCpu, LoadedCond}
@@ -42,6 +43,18 @@ module _ (shape : Shape) (s : ℕ) (trace : List Rec) (c : ℕ) where
     pub did : trace ≡ Took c (val.Queue given) ∷ rs
     pub told : TakenQueue shape s rs c given
 
+  -- t was queued on it, as new or half way from another queue, and put at the back: its state stays
+  pub record IsPut (given : Queue) : Type 0 where
+    pub t : ℕ
+    pub on : ℕ
+    pub m : ℕ
+    pub v : Queue
+    pub rs : List Rec
+    pub did : trace ≡ Queued t c on m ∷ Took c (val.Queue v) ∷ rs
+    pub told : TakenQueue shape s rs c v
+    pub ready : (m ≡ 0) ⊎ (on ≡ 2)
+    pub put : given ≡ record v { waiting = v.waiting ++ t ∷ [] }
+
   -- t was queued on it, put at the back, and stored as running
   pub record IsWoken (given : Queue) : Type 0 where
     pub t : ℕ
@@ -67,12 +80,14 @@ module _ (shape : Shape) (s : ℕ) (trace : List Rec) where
     pub first : v.waiting ≡ t ∷ given.waiting
     pub next : given ≡ record v { waiting = given.waiting; cur = Some t }
 
-  -- the seat's current task, which runs, was put back at the end
+  -- the seat's current task, which runs or is new, was put back at the end
   pub record IsPutBack (given : Queue) : Type 0 where
     pub t : ℕ
+    pub state : State
     pub v : Queue
     pub rs : List Rec
-    pub did : trace ≡ LoadedState t None (record { 0 = 0 }) ∷ Took s (val.Queue v) ∷ rs
+    pub did : trace ≡ LoadedState t None state ∷ Took s (val.Queue v) ∷ rs
+    pub runs : is_runnable state ≡ true
     pub told : TakenQueue shape s rs s v
     pub current : current_task s rs ≡ Some t
     pub stays : stays_queued rs ≡ true

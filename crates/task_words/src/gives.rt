@@ -4,7 +4,7 @@ ghost use Rattle.core_data.specs.declared.values.WaitEntry.{WaitEntry};
 ghost use Rattle.core_gives.specs.Waits.{has_task};
 ghost use Rattle.std.specs.List.{list_any};
 ghost use Rattle.handoff_data.specs.declared.entry.Entry.TheVariants as entry;
-ghost use Rattle.task_words.specs.Gives.{HasRoomFor, IsAsTaken, IsWoken, IsPicked, IsPutBack, IsAsleep, IsEntered, IsJustTaken, IsQueuedUnder};
+ghost use Rattle.task_words.specs.Gives.{HasRoomFor, IsAsTaken, IsPut, IsWoken, IsPicked, IsPutBack, IsAsleep, IsEntered, IsJustTaken, IsQueuedUnder};
 ghost use Rattle.task_words.specs.Views.{IsOf, IsSame, IsSameSeat, logged};
 ghost use Rattle.word_rule.specs.May.{IsPutHere};
 ghost use Rattle.word_rule.specs.Standing.{may_run};
@@ -111,6 +111,17 @@ impl QueueGuard {
         self.give(wk, pass);
     }
 
+    /// Gives the lock after a task was queued as new, or in a move, and put at the back. Its state is as it was.
+    pub fn give_put<B: Kept>(self, wk: &Wk<B>, pass: &mut Pass)
+        requires of { IsOf wk.now pass.old }
+        requires processor { self.cpu < wk.now.shape.cpus }
+        requires may { IsPut pass.old.shape pass.old.seat pass.old.trace self.cpu self.val }
+        ensures same { IsSame pass.old pass.new }
+        ensures trace { pass.new.trace ≡ Gave self.cpu (val.Queue (unwrap_or (queue_held pass.old.trace self.cpu) self.val)) (val.Queue self.val) ∷ pass.old.trace }
+    {
+        self.give(wk, pass);
+    }
+
     /// Gives the lock after a task was queued, put at the back and then stored as running.
     pub fn give_woken<B: Kept>(self, wk: &Wk<B>, pass: &mut Pass)
         requires of { IsOf wk.now pass.old }
@@ -134,7 +145,8 @@ impl QueueGuard {
         self.give(wk, pass);
     }
 
-    /// Gives the lock of the seat's own queue after its current task, which runs, was put back at the end.
+    /// Gives the lock of the seat's own queue after its current task was put back at the end, whose state was read as
+    /// TASK_RUNNING or TASK_NEW.
     pub fn give_put_back<B: Kept>(self, wk: &Wk<B>, pass: &mut Pass)
         requires of { IsOf wk.now pass.old }
         requires processor { self.cpu < wk.now.shape.cpus }

@@ -8,11 +8,13 @@ mod random_tests;
 mod run_tests;
 mod runs;
 mod sleeps;
+#[cfg(test)]
+mod step_tests;
 mod threads;
 mod wakes;
 
 pub use locks::copy_wake_cpu;
-pub use runs::{pick, put_back, run, start};
+pub use runs::{pick, put_back, run, start, start_new};
 pub use sleeps::{sleep, switch_out};
 pub use threads::both;
 pub use wakes::wake;

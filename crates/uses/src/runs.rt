@@ -41,6 +41,39 @@ pub fn start<B: Kept, R: Wait>(rt: &R, wk: &Wk<B>, pass: &mut Pass, t: TaskNo) -
     true
 }
 
+/// Puts a new task at the back of its processor's queue, as `start`, but leaves it TASK_NEW; whether it was new.
+pub fn start_new<B: Kept, R: Wait>(rt: &R, wk: &Wk<B>, pass: &mut Pass, t: TaskNo) -> bool
+    requires of { IsOf wk.now pass.old }
+    requires task { t < wk.now.shape.tasks }
+    requires nothing { HoldsNothing pass.old.trace }
+    requires other { current_task pass.old.seat pass.old.trace ≢ Some t }
+    requires spare { 0 < pass.old.turn.spare }
+    ensures same { IsSameSeat pass.old pass.new }
+    ensures nothing { HoldsNothing pass.new.trace }
+    ensures current { current_task pass.new.seat pass.new.trace ≡ current_task pass.old.seat pass.old.trace }
+    ensures clear { task_to_clear pass.new.seat pass.new.trace ≡ task_to_clear pass.old.seat pass.old.trace }
+{
+    let task = lock_task(rt, wk, pass, t);
+    let seen = load_rq(wk, pass, t);
+    if seen.m != 0 {
+        task.give(wk, pass);
+        return false;
+    }
+    let c = load_cpu(wk, pass, t);
+    let mut queue = lock_queue(rt, wk, pass, c);
+    let queued = queue_task(rt, wk, pass, &queue, t);
+    queue.push(wk, pass, t);
+    // No contract tells that the number is still the one that was loaded.
+    if queued.m == 0 {
+        queue.give_put(wk, pass);
+    } else {
+        queue.store_running(wk, pass, t);
+        queue.give_woken(wk, pass);
+    }
+    task.give_queued(wk, pass);
+    true
+}
+
 /// Picks the first task that waits in the seat's own queue, as Linux's `pick_next_task`; none where the queue has a
 /// next task already, or nobody waits.
 pub fn pick<B: Kept, R: Wait>(rt: &R, wk: &Wk<B>, pass: &mut Pass) -> Option<TaskNo>
@@ -88,8 +121,8 @@ pub fn run<B: Kept>(wk: &Wk<B>, pass: &mut Pass, t: TaskNo)
     body_home(wk, pass, body);
 }
 
-/// Puts the current task, while it runs, at the back of its queue, as Linux's `schedule` of a preempted task; whether
-/// it ran.
+/// Puts the current task, while it runs or is still TASK_NEW, at the back of its queue, as Linux's `schedule` of a
+/// preempted task; whether it did.
 pub fn put_back<B: Kept, R: Wait>(rt: &R, wk: &Wk<B>, pass: &mut Pass, t: TaskNo) -> bool
     requires of { IsOf wk.now pass.old }
     requires processor { pass.old.seat < wk.now.shape.cpus }
@@ -107,7 +140,7 @@ pub fn put_back<B: Kept, R: Wait>(rt: &R, wk: &Wk<B>, pass: &mut Pass, t: TaskNo
     let c = pass.seat();
     let mut queue = lock_queue(rt, wk, pass, c);
     let state = load_state(wk, pass, t);
-    if state != State::TASK_RUNNING {
+    if state != State::TASK_RUNNING && state != State::TASK_NEW {
         queue.give_as_taken(wk, pass);
         return false;
     }
