@@ -7,7 +7,7 @@ use Rattle.core_data.specs.declared.values.TaskVal.{TaskVal}
 use Rattle.core_gives.specs.Queues.{gives_up}
 use Rattle.handoff_data.specs.declared.shape.Shape.{Shape}
 use Rattle.word_rule.specs.Told.{TakenQueue}
-use Rattle.word_steps.specs.Folds.{task_held, queue_held, current_task}
+use Rattle.word_steps.specs.Folds.{task_held, queue_held, current_task, task_to_clear}
 use Rattle.word_steps.specs.Records.{Rec, Took, Gave}
 use Rattle.word_steps.specs.declared.val.Val.TheVariants as val
 
@@ -49,6 +49,20 @@ pub taken_current : (shape : Shape) (s c : ℕ) (v : Queue) (rs : List Rec) → 
     → (if gives_up s c v then None else current_task s rs) ≡ current_task s rs
 taken_current shape s c v rs told =
     kept_current (gives_up s c v) (current_task s rs) (λ e.
+    let same : s ≡ c = grind (arith, nat_tests, e) in
+    let gone : is_none v.cur ≡ true = grind (arith, nat_tests, e) in
+    idle v (current_task s rs) (told.current same) gone)
+
+kept_clear : (b : Bool) (o h : Option ℕ) → (b ≡ true → o ≡ None) → (if b then (if is_none o then h else o) else h) ≡ h
+kept_clear true o h gone = ap (λ (x : Option ℕ). if is_none x then h else o) (gone refl)
+kept_clear false o h gone = refl
+
+-- .. and the same busy word to clear
+pub taken_clear : (shape : Shape) (s c : ℕ) (v : Queue) (rs : List Rec) → TakenQueue shape s rs c v
+    → (if gives_up s c v then (if is_none (current_task s rs) then task_to_clear s rs else current_task s rs) else task_to_clear s rs)
+    ≡ task_to_clear s rs
+taken_clear shape s c v rs told =
+    kept_clear (gives_up s c v) (current_task s rs) (task_to_clear s rs) (λ e.
     let same : s ≡ c = grind (arith, nat_tests, e) in
     let gone : is_none v.cur ≡ true = grind (arith, nat_tests, e) in
     idle v (current_task s rs) (told.current same) gone)

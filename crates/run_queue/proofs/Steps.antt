@@ -1,5 +1,5 @@
 -- What a seat may do next on its way through a start.
-use Rattle.std.proofs.Common.{◌≡◌, ◌∙◌, ℕ, ◌∷◌, List, inl, refl, ap, arith}
+use Rattle.std.proofs.Common.{◌≡◌, ◌∙◌, ℕ, ◌∷◌, List, inl, refl, sym, ap, subst, arith}
 use Rattle.std.specs.Prelude.{Bool, true, false, ◌==◌, Some, None, if◌then◌else◌}
 use Rattle.std.proofs.lemmas.Bool.Decides.{nat_tests}
 use Rattle.core_data.proofs.QueueLemmas.{times_in-push}
@@ -7,13 +7,14 @@ use Rattle.core_data.specs.Queue.{Queue}
 use Rattle.core_data.specs.declared.values.TaskVal.{TaskVal}
 use Rattle.core_kinds.specs.Steps.{fresh}
 use Rattle.handoff_data.specs.declared.shape.Shape.{Shape}
+use Rattle.run_queue.proofs.Apart.{apart_again, took_task_apart, gave_task_apart, took_queue_apart, gave_queue_apart, queued_apart, rq_apart, released_apart, state_apart, placed_apart}
 use Rattle.run_queue.specs.Queueing.{pushed, placed}
-use Rattle.run_queue.specs.Rests.{Rests}
+use Rattle.run_queue.specs.Rests.{Rests, IsApart}
 use Rattle.run_queue.specs.Starts.{queued_new}
 use Rattle.word_rule.proofs.Uses.{gives_put}
 use Rattle.word_rule.specs.May.{MayGiveQueueVal}
 use Rattle.word_rule.specs.Told.{TakenQueue}
-use Rattle.word_steps.specs.Folds.{task_held, queue_held, wait_held, current_task, is_claimed}
+use Rattle.word_steps.specs.Folds.{task_held, queue_held, current_task, task_to_clear, is_claimed}
 use Rattle.word_steps.specs.Records.{Rec, Took, Gave, Queued, Released, LoadedState, LoadedRq, LoadedCpu, StoredCpu}
 use Rattle.word_steps.specs.declared.val.Val.TheVariants as val
 
@@ -38,23 +39,56 @@ either_current false s t c from trace = refl
 pub placed_current : (s t c from : ℕ) (trace : List Rec) → current_task s (placed t from c trace) ≡ current_task s trace
 placed_current s t c from trace = either_current (from == c) s t c from trace
 
-either_waits : (same : Bool) (t c from : ℕ) (trace : List Rec)
-    → wait_held (if same then LoadedCpu t from ∷ trace else StoredCpu t c ∷ LoadedCpu t from ∷ trace) ≡ wait_held trace
-either_waits true t c from trace = refl
-either_waits false t c from trace = refl
+either_clear : (same : Bool) (s t c from : ℕ) (trace : List Rec)
+    → task_to_clear s (if same then LoadedCpu t from ∷ trace else StoredCpu t c ∷ LoadedCpu t from ∷ trace) ≡ task_to_clear s trace
+either_clear true s t c from trace = refl
+either_clear false s t c from trace = refl
+
+pub placed_clear : (s t c from : ℕ) (trace : List Rec) → task_to_clear s (placed t from c trace) ≡ task_to_clear s trace
+placed_clear s t c from trace = either_clear (from == c) s t c from trace
+
+-- what was read before the task was placed
+abbrev pub first_reads : ℕ → ℕ → TaskVal → List Rec → List Rec
+first_reads t on v old = LoadedRq t on 0 ∷ LoadedState t None fresh ∷ Took t (val.Task v) ∷ old
+
+first_apart : (t on : ℕ) (v : TaskVal) (old : List Rec) → IsApart old (first_reads t on v old)
+first_apart t on v old =
+    let a = Took t (val.Task v) ∷ old in
+    let b = LoadedState t None fresh ∷ a in
+    apart_again old b (LoadedRq t on 0 ∷ b)
+    (apart_again old a b (took_task_apart old t v) (state_apart a t None fresh)) (rq_apart b t on 0)
+
+queued_new_apart : (t c : ℕ) (q : Queue) (old : List Rec) → IsApart old (queued_new t c q old)
+queued_new_apart t c q old =
+    let a = Released t ∷ old in
+    let b = Took c (val.Queue q) ∷ a in
+    let d = Queued t c 0 0 ∷ b in
+    apart_again old d (Gave c (val.Queue q) (val.Queue (pushed t q)) ∷ d)
+    (apart_again old b d (apart_again old a b (released_apart old t) (took_queue_apart a c q)) (queued_apart b t c 0 0))
+    (gave_queue_apart d c q (pushed t q))
+
+started_apart : (t c from on : ℕ) (v w given : TaskVal) (q : Queue) (old : List Rec)
+    → IsApart old (Gave t (val.Task w) (val.Task given) ∷ queued_new t c q (placed t from c (first_reads t on v old)))
+started_apart t c from on v w given q old =
+    let a = first_reads t on v old in
+    let b = placed t from c a in
+    let d = queued_new t c q b in
+    apart_again old d (Gave t (val.Task w) (val.Task given) ∷ d)
+    (apart_again old b d (apart_again old a b (first_apart t on v old) (placed_apart t c from a)) (queued_new_apart t c q b))
+    (gave_task_apart d t w given)
 
 pub started_rests : (s t c from on : ℕ) (v w given : TaskVal) (q : Queue) (old new : List Rec)
     → new ≡ Gave t (val.Task w) (val.Task given)
     ∷ queued_new t c q (placed t from c (LoadedRq t on 0 ∷ LoadedState t None fresh ∷ Took t (val.Task v) ∷ old))
-    → current_task s new ≡ current_task s old → Rests s old new
-started_rests s t c from on v w given q old new did current =
+    → current_task s new ≡ current_task s old → task_to_clear s new ≡ task_to_clear s old → Rests s old new
+started_rests s t c from on v w given q old new did current clear =
     record {
       tasks = λ u e. ap (λ (z : List Rec). task_held z u) did ∙ started_tasks u e;
       queues = λ f k. ap (λ (z : List Rec). queue_held z k) did ∙ started_queues k (f k);
       claimed = λ u e. ap (λ (z : List Rec). is_claimed z u) did ∙ started_claimed u e;
       current = current;
-      waits = ap wait_held did
-          ∙ either_waits (from == c) t c from (LoadedRq t on 0 ∷ LoadedState t None fresh ∷ Took t (val.Task v) ∷ old);
+      clear = clear;
+      apart = subst (λ (z : List Rec). IsApart old z) (sym did) (started_apart t c from on v w given q old);
     }
   where
     started_tasks : (u : ℕ) → task_held old u ≡ None → task_held (Gave t (val.Task w) (val.Task given)

@@ -3,15 +3,14 @@ ghost use Rattle.std.specs.Prelude.{◌≡◌, ℕ, ◌<◌, ◌+◌, None, Some
 ghost use Rattle.run_queue.specs.Rests.{Rests};
 ghost use Rattle.run_queue.specs.Starts.{DidStart, IsQueuedNew};
 ghost use Rattle.task_words.specs.Views.{IsOf, IsSameSeat};
-ghost use Rattle.word_steps.specs.Folds.{current_task, task_held, queue_held, number_read, last_reads};
+ghost use Rattle.word_steps.specs.Folds.{current_task, task_to_clear, task_held, queue_held, number_read, last_reads};
 
 use crate::answer::Start;
 use crate::placing::place;
-use crate::queueing::queue_seen;
 use core_data::Rq;
 use handoff_data::{CpuNo, State, TaskNo};
 use std::sync::Wait;
-use task_words::{Kept, Pass, Wk, load_rq, load_state, lock_queue, lock_task, store_running};
+use task_words::{Kept, Pass, Wk, load_rq, load_state, lock_queue, lock_task, queue_task, store_running};
 
 // Stores TASK_RUNNING, and puts the new task at the back of its processor's queue.
 fn queue_new<B: Kept, R: Wait>(rt: &R, wk: &Wk<B>, pass: &mut Pass, t: TaskNo, c: CpuNo)
@@ -26,10 +25,11 @@ fn queue_new<B: Kept, R: Wait>(rt: &R, wk: &Wk<B>, pass: &mut Pass, t: TaskNo, c
     ensures same { IsSameSeat pass.old pass.new }
     ensures did { IsQueuedNew t c pass.old pass.new }
     ensures current { current_task pass.new.seat pass.new.trace ≡ current_task pass.old.seat pass.old.trace }
+    ensures clear { task_to_clear pass.new.seat pass.new.trace ≡ task_to_clear pass.old.seat pass.old.trace }
 {
     store_running(wk, pass, t);
     let mut queue = lock_queue(rt, wk, pass, c);
-    queue_seen(rt, wk, pass, &queue, t, Rq { on: 0, m: 0 });
+    queue_task(rt, wk, pass, &queue, t, Rq { on: 0, m: 0 });
     queue.push(wk, pass, t);
     queue.give(wk, pass);
 }

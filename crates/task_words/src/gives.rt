@@ -1,8 +1,5 @@
 //! Queues put and given after what a seat has done with them since it took their lock.
 ghost use Rattle.std.specs.Prelude.{◌≡◌, ◌++◌, ◌∷◌, [], ◌<◌, ◌≤◌, true, Some, None, ◌+◌, MatchOption, ◌==◌, IfSome, IsSome, unwrap_or};
-ghost use Rattle.core_data.specs.declared.values.WaitEntry.{WaitEntry};
-ghost use Rattle.core_gives.specs.Waits.{has_task};
-ghost use Rattle.std.specs.List.{list_any};
 ghost use Rattle.handoff_data.specs.declared.entry.Entry.TheVariants as entry;
 ghost use Rattle.task_words.specs.Gives.{HasRoomFor, IsAsTaken, IsPut, IsWoken, IsPicked, IsPutBack, IsAsleep, IsEntered, IsJustTaken, IsQueuedUnder};
 ghost use Rattle.task_words.specs.Views.{IsOf, IsSame, IsSameSeat, logged};
@@ -17,7 +14,6 @@ use crate::pass::Pass;
 use crate::runs::set_busy;
 use crate::states::store_running;
 use crate::wk::Wk;
-use core_data::WaitEntry;
 use handoff_data::TaskNo;
 use std::sync::Wait;
 use word_table::Kept;
@@ -27,20 +23,6 @@ fn few_tasks<B: Kept>(wk: &Wk<B>)
     ensures { wk.now.shape.tasks ≤ 200 }
 {
     let _words = &wk.words;
-}
-
-// Whether some entry is of the task, as std tells it.
-fn any_of(entries: &[WaitEntry], t: TaskNo) -> bool
-    ensures { result ≡ list_any (λ (x : WaitEntry). x.t == t) entries.now }
-{
-    entries.iter().any(|x| x.t == t)
-}
-
-// Whether some entry is of the task.
-fn has_task(entries: &[WaitEntry], t: TaskNo) -> bool
-    ensures { result ≡ has_task entries.now t }
-{
-    any_of(entries, t)
 }
 
 impl QueueGuard {
@@ -185,13 +167,6 @@ impl TaskGuard {
 }
 
 impl WaitGuard {
-    /// Whether a task has an entry there.
-    pub fn has_task(&self, t: TaskNo) -> bool
-        ensures { result ≡ has_task self.now.val t }
-    {
-        has_task(&self.val.entries, t)
-    }
-
     /// Gives the lock after the seat's current task has put its entry in at the back and stored its state.
     pub fn give_entered<B: Kept>(self, wk: &Wk<B>, pass: &mut Pass)
         requires of { IsOf wk.now pass.old }

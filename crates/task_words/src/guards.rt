@@ -1,8 +1,9 @@
 //! What locks guard, while they are held.
 ghost use Rattle.std.specs.Prelude.{◌≡◌};
 
-use core_data::{QueueVal, TaskVal, WaitVal, WorksVal};
+use core_data::{QueueVal, TaskVal, WorksVal};
 use handoff_data::{CondNo, CpuNo, TaskNo};
+use word_steps::WaitQueue;
 
 /// What a task's lock guards, while the lock is held. It has no `Drop`, so it ends in `give`.
 pub struct TaskGuard {
@@ -24,7 +25,7 @@ pub struct WorksGuard {
 
 /// What the lock of a condition's wait queue guards, while it is held; it ends in `give`.
 pub struct WaitGuard {
-    pub val: WaitVal,
+    pub val: WaitQueue,
     pub(crate) cond: CondNo,
 }
 

@@ -1,5 +1,5 @@
 //! The token of a seat, with the entries of its turn.
-ghost use Rattle.std.specs.Prelude.{◌≡◌, ◌+◌, ◌*◌, ◌++◌, ◌∷◌, ◌<◌, [], length, slice_get};
+ghost use Rattle.std.specs.Prelude.{◌≡◌, ◌+◌, ◌*◌, ◌++◌, ◌∷◌, ◌<◌, [], length, slice_get, IfSome};
 ghost use Rattle.handoff_data.specs.declared.entry.Entry.{Entry};
 ghost use Rattle.task_words.specs.Views.{logged};
 ghost use Rattle.word_steps.specs.Folds.{current_task};
@@ -66,7 +66,8 @@ impl Pass {
 
     /// The task that the seat runs, if it runs one.
     pub fn current(&self) -> Option<TaskNo>
-        ensures { result ≡ current_task self.now.seat self.now.trace }
+        ensures current { result ≡ current_task self.now.seat self.now.trace }
+        ensures task { IfSome result (λ t. t < self.now.shape.tasks) }
     {
         self.current
     }

@@ -4,7 +4,7 @@ ghost use Rattle.core_kinds.specs.Running.{queue_entry, dequeue_entry, is_dead};
 ghost use Rattle.handoff_data.specs.declared.entry.Entry.TheVariants as entry;
 ghost use Rattle.task_words.specs.Queues.{MayQueueHere};
 ghost use Rattle.task_words.specs.Views.{IsOf, IsSameSeat, logged};
-ghost use Rattle.word_rule.specs.May.{MayDequeueWord, MayMoveWord, MaySetBusyWord, MayClearBusyWord, next_rq, next_busy};
+ghost use Rattle.word_rule.specs.May.{cpu_read_of, MayQueueWord, MayDequeueWord, MayMoveWord, MaySetBusyWord, MayClearBusyWord, next_rq, next_busy};
 ghost use Rattle.word_steps.specs.Folds.{seen_state, last_reads};
 ghost use Rattle.word_table.specs.Views.{IsOf as IsTokenOf, IsSame as IsSameToken};
 ghost use Rattle.word_steps.specs.Records.{Queued, Dequeued, Moved, SetBusy, ClearedBusy};
@@ -52,39 +52,73 @@ fn change_rq<B: Kept, K: Kind, R: Wait>(
     unreachable!()
 }
 
+// One more change of the queue word of t, to queued, from what the seat has read of it. No other seat changes the word
+// meanwhile, as the rule has it, so the first try succeeds.
+fn queue_read<B: Kept, R: Wait>(rt: &R, wk: &Wk<B>, token: &mut Token, t: TaskNo, seen: Rq)
+    requires of { IsTokenOf wk.now token.old }
+    requires row { t < wk.now.shape.tasks }
+    requires on { seen.on < 4 }
+    requires may { (x : ℕ) → x / 4 < 2 ^ 60 → MayQueueWord token.old.seat token.old.trace t x (next_rq x 1) }
+    ensures same { IsSameToken token.old token.new }
+    ensures trace { token.new.trace ≡ Queued t (cpu_read_of token.old.trace t) seen.on seen.m ∷ token.old.trace }
+    ensures room { seen.m < 2 ^ 60 }
+{
+    let backoff = Backoff::new();
+    for _ in rt.forever() {
+        if seen.m < END {
+            let old = 4 * seen.m + seen.on as u64;
+            let new = 4 * (seen.m + 1) + 1;
+            if exchange::<B, QueueTask>(&wk.words, token, t, old, new) == old {
+                return;
+            }
+        }
+        backoff.snooze();
+    }
+    unreachable!()
+}
+
+// What the journal gets of a task that is queued.
+fn queue_entry(t: TaskNo, c: CpuNo, seen: Rq) -> Entry
+    requires room { seen.m < 2 ^ 60 }
+    ensures { result ≡ queue_entry seen.m seen.on t c }
+{
+    let m = seen.m + 1;
+    if seen.m == 0 {
+        Entry::New { t, m, c }
+    } else if seen.on == 2 {
+        Entry::In { t, m, c }
+    } else {
+        Entry::Enq {
+            t,
+            m,
+            c,
+            by_list: false,
+        }
+    }
+}
+
 /// Queues a task, as Linux's `activate_task` stores TASK_ON_RQ_QUEUED: a new one, one that the seat wakes, or one that it
-/// moves. The caller has the locks of the task and of the queue, whose processor is the task's. It answers the word that
-/// was there.
+/// moves. The caller has the locks of the task and of the queue, whose processor is the task's; `seen` is the queue word
+/// as it has read or stored it under them.
 pub fn queue_task<B: Kept, R: Wait>(
     rt: &R,
     wk: &Wk<B>,
     pass: &mut Pass,
     queue: &QueueGuard,
     t: TaskNo,
-) -> Rq
+    seen: Rq,
+)
     requires of { IsOf wk.now pass.old }
     requires task { t < wk.now.shape.tasks }
     requires may { MayQueueHere pass.old.trace queue.now.cpu t }
+    requires on { seen.on < 4 }
     requires spare { 0 < pass.old.turn.spare }
     ensures same { IsSameSeat pass.old pass.new }
-    ensures trace { pass.new.trace ≡ Queued t queue.now.cpu result.on result.m ∷ pass.old.trace }
-    ensures turn { pass.new.turn ≡ logged (queue_entry result.m result.on t queue.now.cpu) pass.old.turn }
+    ensures trace { pass.new.trace ≡ Queued t queue.now.cpu seen.on seen.m ∷ pass.old.trace }
+    ensures turn { pass.new.turn ≡ logged (queue_entry seen.m seen.on t queue.now.cpu) pass.old.turn }
 {
-    let word = change_rq::<B, QueueTask, R>(rt, wk, &mut pass.token, t, 1);
-    let (on, m, c) = ((word % 4) as u8, word / 4, queue.cpu);
-    pass.log(if m == 0 {
-        Entry::New { t, m: m + 1, c }
-    } else if on == 2 {
-        Entry::In { t, m: m + 1, c }
-    } else {
-        Entry::Enq {
-            t,
-            m: m + 1,
-            c,
-            by_list: false,
-        }
-    });
-    Rq { on, m }
+    queue_read(rt, wk, &mut pass.token, t, seen);
+    pass.log(queue_entry(t, queue.cpu, seen));
 }
 
 /// Takes the seat's current task off its queue, as Linux's `deactivate_task`: it sleeps, or, where `dies`, it is dead, by

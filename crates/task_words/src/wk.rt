@@ -1,4 +1,8 @@
 //! The shared table.
+ghost use Rattle.std.specs.Prelude.{◌≡◌};
+ghost use Rattle.handoff_data.specs.Shape.{IsShape};
+
+use handoff_data::Shape;
 use std::marker::Model;
 use word_table::{Kept, Words};
 
@@ -19,4 +23,14 @@ impl<B: Kept> Model for Wk<B> {
     ghost view = { λ w. w.words };
 
     ghost invariant = { λ w. IsShape w.words.shape };
+}
+
+impl<B: Kept> Wk<B> {
+    /// The shape of the machine.
+    pub fn shape(&self) -> Shape
+        ensures shape { result ≡ self.now.shape }
+        ensures valid { IsShape self.now.shape }
+    {
+        self.words.shape()
+    }
 }

@@ -1,5 +1,6 @@
 pub mod Beside
 pub mod Decode
+pub mod Entries
 pub mod Folds
 pub mod Opening
 pub mod Records

@@ -3,5 +3,7 @@
 #![tactic(auto)]
 
 mod val;
+mod wait;
 
 pub use val::Val;
+pub use wait::WaitQueue;

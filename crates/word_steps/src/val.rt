@@ -1,6 +1,7 @@
 //! The values that locks guard, in one type.
 
-use core_data::{QueueVal, TaskVal, WaitVal, WorksVal};
+use crate::wait::WaitQueue;
+use core_data::{QueueVal, TaskVal, WorksVal};
 
 /// The value that a lock guards; its kind is the lock's kind. A slot of the shared table and a record of a trace have
 /// such a value.
@@ -13,5 +14,5 @@ pub enum Val {
     /// What the lock of a processor's works guards.
     Works(WorksVal),
     /// What the lock of a condition's wait queue guards.
-    Wait(WaitVal),
+    Wait(WaitQueue),
 }

@@ -21,11 +21,11 @@ use crate::token::Token;
 use crate::view::View;
 use crate::words::Words;
 use atomic_table::{Refused, Seat, Table};
-use core_data::{QueueVal, TaskVal, WaitVal, WorksVal};
+use core_data::{QueueVal, TaskVal, WorksVal};
 use handoff_data::{CpuMask, NoMemory, Shape};
 use std::alloc::Global;
 use std::snapshot::Snapshot;
-use word_steps::Val;
+use word_steps::{Val, WaitQueue};
 
 // Each task is TASK_NEW, each processor active in epoch 0.
 fn first_words(alloc: Global, shape: &Shape, rows: u32) -> Result<Vec<u64>, NoMemory>
@@ -82,15 +82,14 @@ fn works_slot<B: Kept>(alloc: Global, shape: &Shape, n: u32) -> Result<Slot<B>, 
     Ok(Slot::Held(Val::Works(WorksVal { items })))
 }
 
-// With room for an entry a task.
 fn wait_slot<B: Kept>(alloc: Global, shape: &Shape, n: u32) -> Result<Slot<B>, NoMemory>
     ensures { IfOk result (λ x. x ≡ wait_slot shape.now n) }
 {
     if n >= shape.conds {
         return Ok(Slot::Empty);
     }
-    let entries = Vec::with_capacity(alloc, shape.tasks as usize)?;
-    Ok(Slot::Held(Val::Wait(WaitVal { entries })))
+    let wait = WaitQueue::new(alloc)?;
+    Ok(Slot::Held(Val::Wait(wait)))
 }
 
 // The slots of n behind those that are there.

@@ -1,4 +1,7 @@
 //! The table with its shape.
+ghost use Rattle.std.specs.Prelude.{◌≡◌};
+ghost use Rattle.handoff_data.specs.Shape.{IsShape};
+
 use crate::rule::Board;
 use crate::slot::Kept;
 use handoff_data::{Shape, State};
@@ -29,4 +32,14 @@ impl<B: Kept> Model for Words<B> {
     ghost view = { λ w. record { name = w.table.shared.table_id; shape = w.shape; lasting = lastings B.lasting w.table.shared.key } };
 
     ghost invariant = { λ w. (w.table.shared.table_id.words ≡ STRIDE * rows_of w.shape) × (w.table.shared.table_id.slots ≡ SLOTS * rows_of w.shape + 1) × (length w.table.shared.key.bodies.value.items ≡ w.shape.tasks) × (w.table.shared.key.shape ≡ w.shape) × IsShape w.shape × HasRoom w.shape.tasks w.states × HasRoom w.shape.conds w.conds };
+}
+
+impl<B: Kept> Words<B> {
+    /// The shape of the machine.
+    pub fn shape(&self) -> Shape
+        ensures shape { result ≡ self.now.shape }
+        ensures valid { IsShape self.now.shape }
+    {
+        self.shape
+    }
 }

@@ -3,8 +3,8 @@ use Rattle.core_data.specs.Queue.{Queue}
 use Rattle.handoff_data.specs.declared.shape.Shape.{Shape}
 use Rattle.std.specs.Prelude.{unwrap_or}
 use Rattle.run_queue.specs.Queueing.{pushed}
-use Rattle.run_queue.proofs.Guards.{taken_current}
-use Rattle.word_steps.specs.Folds.{queue_held, current_task}
+use Rattle.run_queue.proofs.Guards.{taken_current, taken_clear}
+use Rattle.word_steps.specs.Folds.{queue_held, current_task, task_to_clear}
 use Rattle.run_queue.proofs.Steps.{give_new_may}
 use Rattle.run_queue.proofs.starting.queue_new.Goals as goal
 use Rattle.word_rule.specs.May.{MayGiveQueueVal}
@@ -15,10 +15,10 @@ use Rattle.word_steps.specs.declared.val.Val.TheVariants as val
 pub give-requires-clause-may : goal.give-requires-clause-may
 give-requires-clause-may g c κs within =
     let shape = c.store_running.ensures.same.same.same_shape ∙ c.requires.of.same_shape in
-    let seat = c.queue_seen.ensures.same.same_seat ∙ c.lock_queue-queue.ensures.same.same.same_seat in
+    let seat = c.queue_task.ensures.same.same_seat ∙ c.lock_queue-queue.ensures.same.same.same_seat in
     let cpu = c.lock_queue-queue.ensures.processor in
     let v = c.lock_queue-queue.result.val in
-    let trace = c.queue_seen.ensures.trace
+    let trace = c.queue_task.ensures.trace
     ∙ ap (λ (k : ℕ). Queued c.args.t k 0 0 ∷ c.lock_queue-queue.new.pass.trace) cpu
     ∙ ap (λ (z : List Rec). Queued c.args.t c.args.c 0 0 ∷ z) (c.lock_queue-queue.ensures.trace
     ∙ ap (λ (z : List Rec). Took c.args.c (val.Queue v) ∷ z) c.store_running.ensures.trace) in
@@ -35,11 +35,11 @@ returns-clause-current g c =
     let old = c.args.pass.now.trace in
     let v = c.lock_queue-queue.result.val in
     let cpu = c.lock_queue-queue.ensures.processor in
-    let taken = val.Queue (unwrap_or (queue_held c.queue_seen.new.pass.trace c.push.new.self.cpu) c.push.new.self.val) in
-    let seat = c.give.ensures.same.same.same_seat ∙ c.queue_seen.ensures.same.same_seat
+    let taken = val.Queue (unwrap_or (queue_held c.queue_task.new.pass.trace c.push.new.self.cpu) c.push.new.self.val) in
+    let seat = c.give.ensures.same.same.same_seat ∙ c.queue_task.ensures.same.same_seat
     ∙ c.lock_queue-queue.ensures.same.same.same_seat ∙ c.store_running.ensures.same.same.same_seat in
-    let queued : c.queue_seen.new.pass.trace ≡ Queued t c.args.c 0 0 ∷ Took c.args.c (val.Queue v) ∷ Released t ∷ old =
-    c.queue_seen.ensures.trace ∙ ap (λ (z : ℕ × List Rec). Queued t z.0 0 0 ∷ z.1)
+    let queued : c.queue_task.new.pass.trace ≡ Queued t c.args.c 0 0 ∷ Took c.args.c (val.Queue v) ∷ Released t ∷ old =
+    c.queue_task.ensures.trace ∙ ap (λ (z : ℕ × List Rec). Queued t z.0 0 0 ∷ z.1)
     (λ i. (cpu i, (c.lock_queue-queue.ensures.trace ∙ ap (λ (z : List Rec). Took c.args.c (val.Queue v) ∷ z) c.store_running.ensures.trace) i)) in
     let did : c.give.new.pass.trace
     ≡ Gave c.args.c taken (val.Queue (pushed t v)) ∷ Queued t c.args.c 0 0 ∷ Took c.args.c (val.Queue v) ∷ Released t ∷ old =
@@ -49,3 +49,25 @@ returns-clause-current g c =
     (λ i. (c.store_running.ensures.same.same.same_seat i, c.store_running.ensures.trace i)) c.lock_queue-queue.ensures.taken in
     ap (λ (z : ℕ × List Rec). current_task z.0 z.1) (λ i. (seat i, did i))
     ∙ taken_current c.store_running.new.pass.shape s c.args.c v (Released t ∷ old) told
+
+pub returns-clause-clear : goal.returns-clause-clear
+returns-clause-clear g c =
+    let t = c.args.t in
+    let s = c.args.pass.now.seat in
+    let old = c.args.pass.now.trace in
+    let v = c.lock_queue-queue.result.val in
+    let cpu = c.lock_queue-queue.ensures.processor in
+    let taken = val.Queue (unwrap_or (queue_held c.queue_task.new.pass.trace c.push.new.self.cpu) c.push.new.self.val) in
+    let seat = c.give.ensures.same.same.same_seat ∙ c.queue_task.ensures.same.same_seat
+    ∙ c.lock_queue-queue.ensures.same.same.same_seat ∙ c.store_running.ensures.same.same.same_seat in
+    let queued : c.queue_task.new.pass.trace ≡ Queued t c.args.c 0 0 ∷ Took c.args.c (val.Queue v) ∷ Released t ∷ old =
+    c.queue_task.ensures.trace ∙ ap (λ (z : ℕ × List Rec). Queued t z.0 0 0 ∷ z.1)
+    (λ i. (cpu i, (c.lock_queue-queue.ensures.trace ∙ ap (λ (z : List Rec). Took c.args.c (val.Queue v) ∷ z) c.store_running.ensures.trace) i)) in
+    let did : c.give.new.pass.trace
+    ≡ Gave c.args.c taken (val.Queue (pushed t v)) ∷ Queued t c.args.c 0 0 ∷ Took c.args.c (val.Queue v) ∷ Released t ∷ old =
+    c.give.ensures.trace ∙ ap (λ (z : ℕ × Queue × List Rec). Gave z.0 taken (val.Queue z.1) ∷ z.2)
+    (λ i. ((c.push.ensures.processor ∙ cpu) i, c.push.ensures.value i, queued i)) in
+    let told = subst (λ (z : ℕ × List Rec). TakenQueue c.store_running.new.pass.shape z.0 z.1 c.args.c v)
+    (λ i. (c.store_running.ensures.same.same.same_seat i, c.store_running.ensures.trace i)) c.lock_queue-queue.ensures.taken in
+    ap (λ (z : ℕ × List Rec). task_to_clear z.0 z.1) (λ i. (seat i, did i))
+    ∙ taken_clear c.store_running.new.pass.shape s c.args.c v (Released t ∷ old) told

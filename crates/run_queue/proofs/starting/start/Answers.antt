@@ -5,9 +5,9 @@ use Rattle.handoff_data.specs.declared.state.State.{State}
 use Rattle.run_queue.specs.Queueing.{placed}
 use Rattle.run_queue.specs.Starts.{queued_new}
 use Rattle.run_queue.proofs.Guards.{gave_task, held_there}
-use Rattle.run_queue.proofs.Steps.{held_started, placed_current, started_rests}
+use Rattle.run_queue.proofs.Steps.{held_started, placed_current, placed_clear, started_rests}
 use Rattle.run_queue.proofs.starting.start.Given.{Over}
-use Rattle.word_steps.specs.Folds.{task_held, current_task}
+use Rattle.word_steps.specs.Folds.{task_held, current_task, task_to_clear}
 use Rattle.run_queue.proofs.starting.start.Goals as goal
 use Rattle.run_queue.proofs.starting.start.Goals.{then-ne-via-then-ne, then-ne-via-else-ne+then-load_rq-ne0}
 use Rattle.handoff_data.specs.declared.entry.Entry.TheVariants as entry
@@ -130,7 +130,12 @@ returns-clause-rests g c =
     let kept : current_task s c.queue_new.new.pass.trace ≡ current_task s c.place.new.pass.trace =
     subst (λ (z : ℕ × ℕ). current_task z.0 c.queue_new.new.pass.trace ≡ current_task z.1 c.place.new.pass.trace)
     (λ i. (seatq i, seatp i)) c.queue_new.ensures.current in
+    let cleared : task_to_clear s c.queue_new.new.pass.trace ≡ task_to_clear s c.place.new.pass.trace =
+    subst (λ (z : ℕ × ℕ). task_to_clear z.0 c.queue_new.new.pass.trace ≡ task_to_clear z.1 c.place.new.pass.trace)
+    (λ i. (seatq i, seatp i)) c.queue_new.ensures.clear in
     started_rests s t c.args.c c.place.result on v v (record v { wake_cpu = c.args.c }) c.queue_new.ensures.did.queue old
     c.give-2.new.pass.trace (started_did g c)
     (ap (current_task s) c.give-2.ensures.trace ∙ kept ∙ ap (current_task s) (placed_did g c)
     ∙ placed_current s t c.args.c c.place.result (reads_of g c))
+    (ap (task_to_clear s) c.give-2.ensures.trace ∙ cleared ∙ ap (task_to_clear s) (placed_did g c)
+    ∙ placed_clear s t c.args.c c.place.result (reads_of g c))
