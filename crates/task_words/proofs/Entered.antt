@@ -7,7 +7,7 @@ use Rattle.core_data.specs.Entries.{any_from, has_entry, same_entry}
 use Rattle.core_data.specs.declared.values.WaitEntry.{WaitEntry}
 use Rattle.core_gives.specs.Waits.{has_task, HasEachOnce}
 use Rattle.handoff_data.specs.declared.shape.Shape.{Shape}
-use Rattle.task_words.specs.Gives.{IsEntered}
+use Rattle.task_words.specs.Gives.{IsEntered, entered}
 use Rattle.word_rule.specs.May.{MayGiveWaitVal}
 use Rattle.word_steps.specs.Records.{Rec, Took, StoredOwn}
 use Rattle.word_steps.specs.Folds.{has_own_stored}
@@ -50,20 +50,42 @@ entry_task x y e = elim (cases_Bool (x.t == y.t)) [
   | inr q ↦ absurd (grind (arith, nat_tests, q, e))
 ]
 
+-- .. and at the head or the back
+any_entered : (p : WaitEntry → Bool) (x : WaitEntry) (v : List WaitEntry)
+    → any_from p false (entered x v) ≡ (if p x then true else any_from p false v)
+any_entered p x v = elim (cases_Bool x.exclusive) [
+  | inl q ↦ ap (λ (b : Bool). any_from p false (if b then v ++ x ∷ [] else x ∷ v)) q ∙ any_back p false v x
+  | inr q ↦ ap (λ (b : Bool). any_from p false (if b then v ++ x ∷ [] else x ∷ v)) q ∙ any_front (p x)
+]
+  where
+    any_front : (b : Bool) → any_from p (if b then true else false) v ≡ (if b then true else any_from p false v)
+    any_front true = any_none p v
+    any_front false = refl
+
+once_entered : (x : WaitEntry) (v : List WaitEntry) → HasEachOnce v → has_task v x.t ≡ false → HasEachOnce (entered x v)
+once_entered x v once none = elim (cases_Bool x.exclusive) [
+  | inl q ↦ subst (λ (b : Bool). HasEachOnce (if b then v ++ x ∷ [] else x ∷ v)) (sym q) (once_back v x once none)
+  | inr q ↦ subst (λ (b : Bool). HasEachOnce (if b then v ++ x ∷ [] else x ∷ v)) (sym q) (none, once)
+]
+
 pub entered_gives : (shape : Shape) (s : ℕ) (trace : List Rec) (k : ℕ) (given : List WaitEntry) → IsEntered shape s trace k given
     → MayGiveWaitVal s trace shape k given
 entered_gives shape s trace k given h =
-    subst (λ (z : List Rec). MayGiveWaitVal s z shape k given) (sym h.did) (subst (λ (z : List WaitEntry). MayGiveWaitVal s (StoredOwn h.x.t h.state ∷ Took k (val.Wait h.v) ∷ h.rs) shape k z) (sym h.put) record {
+    subst (λ (z : List Rec × List WaitEntry). MayGiveWaitVal s z.0 shape k z.1) (λ i. (sym h.did i, sym h.put i)) record {
       taken = h.v;
       held = grind (arith, nat_tests);
-      once = once_back h.v h.x h.told.once h.absent;
+      once = once_entered h.x h.v h.told.once h.absent;
       tasks = λ y e. elim (cases_Bool (has_entry h.v y)) [
         | inl q ↦ h.told.tasks y q
         | inr q ↦ subst (λ (t : ℕ). t < shape.tasks) (is_entered y e q) h.task
       ];
-      put_in = λ y e none. let same = is_entered y e none in (h.current ∙ ap (λ (t : ℕ). Some t) same, subst (λ (t : ℕ). has_own_stored (StoredOwn h.x.t h.state ∷ Took k (val.Wait h.v) ∷ h.rs) k t ≡ true) same stored);
-      taken_out = λ y was e. absurd (false≢true (sym e ∙ back y ∙ ap (λ (b : Bool). if same_entry h.x y then true else b) was ∙ both (same_entry h.x y)));
-    })
+      put_in = λ y e none. let same = is_entered y e none in (
+        h.current ∙ ap (λ (t : ℕ). Some t) same,
+        subst (λ (t : ℕ). has_own_stored (StoredOwn h.x.t h.state ∷ Took k (val.Wait h.v) ∷ h.rs) k t ≡ true) same stored,
+      );
+      taken_out = λ y was e. absurd (false≢true (sym e ∙ there y ∙ ap (λ (b : Bool). if same_entry h.x y then true else b) was
+          ∙ both (same_entry h.x y)));
+    }
   where
     both : (b : Bool) → (if b then true else true) ≡ true
     both true = refl
@@ -72,8 +94,8 @@ entered_gives shape s trace k given h =
     stored : has_own_stored (StoredOwn h.x.t h.state ∷ Took k (val.Wait h.v) ∷ h.rs) k h.x.t ≡ true
     stored = grind (arith, nat_tests)
 
-    back : (y : WaitEntry) → has_entry (h.v ++ h.x ∷ []) y ≡ (if same_entry h.x y then true else has_entry h.v y)
-    back y = any_back (λ (z : WaitEntry). same_entry z y) false h.v h.x
+    there : (y : WaitEntry) → has_entry (entered h.x h.v) y ≡ (if same_entry h.x y then true else has_entry h.v y)
+    there y = any_entered (λ (z : WaitEntry). same_entry z y) h.x h.v
 
-    is_entered : (y : WaitEntry) → has_entry (h.v ++ h.x ∷ []) y ≡ true → has_entry h.v y ≡ false → h.x.t ≡ y.t
-    is_entered y e none = entry_task h.x y (new_is (has_entry h.v y) (same_entry h.x y) (sym (back y) ∙ e) none)
+    is_entered : (y : WaitEntry) → has_entry (entered h.x h.v) y ≡ true → has_entry h.v y ≡ false → h.x.t ≡ y.t
+    is_entered y e none = entry_task h.x y (new_is (has_entry h.v y) (same_entry h.x y) (sym (there y) ∙ e) none)

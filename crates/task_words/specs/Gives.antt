@@ -137,11 +137,15 @@ pub record IsQueuedUnder (shape : Shape) (trace : List Rec) (t : ℕ) (given : T
   pub unmoved : is_moving trace t ≡ false
   pub number : 0 < number_of trace t
 
--- the current task's entry was put in at the back of a wait queue that had none of it, and then a state was stored
+-- a wait queue with an entry put in: an exclusive one at the tail, another at the head
+abbrev pub entered : WaitEntry → List WaitEntry → List WaitEntry
+entered x v = if x.exclusive then v ++ x ∷ [] else x ∷ v
+
+-- the current task's entry was put in at a wait queue that had none of it, and then a state was stored
 pub record IsEntered (shape : Shape) (s : ℕ) (trace : List Rec) (k : ℕ) (given : List WaitEntry) : Type 0 where
   pub v : List WaitEntry
   pub x : WaitEntry
-  pub put : given ≡ v ++ x ∷ []
+  pub put : given ≡ entered x v
   pub state : State
   pub rs : List Rec
   pub did : trace ≡ StoredOwn x.t state ∷ Took k (val.Wait v) ∷ rs

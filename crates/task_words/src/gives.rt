@@ -1,9 +1,11 @@
 //! Queues put and given after what a seat has done with them since it took their lock.
-ghost use Rattle.std.specs.Prelude.{◌≡◌, ◌++◌, ◌∷◌, [], ◌<◌, ◌≤◌, true, Some, None, ◌+◌, MatchOption, ◌==◌, IfSome, IsSome, unwrap_or};
+ghost use Rattle.std.specs.Prelude.{◌≡◌, ◌++◌, ◌∷◌, [], ◌<◌, ◌≤◌, true, false, Some, None, ◌+◌, MatchOption, ◌==◌, IfSome, IsSome, unwrap_or};
+ghost use Rattle.core_gives.specs.Waits.{has_task};
 ghost use Rattle.handoff_data.specs.declared.entry.Entry.TheVariants as entry;
-ghost use Rattle.task_words.specs.Gives.{HasRoomFor, IsAsTaken, IsPut, IsWoken, IsPicked, IsPutBack, IsAsleep, IsEntered, IsJustTaken, IsQueuedUnder};
+ghost use Rattle.task_words.specs.Gives.{HasRoomFor, IsAsTaken, IsPut, IsWoken, IsPicked, IsPutBack, IsAsleep, IsEntered, entered, IsJustTaken, IsQueuedUnder};
 ghost use Rattle.task_words.specs.Views.{IsOf, IsSame, IsSameSeat, logged};
 ghost use Rattle.word_rule.specs.May.{IsPutHere};
+ghost use Rattle.word_rule.specs.Told.{TakenWait};
 ghost use Rattle.word_rule.specs.Standing.{may_run};
 ghost use Rattle.word_steps.specs.Folds.{current_task, queue_held, task_held, task_to_clear, wait_held};
 ghost use Rattle.word_steps.specs.Records.{Gave, Released, SetBusy};
@@ -14,6 +16,7 @@ use crate::pass::Pass;
 use crate::runs::set_busy;
 use crate::states::store_running;
 use crate::wk::Wk;
+use core_data::WaitEntry;
 use handoff_data::TaskNo;
 use std::sync::Wait;
 use word_table::Kept;
@@ -167,7 +170,26 @@ impl TaskGuard {
 }
 
 impl WaitGuard {
-    /// Gives the lock after the seat's current task has put its entry in at the back and stored its state.
+    /// Puts an entry of a task in that has none there: an exclusive one at the tail, another at the head, as Linux's
+    /// `prepare_to_wait_exclusive` and `prepare_to_wait`.
+    pub fn enter<B: Kept>(&mut self, wk: &Wk<B>, pass: &Pass, t: TaskNo, exclusive: bool)
+        requires of { IsOf wk.now pass.now }
+        requires task { t < wk.now.shape.tasks }
+        requires taken { TakenWait pass.now.shape self.old.val }
+        requires absent { has_task self.old.val t ≡ false }
+        ensures condition { self.new.cond ≡ self.old.cond }
+        ensures value { self.new.val ≡ entered (record { t = t; exclusive = exclusive }) self.old.val }
+    {
+        few_tasks(wk);
+        let entry = WaitEntry { t, exclusive };
+        if exclusive {
+            self.val.push_back(entry);
+        } else {
+            self.val.push_front(entry);
+        }
+    }
+
+    /// Gives the lock after the seat's current task has put its entry in and stored its state.
     pub fn give_entered<B: Kept>(self, wk: &Wk<B>, pass: &mut Pass)
         requires of { IsOf wk.now pass.old }
         requires condition { self.cond < wk.now.shape.conds }

@@ -1,18 +1,19 @@
 -- What a whole wake-up leaves as it was, by what its parts leave.
 use Rattle.std.proofs.Common.{◌≡◌, ◌≢◌, ◌∙◌, ℕ, ◌∷◌, List, inl, inr, refl, sym, ap, subst, arith}
-use Rattle.std.specs.Prelude.{Bool, true, false, ◌==◌, if◌then◌else◌, Option}
+use Rattle.std.specs.Prelude.{Bool, true, false, ◌==◌, if◌then◌else◌, Option, Some}
 use Rattle.std.proofs.lemmas.Bool.{cases_eq}
 use Rattle.std.proofs.lemmas.Bool.Decides.{nat_tests}
 use Rattle.core_data.specs.Queue.{Queue}
 use Rattle.core_data.specs.declared.values.TaskVal.{TaskVal}
 use Rattle.handoff_data.specs.declared.state.State.{State}
+use Rattle.run_queue.proofs.Apart.{apart_again, took_task_apart, gave_task_apart, state_apart, placed_apart}
 use Rattle.run_queue.specs.Queueing.{placed}
 use Rattle.ttwu_core.specs.Claims.{queued_woken}
-use Rattle.run_queue.specs.Rests.{Rests}
+use Rattle.run_queue.specs.Rests.{Rests, IsApart}
 use Rattle.ttwu_core.specs.Keeps.{Keeps}
 use Rattle.ttwu_core.specs.Wakes.{tested}
 use Rattle.word_steps.specs.Folds.{task_held, is_claimed}
-use Rattle.word_steps.specs.Records.{Rec, Gave, LoadedCpu, StoredCpu}
+use Rattle.word_steps.specs.Records.{Rec, Took, Gave, LoadedCpu, StoredCpu}
 use Rattle.word_steps.specs.declared.val.Val.TheVariants as val
 
 pub keeps_again : (s : ℕ) (a b c : List Rec) → Keeps s a b → Keeps s b c → Keeps s a c
@@ -20,16 +21,18 @@ keeps_again s a b c x y = record {
   held = y.held ∙ x.held;
   free = λ f. y.free (x.free f);
   current = y.current ∙ x.current;
-  waits = y.waits ∙ x.waits;
+  clear = y.clear ∙ x.clear;
+  apart = apart_again a b c x.apart y.apart;
 }
 
 either_keeps : (same : Bool) (s t c from : ℕ) (trace : List Rec)
+    → IsApart trace (if same then LoadedCpu t from ∷ trace else StoredCpu t c ∷ LoadedCpu t from ∷ trace)
     → Keeps s trace (if same then LoadedCpu t from ∷ trace else StoredCpu t c ∷ LoadedCpu t from ∷ trace)
-either_keeps true s t c from trace = record { held = refl; free = λ f. f; current = refl; waits = refl }
-either_keeps false s t c from trace = record { held = refl; free = λ f. f; current = refl; waits = refl }
+either_keeps true s t c from trace x = record { held = refl; free = λ f. f; current = refl; clear = refl; apart = x }
+either_keeps false s t c from trace x = record { held = refl; free = λ f. f; current = refl; clear = refl; apart = x }
 
 pub placed_keeps : (s t c from : ℕ) (trace : List Rec) → Keeps s trace (placed t from c trace)
-placed_keeps s t c from trace = either_keeps (from == c) s t c from trace
+placed_keeps s t c from trace = either_keeps (from == c) s t c from trace (placed_apart t c from trace)
 
 either_claimed : (same : Bool) (t c from : ℕ) (trace : List Rec)
     → is_claimed (if same then LoadedCpu t from ∷ trace else StoredCpu t c ∷ LoadedCpu t from ∷ trace) ≡ is_claimed trace
@@ -63,5 +66,11 @@ rests_after s t mask seen v w given old new x others unclaimed = record {
     | inr apart ↦ others u apart ∙ e
   ];
   current = x.current;
-  waits = x.waits;
+  clear = x.clear;
+  apart =
+      let a = Took t (val.Task v) ∷ old in
+      let b = tested t v mask seen old in
+      apart_again old new (Gave t (val.Task w) (val.Task given) ∷ new)
+      (apart_again old b new (apart_again old a b (took_task_apart old t v) (state_apart a t (Some mask) seen)) x.apart)
+      (gave_task_apart new t w given);
 }

@@ -1,6 +1,5 @@
 //! A task that is off every queue is claimed by its waker, placed, and queued.
 ghost use Rattle.std.specs.Prelude.{◌≡◌, ◌≢◌, ℕ, ◌<◌, ◌∷◌, true, false, None, Some, IsSome};
-ghost use Rattle.handoff_data.specs.Shape.{IsShape};
 ghost use Rattle.task_words.specs.Views.{IsOf, IsSame, IsSameSeat};
 ghost use Rattle.ttwu_core.specs.Claims.{IsAwaitedClear, IsTaken, IsChosen, IsPointer, IsQueuedWoken};
 ghost use Rattle.ttwu_core.specs.Keeps.{Keeps};
@@ -9,11 +8,10 @@ ghost use Rattle.word_steps.specs.Folds.{last_reads, current_task};
 
 use core_data::{Rq, TaskVal};
 use crossbeam_utils::Backoff;
-use handoff_data::{CpuMask, CpuNo, Shape, TaskNo};
+use handoff_data::{CpuMask, CpuNo, TaskNo};
 use place_pick::fallback;
-use run_queue::queue_seen;
 use std::sync::Wait;
-use task_words::{Kept, Pass, Wk, load_busy, lock_queue, store_running, store_waking};
+use task_words::{Kept, Pass, Wk, load_busy, lock_queue, queue_task, store_running, store_waking};
 
 // Reads the busy word of a task until it is clear. It answers the number of its changes.
 fn await_clear<B: Kept, R: Wait>(rt: &R, wk: &Wk<B>, pass: &mut Pass, t: TaskNo) -> u64
@@ -63,12 +61,11 @@ fn pointer_of(val: &TaskVal) -> CpuMask
 }
 
 /// The processor that a woken task is put on, as Linux's `select_task_rq`, with every processor active.
-pub fn choose(val: &TaskVal, shape: &Shape) -> CpuNo
-    requires shape { IsShape shape.now }
-    ensures chosen { IsChosen val.now shape.now result }
-    ensures processor { result < shape.now.cpus }
+pub fn choose<B: Kept>(wk: &Wk<B>, val: &TaskVal) -> CpuNo
+    ensures chosen { IsChosen val.now wk.now.shape result }
+    ensures processor { result < wk.now.shape.cpus }
 {
-    let all = CpuMask::all(shape.cpus);
+    let all = CpuMask::all(wk.shape().cpus);
     fallback(val.wake_cpu, &pointer_of(val), false, &all, &all, &all).0
 }
 
@@ -97,7 +94,7 @@ pub fn queue_woken<B: Kept, R: Wait>(
     ensures keeps { Keeps pass.old.seat pass.old.trace pass.new.trace }
 {
     let mut queue = lock_queue(rt, wk, pass, c);
-    queue_seen(rt, wk, pass, &queue, t, Rq { on: 0, m });
+    queue_task(rt, wk, pass, &queue, t, Rq { on: 0, m });
     queue.push(wk, pass, t);
     store_running(wk, pass, t);
     queue.give_woken(wk, pass);

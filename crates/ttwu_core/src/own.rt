@@ -1,10 +1,11 @@
 //! The wake-up of the waker's own current task.
-ghost use Rattle.std.specs.Prelude.{◌≡◌, ℕ, ◌<◌, Some, true};
+ghost use Rattle.std.specs.Prelude.{◌≡◌, ℕ, ◌<◌, Some, IsSome, true};
+ghost use Rattle.core_kinds.specs.Steps.{normal};
 ghost use Rattle.run_queue.specs.Rests.{Rests};
 ghost use Rattle.task_words.specs.States.{IsWakeMask};
 ghost use Rattle.task_words.specs.Views.{IsOf, IsSameSeat};
-ghost use Rattle.ttwu_core.specs.Own.{IsCurrent, DidWakeOwn};
-ghost use Rattle.word_steps.specs.Folds.{stays_queued};
+ghost use Rattle.ttwu_core.specs.Own.{DidWakeOwn};
+ghost use Rattle.word_steps.specs.Folds.{current_task, stays_queued, has_passed};
 
 use crate::answers::{How, Wake};
 use handoff_data::{State, matches};
@@ -14,13 +15,14 @@ use task_words::{Kept, Pass, Wk, match_state, set_running};
 /// takes no lock and waits for nobody.
 pub fn wake_own<B: Kept>(wk: &Wk<B>, pass: &mut Pass, mask: State) -> Wake
     requires of { IsOf wk.now pass.old }
-    requires current { IsCurrent wk.now.shape pass.old.seat pass.old.trace }
+    requires current { IsSome (current_task pass.old.seat pass.old.trace) }
     requires queued { stays_queued pass.old.trace ≡ true }
     requires mask { IsWakeMask mask }
     requires spare { 0 < pass.old.turn.spare }
     ensures same { IsSameSeat pass.old pass.new }
     ensures did { DidWakeOwn mask pass.old pass.new result }
     ensures rests { Rests pass.old.seat pass.old.trace pass.new.trace }
+    ensures passed { mask ≡ normal → (k t : ℕ) → current_task pass.old.seat pass.old.trace ≡ Some t → has_passed pass.new.trace k t ≡ true }
 {
     let Some(t) = pass.current() else {
         unreachable!()

@@ -1,34 +1,31 @@
 //! The wake-up of another task.
-ghost use Rattle.std.specs.Prelude.{◌≡◌, ◌≢◌, ℕ, ◌<◌, false, None, Some};
-ghost use Rattle.handoff_data.specs.Shape.{IsShape};
+ghost use Rattle.std.specs.Prelude.{◌≡◌, ◌≢◌, ℕ, ◌<◌, true, false, None, Some};
+ghost use Rattle.core_kinds.specs.Steps.{normal};
 ghost use Rattle.run_queue.specs.Rests.{Rests};
 ghost use Rattle.task_words.specs.States.{IsWakeMask};
 ghost use Rattle.task_words.specs.Views.{IsOf, IsSameSeat};
 ghost use Rattle.ttwu_core.specs.Wakes.{DidWake};
-ghost use Rattle.word_steps.specs.Folds.{task_held, queue_held, is_claimed, current_task};
+ghost use Rattle.word_steps.specs.Folds.{task_held, queue_held, is_claimed, current_task, has_passed};
 
 use crate::answers::{How, Wake};
 use crate::claiming::{choose, claim, queue_woken};
 use crate::finding::{Found, find};
-use handoff_data::{Shape, State, TaskNo, matches};
+use handoff_data::{State, TaskNo, matches};
 use run_queue::place;
 use std::sync::Wait;
 use task_words::{Kept, Pass, Wk, lock_task, match_state};
 
 /// Wakes a task that isn't the pass's current one, where its state has a bit of the mask, as Linux's `try_to_wake_up`:
 /// a task that is still queued is runnable again, and one that is off every queue is queued on the processor that
-/// placement gives. The shape is that of the table.
+/// placement gives.
 pub fn wake<B: Kept, R: Wait>(
     rt: &R,
     wk: &Wk<B>,
     pass: &mut Pass,
     t: TaskNo,
     mask: State,
-    shape: &Shape,
 ) -> Wake
     requires of { IsOf wk.now pass.old }
-    requires shape { shape.now ≡ wk.now.shape }
-    requires is_shape { IsShape wk.now.shape }
     requires task { t < wk.now.shape.tasks }
     requires mask { IsWakeMask mask }
     requires free { task_held pass.old.trace t ≡ None }
@@ -39,6 +36,7 @@ pub fn wake<B: Kept, R: Wait>(
     ensures same { IsSameSeat pass.old pass.new }
     ensures did { DidWake t mask wk.now.shape pass.old pass.new result }
     ensures rests { Rests pass.old.seat pass.old.trace pass.new.trace }
+    ensures passed { mask ≡ normal → (k : ℕ) → has_passed pass.new.trace k t ≡ true }
 {
     let mut task = lock_task(rt, wk, pass, t);
     let seen = match_state(wk, pass, t, mask);
@@ -55,7 +53,7 @@ pub fn wake<B: Kept, R: Wait>(
         for _ in rt.forever() {}
     }
     claim(rt, wk, pass, t, m);
-    let c = choose(&task.val, shape);
+    let c = choose(wk, &task.val);
     place(wk, pass, &task, c);
     queue_woken(rt, wk, pass, t, c, m);
     task.val.wake_cpu = c;

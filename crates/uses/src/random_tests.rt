@@ -61,10 +61,7 @@ fn rest<B: Kept, R: Wait>(rt: &R, wk: &Wk<B>, pass: &mut Pass, t: TaskNo, k: u32
     if pass.spare() < 2 {
         return false;
     }
-    let Ok(slept) = sleep(rt, wk, pass, t, k, seen) else {
-        return false;
-    };
-    slept || pass.spare() > 0 && put_back(rt, wk, pass, t)
+    sleep(rt, wk, pass, t, k, seen) || pass.spare() > 0 && put_back(rt, wk, pass, t)
 }
 
 // Picks a task, if one waits, and runs it once; whether it left.

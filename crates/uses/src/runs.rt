@@ -5,6 +5,7 @@ ghost use Rattle.uses.specs.Between.{IsBetween, IsRunning};
 ghost use Rattle.uses.specs.Holds.{HoldsNothing};
 ghost use Rattle.word_steps.specs.Folds.{current_task, stays_queued, task_to_clear};
 
+use core_data::Rq;
 use handoff_data::{State, TaskNo};
 use std::sync::Wait;
 use task_words::{
@@ -33,7 +34,7 @@ pub fn start<B: Kept, R: Wait>(rt: &R, wk: &Wk<B>, pass: &mut Pass, t: TaskNo) -
     }
     let c = load_cpu(wk, pass, t);
     let mut queue = lock_queue(rt, wk, pass, c);
-    queue_task(rt, wk, pass, &queue, t);
+    queue_task(rt, wk, pass, &queue, t, Rq { on: 0, m: 0 });
     queue.push(wk, pass, t);
     queue.store_running(wk, pass, t);
     queue.give_woken(wk, pass);
@@ -61,15 +62,9 @@ pub fn start_new<B: Kept, R: Wait>(rt: &R, wk: &Wk<B>, pass: &mut Pass, t: TaskN
     }
     let c = load_cpu(wk, pass, t);
     let mut queue = lock_queue(rt, wk, pass, c);
-    let queued = queue_task(rt, wk, pass, &queue, t);
+    queue_task(rt, wk, pass, &queue, t, Rq { on: 0, m: 0 });
     queue.push(wk, pass, t);
-    // No contract tells that the number is still the one that was loaded.
-    if queued.m == 0 {
-        queue.give_put(wk, pass);
-    } else {
-        queue.store_running(wk, pass, t);
-        queue.give_woken(wk, pass);
-    }
+    queue.give_put(wk, pass);
     task.give_queued(wk, pass);
     true
 }

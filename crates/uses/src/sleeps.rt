@@ -1,12 +1,10 @@
 //! A sleep on a condition, step by step.
-ghost use Rattle.std.specs.Prelude.{◌≡◌, ◌<◌, true, false, None, Some, IfOk};
+ghost use Rattle.std.specs.Prelude.{◌≡◌, ◌<◌, true, false, None, Some};
 ghost use Rattle.uses.specs.Between.{IsBetween, IsRunning};
 ghost use Rattle.task_words.specs.Views.{IsOf, IsSame, IsSameSeat};
 ghost use Rattle.word_steps.specs.Folds.{body_held, current_task, queue_held, stays_queued, task_to_clear, wait_held};
 
-use core_data::WaitEntry;
 use handoff_data::{CondNo, State, TaskNo};
-use std::alloc::AllocError;
 use std::sync::Wait;
 use task_words::{
     Kept, Pass, Wk, clear_busy, dequeue_task, load_cond, load_state, lock_queue, lock_wait,
@@ -23,7 +21,7 @@ pub fn sleep<B: Kept, R: Wait>(
     t: TaskNo,
     k: CondNo,
     seen: u64,
-) -> Result<bool, AllocError>
+) -> bool
     requires of { IsOf wk.now pass.old }
     requires processor { pass.old.seat < wk.now.shape.cpus }
     requires task { t < wk.now.shape.tasks }
@@ -35,29 +33,22 @@ pub fn sleep<B: Kept, R: Wait>(
     requires home { body_held pass.old.trace ≡ None }
     requires spare { 1 < pass.old.turn.spare }
     ensures same { IsSameSeat pass.old pass.new }
-    ensures slept { IfOk result (λ slept. slept ≡ true → IsRunning t pass.old → IsBetween pass.new) }
-    ensures woken { IfOk result (λ slept. slept ≡ false → IsRunning t pass.old → IsRunning t pass.new) }
+    ensures slept { result ≡ true → IsRunning t pass.old → IsBetween pass.new }
+    ensures woken { result ≡ false → IsRunning t pass.old → IsRunning t pass.new }
 {
     let mut wait = lock_wait(rt, wk, pass, k);
-    if wait.has_task(t) {
+    if wait.val.has_task(t) {
         wait.give(wk, pass);
-        return Ok(false);
+        return false;
     }
-    let entry = WaitEntry {
-        t,
-        exclusive: false,
-    };
-    if let Err(e) = wait.val.entries.push(entry) {
-        wait.give(wk, pass);
-        return Err(e.into());
-    }
+    wait.enter(wk, pass, t, false);
     set_state(wk, pass, State::TASK_INTERRUPTIBLE);
     wait.give_entered(wk, pass);
     if load_cond(wk, pass, k) != seen {
         set_running(wk, pass);
-        return Ok(false);
+        return false;
     }
-    Ok(switch_out(rt, wk, pass, t))
+    switch_out(rt, wk, pass, t)
 }
 
 /// Takes the current task off its queue where its state says that it sleeps, as Linux's `schedule`; whether it did.

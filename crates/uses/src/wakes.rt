@@ -7,6 +7,7 @@ ghost use Rattle.word_rule.specs.May.{number_of};
 ghost use Rattle.word_steps.specs.Folds.{body_held, current_task, is_claimed, is_moving, last_reads, queue_held};
 ghost use Rattle.word_steps.specs.Folds.{saw_clear, task_held, task_to_clear, wait_held, works_held};
 
+use core_data::Rq;
 use handoff_data::{CpuNo, State, TaskNo, matches};
 use std::sync::Wait;
 use task_words::{
@@ -56,13 +57,20 @@ pub fn wake<B: Kept, R: Wait>(rt: &R, wk: &Wk<B>, pass: &mut Pass, t: TaskNo, to
     store_waking(wk, pass, t, seen.m);
     wait_clear(rt, wk, pass, t);
     place(wk, pass, &task, to);
-    queue_woken(rt, wk, pass, t, to);
+    queue_woken(rt, wk, pass, t, to, seen.m);
     task.give_queued(wk, pass);
     true
 }
 
 // Puts a claimed task at the back of its processor's queue, to run.
-fn queue_woken<B: Kept, R: Wait>(rt: &R, wk: &Wk<B>, pass: &mut Pass, t: TaskNo, to: CpuNo)
+fn queue_woken<B: Kept, R: Wait>(
+    rt: &R,
+    wk: &Wk<B>,
+    pass: &mut Pass,
+    t: TaskNo,
+    to: CpuNo,
+    m: u64,
+)
     requires of { IsOf wk.now pass.old }
     requires task { t < wk.now.shape.tasks }
     requires processor { to < wk.now.shape.cpus }
@@ -87,7 +95,7 @@ fn queue_woken<B: Kept, R: Wait>(rt: &R, wk: &Wk<B>, pass: &mut Pass, t: TaskNo,
     ensures number { 0 < number_of pass.new.trace t }
 {
     let mut queue = lock_queue(rt, wk, pass, to);
-    queue_task(rt, wk, pass, &queue, t);
+    queue_task(rt, wk, pass, &queue, t, Rq { on: 0, m });
     queue.push(wk, pass, t);
     queue.store_running(wk, pass, t);
     queue.give_woken(wk, pass);

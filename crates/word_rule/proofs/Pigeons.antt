@@ -1,5 +1,5 @@
 -- A list of different numbers below n, or of entries of different tasks below n, is no longer than n.
-use Rattle.std.proofs.Common.{◌≡◌, ◌≢◌, ℕ, suc, ◌<◌, ◌≤◌, List, [], ◌∷◌, eqb, length, refl, sym, ap, subst, ◌∙◌, inl, inr, arith}
+use Rattle.std.proofs.Common.{◌≡◌, ◌≢◌, ℕ, zero, suc, ◌<◌, ◌≤◌, List, [], ◌∷◌, eqb, length, refl, sym, ap, subst, ◌∙◌, inl, inr, arith}
 use Rattle.std.specs.Prelude.{◌==◌, true, false, Some, slice_get}
 use Rattle.std.specs.List.{AllByRecursion, IsDistinct, list_any}
 use Rattle.std.proofs.lemmas.Bool.{cases_eq}
@@ -10,8 +10,8 @@ use Rattle.core_data.proofs.QueueLemmas.{times_in-cons}
 use Rattle.core_data.specs.Entries.{has_entry}
 use Rattle.core_data.specs.Queue.{times_in}
 use Rattle.core_data.specs.declared.values.WaitEntry.{WaitEntry}
-use Rattle.core_gives.proofs.WaitsLemmas.{has_task-list, place-entry}
-use Rattle.core_gives.specs.Waits.{HasEachOnce}
+use Rattle.core_gives.proofs.WaitsLemmas.{has_task-list, entry-place, place-entry}
+use Rattle.core_gives.specs.Waits.{has_task, HasEachOnce}
 
 no_numbers : IsDistinct eqb []
 unfolding IsDistinct
@@ -117,3 +117,19 @@ room_of_entries n xs once below =
     named : (q : ℕ) → list_any (eqb q) (tasks_of xs) ≡ true → q < n
     named q e = let found = entry_of xs q e in
         subst (λ (k : ℕ). k < n) (sym found.1.1.1) (below found.0 (place-entry xs found.1.0 found.0 found.1.1.0))
+
+-- .. and where a task has none, there is room for its entry
+abbrev an_entry : ℕ → WaitEntry
+an_entry t = record { t = t; exclusive = false }
+
+entry_below : (n t : ℕ) (xs : List WaitEntry) → t < n → ((x : WaitEntry) → has_entry xs x ≡ true → x.t < n)
+    → (i : ℕ) (x : WaitEntry) → slice_get (an_entry t ∷ xs) i ≡ Some x → x.t < n
+entry_below n t xs lt below zero x is = let same : an_entry t ≡ x = cc in subst (λ (y : WaitEntry). y.t < n) same lt
+entry_below n t xs lt below (suc i) x is = below x (place-entry xs i x is)
+
+pub room_for_entry : (n : ℕ) (xs : List WaitEntry) → HasEachOnce xs
+    → ((x : WaitEntry) → has_entry xs x ≡ true → x.t < n) → (t : ℕ) → t < n → has_task xs t ≡ false → length xs < n
+room_for_entry n xs once below t lt none =
+    let all = room_of_entries n (an_entry t ∷ xs) (none, once) (λ x has. let found = entry-place (an_entry t ∷ xs) x has in
+    entry_below n t xs lt below found.0 x found.1) in
+    omega (arith, all)

@@ -6,7 +6,7 @@ use Rattle.core_data.specs.Queue.{Queue, times_in}
 use Rattle.core_data.specs.declared.values.WaitEntry.{WaitEntry}
 use Rattle.core_gives.specs.Queues.{times}
 use Rattle.handoff_data.specs.declared.shape.Shape.{Shape}
-use Rattle.word_rule.proofs.Pigeons.{room_for, room_of_entries}
+use Rattle.word_rule.proofs.Pigeons.{room_for, room_of_entries, room_for_entry}
 use Rattle.word_rule.specs.Kept.{Kept}
 use Rattle.word_rule.specs.Sorts.{Sort, OfTask, OfQueue, OfWorks, OfWait, home_of, some_of}
 use Rattle.word_rule.specs.Told.{TakeTold, TakenQueue, TakenWait, IsOff}
@@ -85,7 +85,12 @@ module _ (shape : Shape) (words : ℕ → ℕ → ℕ) (homes : Homes) (traces :
   taken_wait v home =
       let once = kept.holds.sleepers.once.at_home n v home in
       let tasks = kept.holds.shapes.wait_values.at_home n v home in
-      record { once = once; tasks = tasks; room = room_of_entries shape.tasks v once tasks }
+      record {
+        once = once;
+        tasks = tasks;
+        room = room_of_entries shape.tasks v once tasks;
+        space = room_for_entry shape.tasks v once tasks;
+      }
 
 module _ (shape : Shape) (words : ℕ → ℕ → ℕ) (homes : Homes) (traces : ℕ → List Rec) (s : ℕ)
     (kept : Kept shape words homes traces) where

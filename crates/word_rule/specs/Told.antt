@@ -1,11 +1,11 @@
 -- What the value of a lock is known to be as the seat s takes it, by its own trace.
-use Rattle.std.specs.Prelude.{◌≡◌, ◌≢◌, ℕ, ◌<◌, ◌≤◌, ◌⊎◌, true, List, Some, None, IsSome, length}
+use Rattle.std.specs.Prelude.{◌≡◌, ◌≢◌, ℕ, ◌<◌, ◌≤◌, ◌⊎◌, true, false, List, Some, None, IsSome, length}
 use Rattle.core_data.specs.Entries.{has_entry}
 use Rattle.core_data.specs.Queue.{Queue, times_in}
 use Rattle.core_data.specs.declared.values.TaskVal.{TaskVal}
 use Rattle.core_data.specs.declared.values.WaitEntry.{WaitEntry}
 use Rattle.core_gives.specs.Queues.{times}
-use Rattle.core_gives.specs.Waits.{HasEachOnce}
+use Rattle.core_gives.specs.Waits.{has_task, HasEachOnce}
 use Rattle.handoff_data.specs.declared.shape.Shape.{Shape}
 use Rattle.word_rule.specs.Sorts.{Sort, OfTask, OfQueue, OfWorks, OfWait}
 use Rattle.word_steps.specs.Folds.{task_held, current_task, task_to_clear, is_claimed, is_moving, number_read}
@@ -34,10 +34,12 @@ pub record TakenQueue (shape : Shape) (s : ℕ) (trace : List Rec) (c : ℕ) (v 
   pub clear : s ≡ c → (t : ℕ) → task_to_clear s trace ≡ Some t → v.left ≡ Some t
   pub first : (t : ℕ) → current_task s trace ≡ Some t → task_to_clear s trace ≡ None
 
+-- no task has two entries there, and there is room for one of a task that has none
 pub record TakenWait (shape : Shape) (v : List WaitEntry) : Type 0 where
   pub once : HasEachOnce v
   pub tasks : (x : WaitEntry) → has_entry v x ≡ true → x.t < shape.tasks
   pub room : length v ≤ shape.tasks
+  pub space : (t : ℕ) → t < shape.tasks → has_task v t ≡ false → length v < shape.tasks
 
 -- .. of n, by the trace before the take
 abbrev pub TakeTold : Shape → ℕ → List Rec → Sort → ℕ → Val → Type 0

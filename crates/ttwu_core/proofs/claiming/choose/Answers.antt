@@ -3,4 +3,4 @@ use Rattle.std.proofs.lemmas.Grind.{common_steps}
 use Rattle.ttwu_core.proofs.claiming.choose.Goals as goal
 
 pub fallback-requires-clause-first_active : goal.fallback-requires-clause-first_active
-fallback-requires-clause-first_active c = grind (arith, common_steps, c.all-all.ensures 0, c.requires.shape.some_cpu)
+fallback-requires-clause-first_active g c = grind (arith, common_steps, c.all-all.ensures 0, c.shape.ensures.shape, c.shape.ensures.valid.some_cpu)

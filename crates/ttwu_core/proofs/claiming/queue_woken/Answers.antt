@@ -14,8 +14,8 @@ use Rattle.word_steps.specs.declared.val.Val.TheVariants as val
 pub store_running-requires-clause-may : goal.store_running-requires-clause-may
 store_running-requires-clause-may g c κs within = λ x.
     let v = c.lock_queue-queue.result.val in
-    let seat = c.queue_seen.ensures.same.same_seat ∙ c.lock_queue-queue.ensures.same.same.same_seat in
-    let trace = c.queue_seen.ensures.trace
+    let seat = c.queue_task.ensures.same.same_seat ∙ c.lock_queue-queue.ensures.same.same.same_seat in
+    let trace = c.queue_task.ensures.trace
     ∙ ap (λ (z : ℕ × List Rec). Queued c.args.t z.0 0 c.args.m ∷ z.1)
     (λ i. (c.lock_queue-queue.ensures.processor i, c.lock_queue-queue.ensures.trace i)) in
     subst (λ (z : ℕ × List Rec). MayReleaseWord z.0 z.1 c.args.t x 0)
@@ -30,7 +30,7 @@ woken_did g c =
     let old = c.args.pass.now.trace in
     let at = c.lock_queue-queue.ensures.processor in
     let stored : c.store_running.new.pass.trace ≡ Released t ∷ Queued t c.args.c 0 c.args.m ∷ Took c.args.c (val.Queue v) ∷ old =
-    c.store_running.ensures.trace ∙ ap (λ (z : List Rec). Released t ∷ z) (c.queue_seen.ensures.trace
+    c.store_running.ensures.trace ∙ ap (λ (z : List Rec). Released t ∷ z) (c.queue_task.ensures.trace
     ∙ ap (λ (z : ℕ × List Rec). Queued t z.0 0 c.args.m ∷ z.1) (λ i. (at i, c.lock_queue-queue.ensures.trace i))) in
     c.give_woken.ensures.trace
     ∙ gave_queue c.args.c c.push.new.self.cpu v c.push.new.self.val c.store_running.new.pass.trace

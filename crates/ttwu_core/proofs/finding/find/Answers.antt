@@ -1,10 +1,8 @@
 use Rattle.std.proofs.Common.{◌≡◌, ◌∙◌, ℕ, ◌∷◌, List, Some, None, sym, subst, ap}
-use Rattle.std.specs.Prelude.{if◌then◌else◌}
-use Rattle.core_gives.specs.Queues.{gives_up}
 use Rattle.handoff_data.specs.declared.shape.Shape.{Shape}
-use Rattle.run_queue.proofs.Guards.{gave_queue, queue_there, taken_current}
+use Rattle.run_queue.proofs.Guards.{gave_queue, queue_there, taken_current, taken_clear}
 use Rattle.ttwu_core.proofs.Steps.{give_looked_may}
-use Rattle.ttwu_core.proofs.Waiting.{off_keeps, off_claimed, off_seen, off_number}
+use Rattle.ttwu_core.proofs.Waiting.{IsLeftAlone, off_keeps, off_claimed, off_seen, off_number}
 use Rattle.ttwu_core.proofs.finding.find.Given.{Over}
 use Rattle.ttwu_core.proofs.finding.find.Goals as goal
 use Rattle.ttwu_core.specs.Finds.{Look, Left, looked, off_reads, rq_reads}
@@ -12,7 +10,7 @@ use Rattle.ttwu_core.specs.Keeps.{Keeps}
 use Rattle.word_rule.proofs.Uses.{gives_released}
 use Rattle.word_rule.specs.May.{MayGiveQueueVal}
 use Rattle.word_rule.specs.Told.{TakenQueue}
-use Rattle.word_steps.specs.Folds.{current_task, is_claimed, saw_off, number_read}
+use Rattle.word_steps.specs.Folds.{is_claimed, saw_off, number_read}
 use Rattle.word_steps.specs.Records.{Rec, Took, Gave, Released, LoadedRq, LoadedCpu}
 use Rattle.word_steps.specs.declared.val.Val.TheVariants as val
 
@@ -121,19 +119,21 @@ returns-clause-did g c =
     }
 
 -- the seat's current task stays where a queue is given as it was taken
-same_current : (g : Over) (c : goal.After-await_off-m g)
-    → (if gives_up c.args.pass.now.seat c.load_cpu-c.result c.lock_queue-queue.result.val then None else current_task c.args.pass.now.seat c.args.pass.now.trace)
-    ≡ current_task c.args.pass.now.seat c.args.pass.now.trace
-same_current g c =
+left_alone : (g : Over) (c : goal.After-await_off-m g)
+    → IsLeftAlone c.args.pass.now.seat c.load_cpu-c.result c.lock_queue-queue.result.val c.args.pass.now.trace
+left_alone g c =
+    let t = c.args.t in
+    let s = c.args.pass.now.seat in
     let cpu = c.load_cpu-c.result in
+    let v = c.lock_queue-queue.result.val in
     let before = c.load_cpu-c.new.pass in
-    let trace : before.trace ≡ LoadedCpu c.args.t cpu ∷ LoadedRq c.args.t c.load_rq-first.result.on c.load_rq-first.result.m ∷ c.args.pass.now.trace =
-    c.load_cpu-c.ensures.trace ∙ ap (λ (z : List Rec). LoadedCpu c.args.t cpu ∷ z) c.load_rq-first.ensures.trace in
+    let read = LoadedCpu t cpu ∷ LoadedRq t c.load_rq-first.result.on c.load_rq-first.result.m ∷ c.args.pass.now.trace in
+    let trace : before.trace ≡ read =
+    c.load_cpu-c.ensures.trace ∙ ap (λ (z : List Rec). LoadedCpu t cpu ∷ z) c.load_rq-first.ensures.trace in
     let seat = c.load_cpu-c.ensures.same.same.same_seat ∙ c.load_rq-first.ensures.same.same.same_seat in
-    taken_current before.shape c.args.pass.now.seat cpu c.lock_queue-queue.result.val
-    (LoadedCpu c.args.t cpu ∷ LoadedRq c.args.t c.load_rq-first.result.on c.load_rq-first.result.m ∷ c.args.pass.now.trace)
-    (subst (λ (z : ℕ × List Rec). TakenQueue before.shape z.0 z.1 cpu c.lock_queue-queue.result.val)
-    (λ i. (seat i, trace i)) c.lock_queue-queue.ensures.taken)
+    let told = subst (λ (z : ℕ × List Rec). TakenQueue before.shape z.0 z.1 cpu v)
+    (λ i. (seat i, trace i)) c.lock_queue-queue.ensures.taken in
+    record { current = taken_current before.shape s cpu v read told; clear = taken_clear before.shape s cpu v read told }
 
 left_keeps : (g : Over) (c : goal.After-await_off-m g)
     → Keeps c.args.pass.now.seat c.args.pass.now.trace (off_reads c.args.t (Some (left_of g c)) c.await_off-m.result c.args.pass.now.trace)
@@ -141,7 +141,7 @@ unfolding left_of
 left_keeps g c =
     let s = c.args.pass.now.seat in
     let old = c.args.pass.now.trace in
-    off_keeps s c.args.t old (Some (left_of g c)) c.await_off-m.result (same_current g c)
+    off_keeps s c.args.t old (Some (left_of g c)) c.await_off-m.result (left_alone g c)
 
 pub returns-clause-keeps : goal.returns-clause-keeps
 returns-clause-keeps g c =
