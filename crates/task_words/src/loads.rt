@@ -30,8 +30,8 @@ pub fn load_state<B: Kept>(wk: &Wk<B>, pass: &mut Pass, t: TaskNo) -> State
     State(load::<B, LoadState>(&wk.words, &mut pass.token, t) as u16)
 }
 
-/// The queue word of a task: whether it is queued, and how often that was changed, which is at least once where its state
-/// matched since the seat took its lock.
+/// The queue word of a task: whether it is queued, and how often that was changed. A task whose state matched since the
+/// seat took its lock was queued before, so its number isn't 0.
 pub fn load_rq<B: Kept>(wk: &Wk<B>, pass: &mut Pass, t: TaskNo) -> Rq
     requires of { IsOf wk.now pass.old }
     requires task { t < wk.now.shape.tasks }

@@ -120,7 +120,8 @@ module _ {B : Type 0} (lasting : B → List ℕ) (ended_of : B → Bool) (key : 
         let shown = words_of-set s.words n col y low (in_words s r n col row low) in (
           steady lasting ended_of key s r id k known tr (note k tr n y x ∷ tr) (word_at n col) y at (quiet_out (note k tr n y x) tr (quiet k tr n y x)) (tells_more (note k tr n y x) tr)
               (subst (λ (z : (ℕ → ℕ → ℕ) × List Rec × ℕ). Kept key.shape z.0 homes (put r.trace k (note k z.1 n y z.2 ∷ z.1))) (λ j. (sym shown j, sym m.trace_is j, is j)) kept.0),
-          subst (λ (z : Known × List Rec × ℕ). told z.0.shape k z.1 n z.2) (λ j. (sym m.known_is j, sym m.trace_is j, is j)) kept.1,
+          subst (λ (z : Known × List Rec × ℕ). told z.0.shape k z.1 n z.2)
+              (λ j. (sym m.known_is j, sym m.trace_is j, is j)) kept.1,
         )
 
     pub may_become : (f : ℕ → ℕ) (slots a id k n : ℕ) (known : Known) (tr : List Rec) → n < bound key.shape
@@ -132,8 +133,10 @@ module _ {B : Type 0} (lasting : B → List ℕ) (ended_of : B → Bool) (key : 
           keeps,
           tt,
           z.0,
-          λ u same. let e : n ≡ u = omega (arith, same) in
-              (subst (λ (w : ℕ). told known.shape k tr w x) e z.1, ap (λ (w : ℕ). push (note k tr w (f x) x) (sat known k tr)) e),
+          λ u same. let e : n ≡ u = omega (arith, same) in (
+            subst (λ (w : ℕ). told known.shape k tr w x) e z.1,
+            ap (λ (w : ℕ). push (note k tr w (f x) x) (sat known k tr)) e,
+          ),
         )
 
     pub may_store : (slots id k n y : ℕ) (known : Known) (tr : List Rec) → n < bound key.shape → ((x : ℕ) → may key.shape k tr n x y)
@@ -159,7 +162,10 @@ module _ {B : Type 0} (lasting : B → List ℕ) (ended_of : B → Bool) (key : 
           tt,
           z.0,
           λ u same. let e : n ≡ u = omega (arith, same) in (
-            (λ _. (subst (λ (w : ℕ). told known.shape k tr w x) e z.1, ap (λ (w : ℕ). push (note k tr w new x) (sat known k tr)) e)),
+            (λ _. (
+              subst (λ (w : ℕ). told known.shape k tr w x) e z.1,
+              ap (λ (w : ℕ). push (note k tr w new x) (sat known k tr)) e,
+            )),
             λ miss. absurd (miss hit),
           ),
         ))

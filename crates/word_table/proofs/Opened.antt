@@ -83,9 +83,10 @@ module _ {B : Type 0} where
       (λ ne. (trace, t.1 ne ∙ is, (λ e. absurd (ne e)), (λ e. absurd (ne e)), λ _. refl))
 
   -- the trace after one try, and what is told of the word found
-  pub tried_from : (told : Told) (note : Note) (x old n y : ℕ) (m m' : Sat B) (known : Known) (s : ℕ) (trace : List Rec) → m ≡ sat known s trace
-      → (x ≡ old → told m.0.known.shape (seat_in m.0.parts) (trace_in m.0.parts) n x × (m' ≡ push (note (seat_in m.0.parts) (trace_in m.0.parts) n y x) m))
-      × (x ≢ old → m' ≡ m)
+  pub tried_from : (told : Told) (note : Note) (x old n y : ℕ) (m m' : Sat B) (known : Known) (s : ℕ)
+      (trace : List Rec) → m ≡ sat known s trace
+      → (x ≡ old → told m.0.known.shape (seat_in m.0.parts) (trace_in m.0.parts) n x
+      × (m' ≡ push (note (seat_in m.0.parts) (trace_in m.0.parts) n y x) m)) × (x ≢ old → m' ≡ m)
       → (trace' : List Rec) × (m' ≡ sat known s trace') × (x ≡ old → trace' ≡ note s trace n y old ∷ trace)
       × (x ≡ old → told known.shape s trace n old) × (x ≢ old → trace' ≡ trace)
   tried_from told note x old n y m m' known s trace is t =
