@@ -53,6 +53,7 @@ entry_task x y e = elim (cases_Bool (x.t == y.t)) [
 -- .. and at the head or the back
 any_entered : (p : WaitEntry → Bool) (x : WaitEntry) (v : List WaitEntry)
     → any_from p false (entered x v) ≡ (if p x then true else any_from p false v)
+unfolding entered
 any_entered p x v = elim (cases_Bool x.exclusive) [
   | inl q ↦ ap (λ (b : Bool). any_from p false (if b then v ++ x ∷ [] else x ∷ v)) q ∙ any_back p false v x
   | inr q ↦ ap (λ (b : Bool). any_from p false (if b then v ++ x ∷ [] else x ∷ v)) q ∙ any_front (p x)
@@ -63,6 +64,7 @@ any_entered p x v = elim (cases_Bool x.exclusive) [
     any_front false = refl
 
 once_entered : (x : WaitEntry) (v : List WaitEntry) → HasEachOnce v → has_task v x.t ≡ false → HasEachOnce (entered x v)
+unfolding entered
 once_entered x v once none = elim (cases_Bool x.exclusive) [
   | inl q ↦ subst (λ (b : Bool). HasEachOnce (if b then v ++ x ∷ [] else x ∷ v)) (sym q) (once_back v x once none)
   | inr q ↦ subst (λ (b : Bool). HasEachOnce (if b then v ++ x ∷ [] else x ∷ v)) (sym q) (none, once)

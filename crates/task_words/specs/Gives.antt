@@ -138,7 +138,7 @@ pub record IsQueuedUnder (shape : Shape) (trace : List Rec) (t : ℕ) (given : T
   pub number : 0 < number_of trace t
 
 -- a wait queue with an entry put in: an exclusive one at the tail, another at the head
-abbrev pub entered : WaitEntry → List WaitEntry → List WaitEntry
+unfoldable pub entered : WaitEntry → List WaitEntry → List WaitEntry
 entered x v = if x.exclusive then v ++ x ∷ [] else x ∷ v
 
 -- the current task's entry was put in at a wait queue that had none of it, and then a state was stored

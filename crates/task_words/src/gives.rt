@@ -172,6 +172,7 @@ impl TaskGuard {
 impl WaitGuard {
     /// Puts an entry of a task in that has none there: an exclusive one at the tail, another at the head, as Linux's
     /// `prepare_to_wait_exclusive` and `prepare_to_wait`.
+    #[tactic(auto, unfolding(crate::specs::Gives::entered))]
     pub fn enter<B: Kept>(&mut self, wk: &Wk<B>, pass: &Pass, t: TaskNo, exclusive: bool)
         requires of { IsOf wk.now pass.now }
         requires task { t < wk.now.shape.tasks }

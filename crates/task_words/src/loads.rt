@@ -1,6 +1,7 @@
 //! Loads.
-ghost use Rattle.std.specs.Prelude.{◌≡◌, ◌<◌, ◌∷◌, None};
+ghost use Rattle.std.specs.Prelude.{◌≡◌, ◌≢◌, ◌<◌, ◌∷◌, true, None, IsSome};
 ghost use Rattle.task_words.specs.Views.{IsOf, IsSame};
+ghost use Rattle.word_steps.specs.Folds.{task_held, is_matched_by};
 ghost use Rattle.word_steps.specs.Records.{LoadedState, LoadedRq, LoadedBusy, LoadedCpu};
 
 use crate::pass::Pass;
@@ -29,12 +30,14 @@ pub fn load_state<B: Kept>(wk: &Wk<B>, pass: &mut Pass, t: TaskNo) -> State
     State(load::<B, LoadState>(&wk.words, &mut pass.token, t) as u16)
 }
 
-/// The queue word of a task: whether it is queued, and how often that was changed.
+/// The queue word of a task: whether it is queued, and how often that was changed. A task whose state matched since the
+/// seat took its lock was queued before, so its number isn't 0.
 pub fn load_rq<B: Kept>(wk: &Wk<B>, pass: &mut Pass, t: TaskNo) -> Rq
     requires of { IsOf wk.now pass.old }
     requires task { t < wk.now.shape.tasks }
     ensures same { IsSame pass.old pass.new }
     ensures trace { pass.new.trace ≡ LoadedRq t result.on result.m ∷ pass.old.trace }
+    ensures changed { IsSome (task_held pass.old.trace t) → is_matched_by pass.old.trace t ≡ true → result.m ≢ 0 }
 {
     let word = load::<B, LoadRq>(&wk.words, &mut pass.token, t);
     Rq {

@@ -1,9 +1,10 @@
 -- What words that were read again and again tell: no more than the last read.
-use Rattle.std.proofs.Common.{◌≡◌, ◌≢◌, ◌∙◌, ℕ, ◌∷◌, [], List, refl, ap, arith}
-use Rattle.std.specs.Prelude.{Bool, true, false, if◌then◌else◌, Option, Some, None, IfSome, is_none}
+use Rattle.std.proofs.Common.{◌≡◌, ◌≢◌, ◌∙◌, ℕ, ◌∷◌, [], List, refl, sym, ap, subst, arith}
+use Rattle.std.specs.Prelude.{Bool, true, false, if◌then◌else◌, Option, Some, None, IsSome, IfSome, is_none}
 use Rattle.std.proofs.lemmas.Bool.Decides.{nat_tests}
 use Rattle.core_data.specs.Queue.{Queue}
 use Rattle.core_data.specs.declared.pos.Rq.{Rq}
+use Rattle.core_data.specs.declared.values.TaskVal.{TaskVal}
 use Rattle.core_gives.specs.Queues.{gives_up}
 use Rattle.handoff_data.specs.declared.shape.Shape.{Shape}
 use Rattle.run_queue.proofs.Apart.{none_apart, apart_again, took_queue_apart, gave_queue_apart, queued_apart, rq_apart, busy_apart, cpu_apart, claimed_apart, released_apart}
@@ -14,7 +15,7 @@ use Rattle.ttwu_core.specs.Claims.{busy_reads, awaited_clear, queued_woken}
 use Rattle.ttwu_core.specs.Finds.{Look, Left, rq_reads, looked, off_reads, released_there}
 use Rattle.ttwu_core.specs.Keeps.{Keeps}
 use Rattle.word_rule.specs.Told.{TakenQueue}
-use Rattle.word_steps.specs.Folds.{put_if, task_held, queue_held, current_task, task_to_clear, is_unstored, is_claimed, saw_off, saw_clear, number_read}
+use Rattle.word_steps.specs.Folds.{put_if, task_held, queue_held, current_task, task_to_clear, is_matched_by, is_unstored, is_claimed, saw_off, saw_clear, number_read}
 use Rattle.word_steps.specs.Records.{Rec, Took, Gave, Queued, Claimed, Released, LoadedRq, LoadedBusy, LoadedCpu}
 use Rattle.word_steps.specs.declared.val.Val.TheVariants as val
 
@@ -22,6 +23,14 @@ module _ (t : ℕ) (trace : List Rec) where
   rq_held : (rs : List Rq) → task_held (rq_reads t rs trace) ≡ task_held trace
   rq_held [] = refl
   rq_held (r ∷ rs) = rq_held rs
+
+  -- the lock of a task stays taken, and the task matched
+  pub rq_locked : (rs : List Rq) → IsSome (task_held trace t) → IsSome (task_held (rq_reads t rs trace) t)
+  rq_locked rs locked = subst (λ (h : ℕ → Option TaskVal). IsSome (h t)) (sym (rq_held rs)) locked
+
+  pub rq_matched : (rs : List Rq) → is_matched_by (rq_reads t rs trace) ≡ is_matched_by trace
+  rq_matched [] = refl
+  rq_matched (r ∷ rs) = rq_matched rs
 
   rq_queues : (rs : List Rq) → queue_held (rq_reads t rs trace) ≡ queue_held trace
   rq_queues [] = refl

@@ -56,6 +56,8 @@ pub record IsFoundOff (t m : ℕ) (old new : List Rec) : Type 0 where
   pub did : new ≡ off_reads t left m old
   pub off : saw_off new t ≡ true
   pub number : number_read new t ≡ Some m
+  -- only a new task has no change, and no mask matches its state
+  pub changed : m ≢ 0
 
 -- t was read as queued, also under the lock of its queue, and TASK_RUNNING stored there
 abbrev pub released_there : ℕ → Look → List Rec → List Rec

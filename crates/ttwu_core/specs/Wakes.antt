@@ -50,6 +50,7 @@ pub record IsQueuedAgain (t : ℕ) (mask : State) (shape : Shape) (c : ℕ) (old
   pub from : ℕ
   pub queue : Queue
   pub matched : is_match seen mask ≡ true
+  pub changed : m ≢ 0
   pub left_so : IfSome left IsLeft
   pub chosen : IsChosen task shape c
   pub did : new.trace

@@ -15,7 +15,7 @@ use task_words::{Kept, Pass, Wk, load_cpu, load_rq, lock_queue, store_running};
 /// Where it is.
 #[derive(Clone, Copy, Debug, PartialEq, Eq)]
 pub enum Found {
-    /// Off every queue, after `m` changes.
+    /// Off every queue, after `m` changes; `m` isn't 0.
     Off { m: u64 },
     /// Queued, and TASK_RUNNING is stored.
     Runnable,
@@ -25,8 +25,11 @@ pub enum Found {
 fn await_off<B: Kept, R: Wait>(rt: &R, wk: &Wk<B>, pass: &mut Pass, t: TaskNo) -> u64
     requires of { IsOf wk.now pass.old }
     requires task { t < wk.now.shape.tasks }
+    requires locked { IsSome (task_held pass.old.trace t) }
+    requires matched { is_matched_by pass.old.trace t ≡ true }
     ensures same { IsSame pass.old pass.new }
     ensures did { IsAwaited t result pass.old.trace pass.new.trace }
+    ensures changed { result ≢ 0 }
 {
     let backoff = Backoff::new();
     for _ in rt.forever() {

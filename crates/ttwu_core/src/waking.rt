@@ -48,10 +48,6 @@ pub fn wake<B: Kept, R: Wait>(
         task.give(wk, pass);
         return Wake::Woke { how: How::Runnable };
     };
-    // Only a new task has no change, and no mask matches its state: this is never so.
-    if m == 0 {
-        for _ in rt.forever() {}
-    }
     claim(rt, wk, pass, t, m);
     let c = choose(wk, &task.val);
     place(wk, pass, &task, c);

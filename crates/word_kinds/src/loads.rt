@@ -20,7 +20,7 @@ impl Kind for LoadState {
 
     ghost may = { λ shape s trace t x y. y ≡ x };
 
-    ghost told = { λ shape x. x < 2 ^ 16 };
+    ghost told = { λ shape s trace t x. x < 2 ^ 16 };
 
     ghost low = { lit< tt };
 
@@ -39,10 +39,11 @@ impl Kind for LoadState {
 pub struct LoadRq;
 
 impl Kind for LoadRq {
-    ghost use Rattle.std.specs.Prelude.{◌≡◌, ◌/◌, ◌%◌, refl};
+    ghost use Rattle.std.specs.Prelude.{◌≡◌, ◌≢◌, ◌/◌, ◌%◌, true, IsSome, refl};
     ghost use Rattle.std.proofs.Common.{lit<};
     ghost use Rattle.word_kinds.specs.Rows.{tasks_rows};
     ghost use Rattle.word_rule.proofs.LoadLaws.{load_rq_law};
+    ghost use Rattle.word_steps.specs.Folds.{task_held, is_matched_by};
     ghost use Rattle.word_steps.specs.Records.{LoadedRq};
     ghost use Rattle.word_steps.specs.Words.{RQ};
 
@@ -54,7 +55,8 @@ impl Kind for LoadRq {
 
     ghost may = { λ shape s trace t x y. y ≡ x };
 
-    ghost told = { λ shape x. Unit {0} };
+    // A task that matched since the seat took its lock was queued before.
+    ghost told = { λ shape s trace t x. IsSome (task_held trace t) → is_matched_by trace t ≡ true → x / 4 ≢ 0 };
 
     ghost low = { lit< tt };
 
@@ -88,7 +90,7 @@ impl Kind for LoadBusy {
 
     ghost may = { λ shape s trace t x y. y ≡ x };
 
-    ghost told = { λ shape x. Unit {0} };
+    ghost told = { λ shape s trace t x. Unit {0} };
 
     ghost low = { lit< tt };
 
@@ -122,7 +124,7 @@ impl Kind for LoadCpu {
 
     ghost may = { λ shape s trace t x y. y ≡ x };
 
-    ghost told = { λ shape x. x < shape.cpus };
+    ghost told = { λ shape s trace t x. x < shape.cpus };
 
     ghost low = { lit< tt };
 
@@ -156,7 +158,7 @@ impl Kind for LoadCond {
 
     ghost may = { λ shape s trace k x y. y ≡ x };
 
-    ghost told = { λ shape x. Unit {0} };
+    ghost told = { λ shape s trace k x. Unit {0} };
 
     ghost low = { lit< tt };
 

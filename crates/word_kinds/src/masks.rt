@@ -34,7 +34,7 @@ impl<M: Mask> Kind for MatchState<M> {
 
     ghost may = { λ shape s trace t x y. y ≡ x };
 
-    ghost told = { λ shape x. x < 2 ^ 16 };
+    ghost told = { λ shape s trace t x. x < 2 ^ 16 };
 
     ghost low = { lit< tt };
 

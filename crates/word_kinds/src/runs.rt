@@ -21,7 +21,7 @@ impl Kind for QueueTask {
 
     ghost may = { λ shape s trace t x y. MayQueueWord s trace t x y };
 
-    ghost told = { λ shape x. Unit {0} };
+    ghost told = { λ shape s trace t x. Unit {0} };
 
     ghost low = { lit< tt };
 
@@ -56,7 +56,7 @@ impl Kind for DequeueTask {
 
     ghost may = { λ shape s trace t x y. MayDequeueWord s trace t x y };
 
-    ghost told = { λ shape x. Unit {0} };
+    ghost told = { λ shape s trace t x. Unit {0} };
 
     ghost low = { lit< tt };
 
@@ -91,7 +91,7 @@ impl Kind for MoveTask {
 
     ghost may = { λ shape s trace t x y. MayMoveWord s trace t x y };
 
-    ghost told = { λ shape x. Unit {0} };
+    ghost told = { λ shape s trace t x. Unit {0} };
 
     ghost low = { lit< tt };
 
@@ -126,7 +126,7 @@ impl Kind for SetBusy {
 
     ghost may = { λ shape s trace t x y. MaySetBusyWord s trace t x y };
 
-    ghost told = { λ shape x. Unit {0} };
+    ghost told = { λ shape s trace t x. Unit {0} };
 
     ghost low = { lit< tt };
 
@@ -161,7 +161,7 @@ impl Kind for ClearBusy {
 
     ghost may = { λ shape s trace t x y. MayClearBusyWord s trace t x y };
 
-    ghost told = { λ shape x. (x % 2 ≡ 1) × (x / 2 < 2 ^ 60) };
+    ghost told = { λ shape s trace t x. (x % 2 ≡ 1) × (x / 2 < 2 ^ 60) };
 
     ghost low = { lit< tt };
 

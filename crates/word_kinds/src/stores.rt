@@ -21,7 +21,7 @@ impl Kind for StoreOwn {
 
     ghost may = { λ shape s trace t x y. MayOwnWord s trace t x y };
 
-    ghost told = { λ shape x. Unit {0} };
+    ghost told = { λ shape s trace t x. Unit {0} };
 
     ghost low = { lit< tt };
 
@@ -56,7 +56,7 @@ impl Kind for StoreWaking {
 
     ghost may = { λ shape s trace t x y. MayClaimWord s trace t x y };
 
-    ghost told = { λ shape x. Unit {0} };
+    ghost told = { λ shape s trace t x. Unit {0} };
 
     ghost low = { lit< tt };
 
@@ -91,7 +91,7 @@ impl Kind for StoreRunning {
 
     ghost may = { λ shape s trace t x y. MayReleaseWord s trace t x y };
 
-    ghost told = { λ shape x. Unit {0} };
+    ghost told = { λ shape s trace t x. Unit {0} };
 
     ghost low = { lit< tt };
 
@@ -126,7 +126,7 @@ impl Kind for StoreCpu {
 
     ghost may = { λ shape s trace t x y. MayCpuWord s trace shape t x y };
 
-    ghost told = { λ shape x. Unit {0} };
+    ghost told = { λ shape s trace t x. Unit {0} };
 
     ghost low = { lit< tt };
 
@@ -160,7 +160,7 @@ impl Kind for BumpCond {
 
     ghost may = { λ shape s trace k x y. y ≡ (x + 1) % 2 ^ 64 };
 
-    ghost told = { λ shape x. Unit {0} };
+    ghost told = { λ shape s trace k x. Unit {0} };
 
     ghost low = { lit< tt };
 

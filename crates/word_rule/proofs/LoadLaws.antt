@@ -1,6 +1,6 @@
 -- Loads keep the rule. Beside it stands what is known of the word found.
-use Rattle.std.proofs.Common.{◌≡◌, ℕ, ◌<◌, ◌+◌, refl, sym, ap, subst, ◌∙◌, List, ◌∷◌}
-use Rattle.std.specs.Prelude.{◌/◌, ◌%◌, ◌^◌, Option, Some, None}
+use Rattle.std.proofs.Common.{◌≡◌, ◌≢◌, ℕ, ◌<◌, ◌+◌, refl, sym, ap, subst, ◌∙◌, List, ◌∷◌}
+use Rattle.std.specs.Prelude.{◌/◌, ◌%◌, ◌^◌, true, Option, Some, None, IsSome}
 use Rattle.core_data.specs.Table.{put, put_at}
 use Rattle.core_invariant.specs.Invariant.{Holds}
 use Rattle.core_kinds.specs.Waking.{IsMask, MayLoadState}
@@ -24,6 +24,7 @@ use Rattle.word_steps.proofs.PutKept.{put_still}
 use Rattle.word_steps.proofs.Puts.{word_same}
 use Rattle.word_steps.proofs.QueuedKept.{queued_still, load_rq_queued}
 use Rattle.word_steps.specs.Decode.{Homes, core_of, core_after}
+use Rattle.word_steps.specs.Folds.{task_held, is_matched_by}
 use Rattle.word_steps.specs.Records.{Rec, LoadedState, LoadedRq, LoadedBusy, LoadedCpu, LoadedCond}
 use Rattle.word_steps.specs.Words.{STATE, RQ, BUSY, CPU, COND, is_set}
 
@@ -102,10 +103,15 @@ module _ (shape : Shape) (words : ℕ → ℕ → ℕ) (homes : Homes) (traces :
         known = known_still traces s kept.known rq_note refl refl;
       }
 
+  -- a task that matched since the seat took its lock was queued before
   pub load_rq_law : n < shape.tasks → y ≡ words n RQ
       → Kept shape (put_at words n RQ y) homes
-      (put traces s (LoadedRq n (words n RQ % 4) (words n RQ / 4) ∷ traces s)) × Unit {0}
-  load_rq_law task same = (as_found RQ rq_note same (rq_kept task), tt)
+      (put traces s (LoadedRq n (words n RQ % 4) (words n RQ / 4) ∷ traces s))
+      × (IsSome (task_held (traces s) n) → is_matched_by (traces s) n ≡ true → words n RQ / 4 ≢ 0)
+  load_rq_law task same = (
+    as_found RQ rq_note same (rq_kept task),
+    λ out matched. kept.matched s n (kept.holds.locks.tasks.out_held s n out) matched,
+  )
 
   pub load_busy_law : n < shape.tasks → y ≡ words n BUSY
       → Kept shape (put_at words n BUSY y) homes

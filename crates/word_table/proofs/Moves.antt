@@ -24,7 +24,7 @@ use Rattle.word_steps.specs.Words.{STRIDE, BODY, words_of}
 use Rattle.word_steps.specs.declared.val.Val.{Val}
 use Rattle.word_steps.specs.declared.val.Val.TheVariants as val
 use Rattle.word_steps.proofs.FlatWords.{words_of-set}
-use Rattle.word_table.specs.Kinds.{Note, May, LeavesSlots, KeepsRule}
+use Rattle.word_table.specs.Kinds.{Note, May, Told, LeavesSlots, KeepsRule}
 use Rattle.word_table.specs.Layout.{SLOTS, BODY_SLOT, rows_of, slot_of, word_at, slot_at}
 use Rattle.word_table.specs.Outs.{has_out}
 use Rattle.word_table.specs.Parts.{Known}
@@ -100,7 +100,7 @@ module _ {B : Type 0} (lasting : B → List ℕ) (ended_of : B → Bool) (key : 
   before_room n c lt low = omega (arith, lt, low)
 
   -- A kind of step on one word, by what a `Kind` has
-  module _ (col : ℕ) (bound : Shape → ℕ) (note : Note) (may : May) (told : Shape → ℕ → Type 0) (low : col < STRIDE) (rows : (shape : Shape) → bound shape ≤ rows_of shape)
+  module _ (col : ℕ) (bound : Shape → ℕ) (note : Note) (may : May) (told : Told) (low : col < STRIDE) (rows : (shape : Shape) → bound shape ≤ rows_of shape)
       (quiet : LeavesSlots note)
       (keep : KeepsRule col bound note may told) where
     pub by_kind : (s : St lasting ended_of key) (r : R lasting ended_of key s) (id k n y : ℕ) (known : Known) (tr : List Rec)
@@ -110,7 +110,7 @@ module _ {B : Type 0} (lasting : B → List ℕ) (ended_of : B → Bool) (key : 
           words = set s.words (word_at n col) y;
           homes = s.homes;
           views = set s.views id (one known (part k (note k tr n y (get_or s.words (word_at n col) 0) ∷ tr) 0));
-        } × told known.shape (get_or s.words (word_at n col) 0)
+        } × told known.shape k tr n (get_or s.words (word_at n col) 0)
     by_kind s r id k n y known tr lt at ok =
         let m = mine lasting ended_of key s r id k known tr 0 at in let x : ℕ = get_or s.words (word_at n col) 0 in
         let is : words_of s.words n col ≡ x = word_seen s.words n col low in
@@ -120,15 +120,24 @@ module _ {B : Type 0} (lasting : B → List ℕ) (ended_of : B → Bool) (key : 
         let shown = words_of-set s.words n col y low (in_words s r n col row low) in (
           steady lasting ended_of key s r id k known tr (note k tr n y x ∷ tr) (word_at n col) y at (quiet_out (note k tr n y x) tr (quiet k tr n y x)) (tells_more (note k tr n y x) tr)
               (subst (λ (z : (ℕ → ℕ → ℕ) × List Rec × ℕ). Kept key.shape z.0 homes (put r.trace k (note k z.1 n y z.2 ∷ z.1))) (λ j. (sym shown j, sym m.trace_is j, is j)) kept.0),
-          subst (λ (z : Known × ℕ). told z.0.shape z.1) (λ j. (sym m.known_is j, is j)) kept.1,
+          subst (λ (z : Known × List Rec × ℕ). told z.0.shape k z.1 n z.2)
+              (λ j. (sym m.known_is j, sym m.trace_is j, is j)) kept.1,
         )
 
     pub may_become : (f : ℕ → ℕ) (slots a id k n : ℕ) (known : Known) (tr : List Rec) → n < bound key.shape
         → ((x : ℕ) → may key.shape k tr n x (f x))
         → Allows (R lasting ended_of key) slots id (sat known k tr) (word_at n col) f (became col note told f (step slots (word_at n col) a 0 none) (sat known k tr))
     may_become f slots a id k n known tr lt ok s r deep at _ = let x : ℕ = get_or s.words (word_at n col) 0 in
-        let z = by_kind s r id k n (f x) known tr lt at (ok x) in
-        (one known (part k (note k tr n (f x) x ∷ tr) 0), keeps, tt, z.0, λ u same. let e : n ≡ u = omega (arith, same) in (z.1, ap (λ (w : ℕ). push (note k tr w (f x) x) (sat known k tr)) e))
+        let z = by_kind s r id k n (f x) known tr lt at (ok x) in (
+          one known (part k (note k tr n (f x) x ∷ tr) 0),
+          keeps,
+          tt,
+          z.0,
+          λ u same. let e : n ≡ u = omega (arith, same) in (
+            subst (λ (w : ℕ). told known.shape k tr w x) e z.1,
+            ap (λ (w : ℕ). push (note k tr w (f x) x) (sat known k tr)) e,
+          ),
+        )
 
     pub may_store : (slots id k n y : ℕ) (known : Known) (tr : List Rec) → n < bound key.shape → ((x : ℕ) → may key.shape k tr n x y)
         → ((x : ℕ) → note k tr n y x ≡ note k tr n y y)
@@ -152,7 +161,13 @@ module _ {B : Type 0} (lasting : B → List ℕ) (ended_of : B → Bool) (key : 
           keeps,
           tt,
           z.0,
-          λ u same. let e : n ≡ u = omega (arith, same) in ((λ _. (z.1, ap (λ (w : ℕ). push (note k tr w new x) (sat known k tr)) e)), λ miss. absurd (miss hit)),
+          λ u same. let e : n ≡ u = omega (arith, same) in (
+            (λ _. (
+              subst (λ (w : ℕ). told known.shape k tr w x) e z.1,
+              ap (λ (w : ℕ). push (note k tr w new x) (sat known k tr)) e,
+            )),
+            λ miss. absurd (miss hit),
+          ),
         ))
         (λ miss. stands s r (word_at n col) id (sat known k tr) says at (λ u same. ((λ hit. absurd (miss hit)), λ _. refl)))
 

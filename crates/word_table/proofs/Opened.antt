@@ -9,6 +9,7 @@ use Rattle.handoff_data.specs.declared.shape.Shape.{Shape}
 use Rattle.word_steps.specs.Records.{Rec}
 use Rattle.word_steps.specs.Words.{STRIDE}
 use Rattle.word_steps.specs.declared.val.Val.{Val}
+use Rattle.word_table.specs.Kinds.{Note, Told}
 use Rattle.word_table.specs.Layout.{rows_of, word_at}
 use Rattle.word_table.specs.Parts.{Known}
 use Rattle.word_table.specs.Plays.{one, part, trace_in, seat_in, sat, holding, push, lift, lay, Sat}
@@ -74,13 +75,28 @@ module _ {B : Type 0} where
       → m' ≡ sat known s (note s trace n y x ∷ trace)
   noted_from note m m' known s trace n y x rest now = now ∙ λ h. push (note (seat_in (rest h).0.parts) (trace_in (rest h).0.parts) n y x) (rest h)
 
-  -- the trace after one try
-  pub tried_trace : (x old : ℕ) (m m' : Sat B) (F : ℕ → Type 0) (r : ℕ → Rec) (known : Known) (s : ℕ) (trace : List Rec)
+  tried_trace : (x old : ℕ) (m m' : Sat B) (F : ℕ → Type 0) (r : ℕ → Rec) (known : Known) (s : ℕ) (trace : List Rec)
       → m ≡ sat known s trace → (x ≡ old → F x × (m' ≡ push (r x) (sat known s trace))) × (x ≢ old → m' ≡ m)
       → (trace' : List Rec) × (m' ≡ sat known s trace') × (x ≡ old → trace' ≡ r old ∷ trace) × (x ≡ old → F old) × (x ≢ old → trace' ≡ trace)
   tried_trace x old m m' F r known s trace is t = dite (ℕ_discrete x old)
       (λ e. (r old ∷ trace, (t.0 e).1 ∙ ap (λ (z : ℕ). sat known s (r z ∷ trace)) e, (λ _. refl), (λ _. subst F e (t.0 e).0), λ ne. absurd (ne e)))
       (λ ne. (trace, t.1 ne ∙ is, (λ e. absurd (ne e)), (λ e. absurd (ne e)), λ _. refl))
+
+  -- the trace after one try, and what is told of the word found
+  pub tried_from : (told : Told) (note : Note) (x old n y : ℕ) (m m' : Sat B) (known : Known) (s : ℕ)
+      (trace : List Rec) → m ≡ sat known s trace
+      → (x ≡ old → told m.0.known.shape (seat_in m.0.parts) (trace_in m.0.parts) n x
+      × (m' ≡ push (note (seat_in m.0.parts) (trace_in m.0.parts) n y x) m)) × (x ≢ old → m' ≡ m)
+      → (trace' : List Rec) × (m' ≡ sat known s trace') × (x ≡ old → trace' ≡ note s trace n y old ∷ trace)
+      × (x ≡ old → told known.shape s trace n old) × (x ≢ old → trace' ≡ trace)
+  tried_from told note x old n y m m' known s trace is t =
+      tried_trace x old m m' (told known.shape s trace n) (note s trace n y) known s trace is (
+        λ hit. (
+          subst (λ (z : Sat B). told z.0.known.shape (seat_in z.0.parts) (trace_in z.0.parts) n x) is (t.0 hit).0,
+          subst (λ (z : Sat B). m' ≡ push (note (seat_in z.0.parts) (trace_in z.0.parts) n y x) z) is (t.0 hit).1,
+        ),
+        t.1,
+      )
 
   abbrev slot_in : List (ℕ × Slot B) → Slot B
   slot_in [] = Empty

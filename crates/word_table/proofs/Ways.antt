@@ -6,7 +6,7 @@ use Rattle.atomic_table.specs.Table.{step, Allows}
 use Rattle.handoff_data.specs.declared.shape.Shape.{Shape}
 use Rattle.word_steps.specs.Records.{Rec}
 use Rattle.word_steps.specs.Words.{STRIDE}
-use Rattle.word_table.specs.Kinds.{Note, May, LeavesSlots, KeepsRule}
+use Rattle.word_table.specs.Kinds.{Note, May, Told, LeavesSlots, KeepsRule}
 use Rattle.word_table.specs.Layout.{rows_of, word_at}
 use Rattle.word_table.specs.Parts.{Known}
 use Rattle.word_table.specs.Plays.{sat, Sat, became, stored, tried}
@@ -15,7 +15,7 @@ use Rattle.word_table.specs.declared.slot.Key.{Key}
 use Rattle.word_table.proofs.Moves.{may_become, may_store, may_try}
 
 module _ {B : Type 0} (lasting : B → List ℕ) (ended_of : B → Bool) (key : Key B) (slots id s : ℕ) (known : Known) (trace : List Rec) (m : Sat B) (is : m ≡ sat known s trace) (n : ℕ)
-    (col : ℕ) (bound : Shape → ℕ) (note : Note) (may : May) (told : Shape → ℕ → Type 0) (low : col < STRIDE) (rows : (shape : Shape) → bound shape ≤ rows_of shape)
+    (col : ℕ) (bound : Shape → ℕ) (note : Note) (may : May) (told : Told) (low : col < STRIDE) (rows : (shape : Shape) → bound shape ≤ rows_of shape)
     (quiet : LeavesSlots note)
     (keep : KeepsRule col bound note may told)
     (shape : Shape) (same : key.shape ≡ shape) (lt : n < bound shape) (i : ℕ) (at : i ≡ word_at n col) where

@@ -15,13 +15,17 @@ Note = ℕ → List Rec → ℕ → ℕ → ℕ → Rec
 abbrev pub May : Type 1
 May = Shape → ℕ → List Rec → ℕ → ℕ → ℕ → Type 0
 
+-- what is known of the word found, by the seat, its trace before the step, and the number
+abbrev pub Told : Type 1
+Told = Shape → ℕ → List Rec → ℕ → ℕ → Type 0
+
 -- it takes no slot and gives none
 abbrev pub LeavesSlots : Note → Type 0
 LeavesSlots note = (s : ℕ) (trace : List Rec) (n y x : ℕ) → IsQuiet (note s trace n y x) trace
 
 -- the rule holds after it, and this is told of the word found
-abbrev pub KeepsRule : ℕ → (Shape → ℕ) → Note → May → (Shape → ℕ → Type 0) → Type 0
+abbrev pub KeepsRule : ℕ → (Shape → ℕ) → Note → May → Told → Type 0
 KeepsRule col bound note may told =
     (shape : Shape) (words : ℕ → ℕ → ℕ) (homes : Homes) (traces : ℕ → List Rec) (s n y : ℕ)
     → Kept shape words homes traces → s < shape.cpus + shape.agents → n < bound shape → may shape s (traces s) n (words n col) y
-    → Kept shape (put_at words n col y) homes (put traces s (note s (traces s) n y (words n col) ∷ traces s)) × told shape (words n col)
+    → Kept shape (put_at words n col y) homes (put traces s (note s (traces s) n y (words n col) ∷ traces s)) × told shape s (traces s) n (words n col)

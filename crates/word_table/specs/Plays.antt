@@ -50,14 +50,18 @@ module _ {B : Type 0} where
   lay m = (record m.0 { parts = map (λ (p : Part). record p { hand = 0 }) m.0.parts }, rest m.1)
 
   -- of a kind of step on one word: its column, its record, and what it tells of the word found
-  module _ (col : ℕ) (note : ℕ → List Rec → ℕ → ℕ → ℕ → Rec) (told : Shape → ℕ → Type 0) where
+  module _ (col : ℕ) (note : ℕ → List Rec → ℕ → ℕ → ℕ → Rec) (told : Shape → ℕ → List Rec → ℕ → ℕ → Type 0) where
     -- the record of the seat's step
     abbrev pub noted : Sat B → ℕ → ℕ → ℕ → Sat B
     noted m n y x = push (note (seat_in m.0.parts) (trace_in m.0.parts) n y x) m
 
+    -- what is told of the word x of n
+    abbrev pub Tells : Sat B → ℕ → ℕ → Type 0
+    Tells m n x = told m.0.known.shape (seat_in m.0.parts) (trace_in m.0.parts) n x
+
     -- the word became f of what it was
     abbrev pub became : (ℕ → ℕ) → Step (Slot B) → Sat B → ℕ → Sat B → Type 0
-    became f st m x m' = (n : ℕ) → st.word ≡ word_at n col → told m.0.known.shape x × (m' ≡ noted m n (f x) x)
+    became f st m x m' = (n : ℕ) → st.word ≡ word_at n col → Tells m n x × (m' ≡ noted m n (f x) x)
 
     abbrev pub loaded : Step (Slot B) → Sat B → ℕ → Sat B → Type 0
     loaded = became (λ x. x)
@@ -71,7 +75,7 @@ module _ {B : Type 0} where
 
     abbrev pub tried : Step (Slot B) → Sat B → ℕ → Sat B → Type 0
     tried st m x m' =
-        (n : ℕ) → st.word ≡ word_at n col → (x ≡ st.first → told m.0.known.shape x × (m' ≡ noted m n st.second x)) × (x ≢ st.first → m' ≡ m)
+        (n : ℕ) → st.word ≡ word_at n col → (x ≡ st.first → Tells m n x × (m' ≡ noted m n st.second x)) × (x ≢ st.first → m' ≡ m)
 
   -- the seat has the value of n in its hand, of which this is told
   abbrev pub Takes : Sort → ℕ → Sat B → Sat B → Type 0

@@ -2,11 +2,12 @@
 ghost use Rattle.std.specs.Prelude.{◌≡◌, ℕ, ◌<◌, ◌≤◌};
 ghost use Rattle.handoff_data.specs.declared.shape.Shape.{Shape};
 ghost use Rattle.word_steps.specs.Words.{STRIDE};
-ghost use Rattle.word_table.specs.Kinds.{Note, May, LeavesSlots, KeepsRule};
+ghost use Rattle.word_table.specs.Kinds.{Note, May, Told, LeavesSlots, KeepsRule};
 ghost use Rattle.word_table.specs.Layout.{rows_of};
 
-/// A kind of step on one word of a number's, in one column. In `note` and `may` stand the seat, its trace, the number,
-/// and then in `note` the word after and the word found, in `may` the word found and the word after.
+/// A kind of step on one word of a number's, in one column. In `note`, `may` and `told` stand the seat, its trace as it
+/// was, the number, and then in `note` the word after and the word found, in `may` the word found and the word after, in
+/// `told` the word found.
 pub trait Kind {
     ghost col: { ℕ };
     // The numbers are below it: tasks, processors, conditions or seats.
@@ -16,7 +17,7 @@ pub trait Kind {
     // When it may be made.
     ghost may: { May };
     // What is known of the word found.
-    ghost told: { Shape → ℕ → Type 0 };
+    ghost told: { Told };
 
     /// The column of its word.
     fn column() -> usize

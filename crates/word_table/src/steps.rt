@@ -29,7 +29,7 @@ pub fn load<B: Kept, K: Kind>(words: &Words<B>, token: &mut Token, n: u32) -> u6
     requires may { (x : ℕ) → K.may words.now.shape token.old.seat token.old.trace n x x }
     ensures same { IsSame token.old token.new }
     ensures trace { token.new.trace ≡ K.note token.old.seat token.old.trace n result result ∷ token.old.trace }
-    ensures told { K.told words.now.shape result }
+    ensures told { K.told words.now.shape token.old.seat token.old.trace n result }
 {
     let mut seat: Seat<Slot<B>, View> = mem::replace(&mut token.badge, Badge::blank()).into_seat();
     let found = words
@@ -70,7 +70,7 @@ pub fn exchange<B: Kept, K: Kind>(
     requires may { K.may words.now.shape token.old.seat token.old.trace n old new }
     ensures same { IsSame token.old token.new }
     ensures hit { result ≡ old → token.new.trace ≡ K.note token.old.seat token.old.trace n new old ∷ token.old.trace }
-    ensures told { result ≡ old → K.told words.now.shape old }
+    ensures told { result ≡ old → K.told words.now.shape token.old.seat token.old.trace n old }
     ensures miss { result ≢ old → token.new.trace ≡ token.old.trace }
 {
     let mut seat: Seat<Slot<B>, View> = mem::replace(&mut token.badge, Badge::blank()).into_seat();
@@ -89,7 +89,7 @@ pub fn fetch_add<B: Kept, K: Kind>(words: &Words<B>, token: &mut Token, n: u32) 
     requires may { (x : ℕ) → K.may words.now.shape token.old.seat token.old.trace n x ((x + 1) % 2 ^ 64) }
     ensures same { IsSame token.old token.new }
     ensures trace { token.new.trace ≡ K.note token.old.seat token.old.trace n ((result + 1) % 2 ^ 64) result ∷ token.old.trace }
-    ensures told { K.told words.now.shape result }
+    ensures told { K.told words.now.shape token.old.seat token.old.trace n result }
 {
     let mut seat: Seat<Slot<B>, View> = mem::replace(&mut token.badge, Badge::blank()).into_seat();
     let found = words

@@ -116,6 +116,7 @@ returns-clause-did g c =
       did = did;
       off = ap (λ (z : List Rec). saw_off z t) did ∙ off_seen s t old (Some left) m c.requires.unstored;
       number = ap (λ (z : List Rec). number_read z t) did ∙ off_number s t old (Some left) m;
+      changed = c.await_off-m.ensures.changed;
     }
 
 -- the seat's current task stays where a queue is given as it was taken

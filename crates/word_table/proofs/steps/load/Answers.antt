@@ -1,5 +1,6 @@
 use Rattle.std.proofs.Common.{rules, arith, subst, ap, ◌∙◌, ◌+◌, ◌*◌, ◌<◌, ◌∷◌}
 use Rattle.word_table.specs.Layout.{rows_of}
+use Rattle.word_table.specs.Plays.{seat_in, trace_in}
 use Rattle.word_table.proofs.Opened.{in_table, known_by, opened, closing, noted_from}
 use Rattle.word_table.proofs.Ways.{become_may}
 use Rattle.word_table.proofs.steps.load.Goals as goal
@@ -41,4 +42,6 @@ returns-clause-trace g c = let p = c.args.token.now in let s = c.into_seat-seat 
 pub returns-clause-told : goal.returns-clause-told
 returns-clause-told g c = let p = c.args.token.now in let s = c.into_seat-seat in let K = g.K.Kind in
     let is = opened c.token.inside p c.replace.result.views s.result.me c.token.invariant c.token.view_is (ap (λ b. b.views) c.replace.ensures.value) s.ensures.2 s.ensures.3 in
-    subst (λ z. K.told z c.load-found.result) (ap (λ m. m.0.known.shape) is ∙ c.requires.of.same_shape) (c.load-found.ensures.2 c.args.n (ap (λ z. 64 * c.args.n + z) c.column.ensures)).0
+    subst (λ z. K.told z p.seat p.trace c.args.n c.load-found.result) c.requires.of.same_shape
+    (subst (λ m. K.told m.0.known.shape (seat_in m.0.parts) (trace_in m.0.parts) c.args.n c.load-found.result) is
+    (c.load-found.ensures.2 c.args.n (ap (λ z. 64 * c.args.n + z) c.column.ensures)).0)
