@@ -32,52 +32,122 @@ passed_if false t h k u e = e
 module _ (old : List Rec) where
   pub none_apart : IsApart old old
   none_apart = record {
-    waits = refl; works = refl; body = refl; ended = refl; stays = refl; owes = refl; retaken = refl; passed = λ k u e. e;
+    waits = refl;
+    works = refl;
+    body = refl;
+    ended = refl;
+    stays = refl;
+    owes = refl;
+    retaken = refl;
+    passed = λ k u e. e;
   }
 
   pub took_task_apart : (t : ℕ) (v : TaskVal) → IsApart old (Took t (val.Task v) ∷ old)
   took_task_apart t v = record {
-    waits = refl; works = refl; body = refl; ended = refl; stays = refl; owes = refl; retaken = refl; passed = λ k u e. e;
+    waits = refl;
+    works = refl;
+    body = refl;
+    ended = refl;
+    stays = refl;
+    owes = refl;
+    retaken = refl;
+    passed = λ k u e. e;
   }
 
   pub gave_task_apart : (t : ℕ) (v w : TaskVal) → IsApart old (Gave t (val.Task v) (val.Task w) ∷ old)
   gave_task_apart t v w = record {
-    waits = refl; works = refl; body = refl; ended = refl; stays = refl; owes = refl; retaken = refl; passed = λ k u e. e;
+    waits = refl;
+    works = refl;
+    body = refl;
+    ended = refl;
+    stays = refl;
+    owes = refl;
+    retaken = refl;
+    passed = λ k u e. e;
   }
 
   pub took_queue_apart : (c : ℕ) (v : Queue) → IsApart old (Took c (val.Queue v) ∷ old)
   took_queue_apart c v = record {
-    waits = refl; works = refl; body = refl; ended = refl; stays = refl; owes = refl; retaken = refl; passed = λ k u e. e;
+    waits = refl;
+    works = refl;
+    body = refl;
+    ended = refl;
+    stays = refl;
+    owes = refl;
+    retaken = refl;
+    passed = λ k u e. e;
   }
 
   pub gave_queue_apart : (c : ℕ) (v w : Queue) → IsApart old (Gave c (val.Queue v) (val.Queue w) ∷ old)
   gave_queue_apart c v w = record {
-    waits = refl; works = refl; body = refl; ended = refl; stays = refl; owes = refl; retaken = refl; passed = λ k u e. e;
+    waits = refl;
+    works = refl;
+    body = refl;
+    ended = refl;
+    stays = refl;
+    owes = refl;
+    retaken = refl;
+    passed = λ k u e. e;
   }
 
   pub queued_apart : (t c on m : ℕ) → IsApart old (Queued t c on m ∷ old)
   queued_apart t c on m = record {
-    waits = refl; works = refl; body = refl; ended = refl; stays = refl; owes = refl; retaken = refl; passed = λ k u e. e;
+    waits = refl;
+    works = refl;
+    body = refl;
+    ended = refl;
+    stays = refl;
+    owes = refl;
+    retaken = refl;
+    passed = λ k u e. e;
   }
 
   pub rq_apart : (t on m : ℕ) → IsApart old (LoadedRq t on m ∷ old)
   rq_apart t on m = record {
-    waits = refl; works = refl; body = refl; ended = refl; stays = refl; owes = refl; retaken = refl; passed = λ k u e. e;
+    waits = refl;
+    works = refl;
+    body = refl;
+    ended = refl;
+    stays = refl;
+    owes = refl;
+    retaken = refl;
+    passed = λ k u e. e;
   }
 
   pub busy_apart : (t : ℕ) (busy : Bool) (n : ℕ) → IsApart old (LoadedBusy t busy n ∷ old)
   busy_apart t busy n = record {
-    waits = refl; works = refl; body = refl; ended = refl; stays = refl; owes = refl; retaken = refl; passed = λ k u e. e;
+    waits = refl;
+    works = refl;
+    body = refl;
+    ended = refl;
+    stays = refl;
+    owes = refl;
+    retaken = refl;
+    passed = λ k u e. e;
   }
 
   pub cpu_apart : (t c : ℕ) → IsApart old (LoadedCpu t c ∷ old)
   cpu_apart t c = record {
-    waits = refl; works = refl; body = refl; ended = refl; stays = refl; owes = refl; retaken = refl; passed = λ k u e. e;
+    waits = refl;
+    works = refl;
+    body = refl;
+    ended = refl;
+    stays = refl;
+    owes = refl;
+    retaken = refl;
+    passed = λ k u e. e;
   }
 
   pub store_cpu_apart : (t c : ℕ) → IsApart old (StoredCpu t c ∷ old)
   store_cpu_apart t c = record {
-    waits = refl; works = refl; body = refl; ended = refl; stays = refl; owes = refl; retaken = refl; passed = λ k u e. e;
+    waits = refl;
+    works = refl;
+    body = refl;
+    ended = refl;
+    stays = refl;
+    owes = refl;
+    retaken = refl;
+    passed = λ k u e. e;
   }
 
   pub claimed_apart : (t m : ℕ) → IsApart old (Claimed t m ∷ old)

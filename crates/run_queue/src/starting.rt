@@ -10,7 +10,9 @@ use crate::placing::place;
 use core_data::Rq;
 use handoff_data::{CpuNo, State, TaskNo};
 use std::sync::Wait;
-use task_words::{Kept, Pass, Wk, load_rq, load_state, lock_queue, lock_task, queue_task, store_running};
+use task_words::{
+    Kept, Pass, Wk, load_rq, load_state, lock_queue, lock_task, queue_task, store_running,
+};
 
 // Stores TASK_RUNNING, and puts the new task at the back of its processor's queue.
 fn queue_new<B: Kept, R: Wait>(rt: &R, wk: &Wk<B>, pass: &mut Pass, t: TaskNo, c: CpuNo)

@@ -63,14 +63,7 @@ pub fn wake<B: Kept, R: Wait>(rt: &R, wk: &Wk<B>, pass: &mut Pass, t: TaskNo, to
 }
 
 // Puts a claimed task at the back of its processor's queue, to run.
-fn queue_woken<B: Kept, R: Wait>(
-    rt: &R,
-    wk: &Wk<B>,
-    pass: &mut Pass,
-    t: TaskNo,
-    to: CpuNo,
-    m: u64,
-)
+fn queue_woken<B: Kept, R: Wait>(rt: &R, wk: &Wk<B>, pass: &mut Pass, t: TaskNo, to: CpuNo, m: u64)
     requires of { IsOf wk.now pass.old }
     requires task { t < wk.now.shape.tasks }
     requires processor { to < wk.now.shape.cpus }
