@@ -72,7 +72,7 @@ pub fn finish<B: Kept, R: Wait>(rt: &R, wk: &Wk<B>, pass: &mut Pass, k: CondNo)
         unreachable!()
     };
     set_running(wk, pass);
-    let mut wait = lock_wait(rt, wk, pass, k);
-    wait.val.remove(t);
-    wait.give(wk, pass);
+    let mut left = lock_wait(rt, wk, pass, k);
+    left.val.remove(t);
+    left.give(wk, pass);
 }
