@@ -1,5 +1,5 @@
 -- A table has a row for each task, each processor and each condition.
-use Rattle.std.specs.Prelude.{◌≤◌, ℕ, ◌+◌, max}
+use Rattle.std.specs.Prelude.{◌≤◌, ◌+◌, max}
 use Rattle.std.proofs.Math.Nat.{le-max_left, le-max_right, le_trans}
 use Rattle.handoff_data.specs.declared.shape.Shape.{Shape}
 use Rattle.word_table.specs.Layout.{rows_of}

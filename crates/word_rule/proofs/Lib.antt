@@ -12,7 +12,6 @@ pub mod QueueLaws
 pub mod Quiet
 pub mod RunsKept
 pub mod StandingKept
-pub mod Stands
 pub mod StoreLaws
 pub mod Taken
 pub mod Uses

@@ -1,5 +1,5 @@
 -- What the value of a lock is known to be as it is taken.
-use Rattle.std.proofs.Common.{◌≡◌, ◌≢◌, ℕ, ◌<◌, ◌≤◌, ◌+◌, refl, ap, subst, inl, inr, List, arith}
+use Rattle.std.proofs.Common.{◌≡◌, ◌≢◌, ℕ, ◌<◌, ◌≤◌, refl, ap, subst, inl, inr, List, arith}
 use Rattle.std.specs.Prelude.{◌%◌, ◌==◌, ◌&&◌, Option, Some, None, unwrap_or, if◌then◌else◌}
 use Rattle.std.proofs.lemmas.Bool.Decides.{nat_tests}
 use Rattle.core_data.specs.Queue.{Queue, times_in}

@@ -1,6 +1,6 @@
 -- When a seat may make each kind of step: by its number s, its own trace, the word that the step finds, x, and the word
 -- that it leaves, y.
-use Rattle.std.specs.Prelude.{◌≡◌, ◌≢◌, ℕ, suc, ◌+◌, ◌*◌, ◌%◌, ◌/◌, ◌^◌, ◌<◌, ◌⊎◌, Bool, true, false, List, Option, Some, None, IsSome, unwrap_or}
+use Rattle.std.specs.Prelude.{◌≡◌, ◌≢◌, ℕ, suc, ◌+◌, ◌*◌, ◌%◌, ◌/◌, ◌^◌, ◌<◌, ◌⊎◌, Bool, true, false, List, Some, None, IsSome, unwrap_or}
 use Rattle.core_data.specs.Entries.{has_entry}
 use Rattle.core_data.specs.Queue.{Queue, times_in}
 use Rattle.core_data.specs.declared.values.TaskVal.{TaskVal}
@@ -12,12 +12,10 @@ use Rattle.core_kinds.specs.Locks.{IsKept}
 use Rattle.core_kinds.specs.Running.{MayLeave}
 use Rattle.core_kinds.specs.Steps.{is_sleep, dead, running}
 use Rattle.handoff_data.specs.declared.shape.Shape.{Shape}
-use Rattle.handoff_data.specs.declared.state.State.{State}
 use Rattle.word_rule.specs.Sorts.{Sort, OfTask, OfQueue, OfWorks, OfWait}
 use Rattle.word_rule.specs.Standing.{standing, may_run}
 use Rattle.word_steps.specs.Folds.{task_held, queue_held, works_held, wait_held, body_held, ended_known, current_task, stays_queued, task_to_clear, seen_state, is_matched_by, saw_off, is_claimed, saw_clear, has_stored, saw_idle, has_added, has_dropped, has_put, has_passed, has_own_stored, is_moving, number_read, last_reads, saw_queued}
 use Rattle.word_steps.specs.Records.{Rec}
-use Rattle.word_steps.specs.Words.{is_set}
 use Rattle.word_steps.specs.declared.val.Val.{Val}
 use Rattle.word_steps.specs.declared.val.Val.TheVariants as val
 

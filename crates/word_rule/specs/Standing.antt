@@ -1,5 +1,5 @@
 -- What a seat that holds a queue's lock knows of the tasks on that queue.
-use Rattle.std.specs.Prelude.{◌≡◌, ◌≢◌, ℕ, ◌+◌, ◌-◌, ◌%◌, ◌/◌, ◌≤◌, ◌==◌, ◌&&◌, ◌||◌, nat_lt, Bool, true, false, List, [], ◌∷◌, Option, Some, if◌then◌else◌, is_some}
+use Rattle.std.specs.Prelude.{◌≡◌, ℕ, ◌+◌, ◌-◌, ◌%◌, ◌/◌, ◌≤◌, ◌==◌, ◌&&◌, ◌||◌, nat_lt, Bool, true, false, List, [], ◌∷◌, Option, Some, if◌then◌else◌, is_some}
 use mathlib.Core.Bool.{not}
 use Rattle.core_data.specs.Queue.{times_in}
 use Rattle.core_data.specs.Table.{put}

@@ -1,4 +1,4 @@
-use Rattle.std.proofs.Common.{rules, arith, sym, ap, subst, ◌∙◌, ℕ, ◌<◌, ◌≡◌, ◌∷◌}
+use Rattle.std.proofs.Common.{rules, arith, sym, ap, subst, ◌∙◌, ℕ, ◌<◌, ◌∷◌}
 use Rattle.word_rule.specs.Sorts.{lock_of, IsOf}
 use Rattle.word_rule.specs.Told.{TakeTold}
 use Rattle.word_steps.specs.Records.{Took}
