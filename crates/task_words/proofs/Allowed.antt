@@ -1,21 +1,22 @@
 -- Each shape of what a seat did with a queue allows its give.
 use Rattle.std.proofs.Common.{◌≡◌, ℕ, ◌<◌, ◌≤◌, ◌+◌, ◌++◌, ◌∷◌, [], inl, inr, refl, sym, ap, subst, ◌∙◌, List, length, arith}
 use Rattle.std.specs.Prelude.{suc, ◌-◌, ◌/◌, ◌^◌, IsSome, unwrap_or, MatchOption, IfSome, ◌==◌, ◌&&◌, ◌⊎◌, Bool, true, false, Option, Some, None, if◌then◌else◌, is_some}
-use Rattle.std.proofs.lemmas.Bool.{cases_Bool}
+use Rattle.std.proofs.lemmas.Bool.{cases_Bool, cases_eq}
 use Rattle.std.proofs.lemmas.Bool.Decides.{nat_tests}
+use Rattle.std.specs.List.{filter}
 use Rattle.core_data.proofs.QueueLemmas.{times_in-push, times_in-cons}
-use Rattle.core_data.specs.Queue.{Queue, times_in}
+use Rattle.core_data.specs.Queue.{Queue, times_in, is_other}
 use Rattle.core_data.specs.declared.values.TaskVal.{TaskVal}
 use Rattle.core_gives.specs.Queues.{times, is_some_of}
 use Rattle.handoff_data.specs.declared.shape.Shape.{Shape}
 use Rattle.handoff_data.specs.declared.state.State.{State}
-use Rattle.task_words.specs.Gives.{is_quiet, unquiet, IsAsTaken, IsPut, IsWoken, IsPicked, IsPutBack, IsAsleep, HasRoomFor, IsJustTaken, IsQueuedUnder}
+use Rattle.task_words.specs.Gives.{is_quiet, unquiet, IsAsTaken, IsPut, IsWoken, IsPicked, IsPutBack, IsAsleep, IsMoved, HasRoomFor, IsJustTaken, IsQueuedUnder}
 use Rattle.core_kinds.specs.Steps.{is_sleep, dead, running}
 use Rattle.task_words.specs.States.{IsOwnStore}
-use Rattle.task_words.specs.Queues.{MayQueueHere}
-use Rattle.word_rule.proofs.Uses.{gives_same, gives_put, gives_woken, gives_picked, gives_back, gives_asleep, IsPushed}
+use Rattle.task_words.specs.Queues.{MayQueueHere, MayMoveHere}
+use Rattle.word_rule.proofs.Uses.{gives_same, gives_put, gives_woken, gives_moved, gives_picked, gives_back, gives_asleep, IsPushed}
 use Rattle.word_rule.proofs.Possible.{value_of}
-use Rattle.word_rule.specs.May.{MayGiveQueueVal, MayGiveTaskVal, MaySetBusyWord, MayQueueWord, MayOwnWord, next_busy, next_rq}
+use Rattle.word_rule.specs.May.{MayGiveQueueVal, MayGiveTaskVal, MaySetBusyWord, MayQueueWord, MayMoveWord, MayOwnWord, next_busy, next_rq}
 use Rattle.word_rule.specs.Standing.{may_run, is_runnable}
 use Rattle.word_steps.specs.Folds.{put_both, has_put, current_task, stays_queued, queue_held, number_read, task_to_clear, task_held, ended_known}
 use Rattle.word_steps.specs.Records.{Rec, Took, Gave, OutBody, HomeBody, Queued, Dequeued, Moved, SetBusy, ClearedBusy, StoredOwn, Claimed, Released, LoadedState, LoadedRq, LoadedBusy, LoadedCpu, StoredCpu, Bumped, LoadedCond}
@@ -27,6 +28,19 @@ pushed xs t u = let more = times_in-push xs t u in grind (arith, nat_tests, more
 
 fronted : (xs : List ℕ) (t : ℕ) → IsPushed xs (t ∷ xs) t
 fronted xs t u = let more = times_in-cons t xs u in grind (arith, nat_tests, more)
+
+-- t, which stands once in a list, taken out
+times_without : (t : ℕ) (xs : List ℕ) (u : ℕ) → times_in (filter (is_other t) xs) u ≡ (if u == t then 0 else times_in xs u)
+times_without t [] u = grind (arith, nat_tests)
+times_without t (x ∷ xs) u =
+    let rest = times_without t xs u in let all = times_in-cons x xs u in
+    let others = times_in-cons x (filter (is_other t) xs) u in grind (arith, nat_tests, rest, all, others)
+
+pulled : (xs : List ℕ) (t : ℕ) → times_in xs t ≡ 1 → IsPushed (filter (is_other t) xs) xs t
+pulled xs t once u = let less = times_without t xs u in elim (cases_eq u t) [
+  | inl same ↦ (let one : times_in xs u ≡ 1 = ap (times_in xs) same ∙ once in grind (arith, nat_tests, less, same, one))
+  | inr apart ↦ grind (arith, nat_tests, less, apart)
+]
 
 -- a task in `cur` doesn't wait
 unwaiting : (v : Queue) (t : ℕ) → times v t ≤ 1 → v.cur ≡ Some t → times_in v.waiting t ≡ 0
@@ -135,6 +149,13 @@ module _ (shape : Shape) (s : ℕ) (c : ℕ) where
       (subst (λ (q : Queue). IsPushed x.v.waiting q.waiting x.t) (sym x.put) (pushed x.v.waiting x.t))
       (ap (λ (q : Queue). q.cur) x.put) (ap (λ (q : Queue). q.left) x.put))
 
+  pub moved_gives : (trace : List Rec) (given : Queue) → IsMoved shape s trace c given → MayGiveQueueVal s trace shape c given
+  moved_gives trace given x =
+      subst (λ (z : List Rec). MayGiveQueueVal s z shape c given) (sym x.off.did)
+      (gives_moved shape s c x.v x.off.rs x.off.told x.t x.off.n x.off.m given
+      (subst (λ (q : Queue). IsPushed q.waiting x.v.waiting x.t) (sym x.rest) (pulled x.v.waiting x.t x.off.waiting))
+      (ap (λ (q : Queue). q.cur) x.rest) (ap (λ (q : Queue). q.left) x.rest))
+
 module _ (shape : Shape) (s : ℕ) (trace : List Rec) where
   pub picked_gives : (given : Queue) → IsPicked shape s trace given → MayGiveQueueVal s trace shape s given
   picked_gives given x =
@@ -213,6 +234,22 @@ ready_may s trace t x held ready none clear room = let out = value_of (queue_hel
 
 pub here_may : (s : ℕ) (trace : List Rec) (c t x : ℕ) → MayQueueHere trace c t → x / 4 < 2 ^ 60 → MayQueueWord s trace t x (next_rq x 1)
 here_may s trace c t x h room = record { after = refl; room = room; locked = h.locked; cpu = c; read = h.read; queue = h.queue; ready = h.ready }
+
+pub move_may : (s : ℕ) (trace : List Rec) (c t x : ℕ) → MayMoveHere s trace c t → x / 4 < 2 ^ 60 → MayMoveWord s trace t x (next_rq x 2)
+move_may s trace c t x h room = let out = value_of (queue_held trace c) h.queue in record {
+  after = refl;
+  room = room;
+  locked = h.locked;
+  cpu = c;
+  read = h.read;
+  taken = out.0;
+  queue = out.1;
+  waiting = subst (λ (o : Option Queue). IfSome o (λ taken. times_in taken.waiting t ≡ 1)) out.1 h.waiting;
+  unadded = h.unadded;
+  undropped = h.undropped;
+  idle = h.idle;
+  other = h.other;
+}
 
 pub own_store : (s : ℕ) (trace : List Rec) (state : State) → IsOwnStore s trace state → (t : ℕ) × ((x : ℕ) → MayOwnWord s trace t x state.0)
 own_store s trace state h = let out = value_of (current_task s trace) h.runs in (

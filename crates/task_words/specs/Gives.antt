@@ -1,7 +1,8 @@
 -- What a seat has done with a queue since it took the queue's lock, step by step: each shape of it allows the give. v is the
 -- queue as it was taken, and rs the trace before.
 use Rattle.std.specs.Prelude.{◌≡◌, ℕ, ◌<◌, ◌++◌, ◌∷◌, [], ◌⊎◌, Bool, true, false, List, Some, None, if◌then◌else◌}
-use Rattle.core_data.specs.Queue.{Queue}
+use Rattle.std.specs.List.{filter}
+use Rattle.core_data.specs.Queue.{Queue, times_in, is_other}
 use Rattle.core_data.specs.declared.values.TaskVal.{TaskVal}
 use Rattle.core_data.specs.declared.values.WaitEntry.{WaitEntry}
 use Rattle.core_gives.specs.Waits.{has_task}
@@ -12,7 +13,7 @@ use Rattle.word_rule.specs.May.{number_of}
 use Rattle.word_rule.specs.Standing.{is_runnable}
 use Rattle.word_rule.specs.Told.{TakenQueue, TakenWait, IsOff}
 use Rattle.word_steps.specs.Folds.{task_held, current_task, stays_queued, body_held, task_to_clear, is_claimed, is_moving}
-use Rattle.word_steps.specs.Records.{Rec, Took, Queued, Dequeued, SetBusy, StoredOwn, Released, LoadedState, LoadedRq, LoadedBusy, LoadedCpu, LoadedCond}
+use Rattle.word_steps.specs.Records.{Rec, Took, Queued, Dequeued, Moved, SetBusy, StoredOwn, Released, LoadedState, LoadedRq, LoadedBusy, LoadedCpu, LoadedCond}
 use Rattle.word_steps.specs.declared.val.Val.TheVariants as val
 
 -- loads, and TASK_RUNNING stored of another task, change nothing of a queue
@@ -65,6 +66,22 @@ module _ (shape : Shape) (s : ℕ) (trace : List Rec) (c : ℕ) where
     pub did : trace ≡ Released t ∷ Queued t c on m ∷ Took c (val.Queue v) ∷ rs
     pub told : TakenQueue shape s rs c v
     pub put : given ≡ record v { waiting = v.waiting ++ t ∷ [] }
+
+  -- t, which waits there once and was seen to run nowhere, was just taken off it to be moved
+  pub record IsMovedOff (t : ℕ) (now : Queue) : Type 0 where
+    pub n : ℕ
+    pub m : ℕ
+    pub rs : List Rec
+    pub did : trace ≡ Moved t c m ∷ LoadedBusy t false n ∷ Took c (val.Queue now) ∷ rs
+    pub told : TakenQueue shape s rs c now
+    pub waiting : times_in now.waiting t ≡ 1
+
+  -- .. and out of those who wait
+  pub record IsMoved (given : Queue) : Type 0 where
+    pub t : ℕ
+    pub v : Queue
+    pub off : IsMovedOff t v
+    pub rest : given ≡ record v { waiting = filter (is_other t) v.waiting }
 
 module _ (shape : Shape) (s : ℕ) (trace : List Rec) where
   -- the first that waited was picked from the seat's own queue

@@ -1,8 +1,10 @@
 //! Queues put and given after what a seat has done with them since it took their lock.
 ghost use Rattle.std.specs.Prelude.{◌≡◌, ◌++◌, ◌∷◌, [], ◌<◌, ◌≤◌, true, false, Some, None, ◌+◌, MatchOption, ◌==◌, IfSome, IsSome, unwrap_or};
+ghost use Rattle.std.specs.List.{filter};
+ghost use Rattle.core_data.specs.Queue.{is_other};
 ghost use Rattle.core_gives.specs.Waits.{has_task};
 ghost use Rattle.handoff_data.specs.declared.entry.Entry.TheVariants as entry;
-ghost use Rattle.task_words.specs.Gives.{HasRoomFor, IsAsTaken, IsPut, IsWoken, IsPicked, IsPutBack, IsAsleep, IsEntered, entered, IsJustTaken, IsQueuedUnder};
+ghost use Rattle.task_words.specs.Gives.{HasRoomFor, IsAsTaken, IsPut, IsWoken, IsPicked, IsPutBack, IsAsleep, IsMovedOff, IsMoved, IsEntered, entered, IsJustTaken, IsQueuedUnder};
 ghost use Rattle.task_words.specs.Views.{IsOf, IsSame, IsSameSeat, logged};
 ghost use Rattle.word_rule.specs.May.{IsPutHere};
 ghost use Rattle.word_rule.specs.Told.{TakenWait};
@@ -51,6 +53,16 @@ impl QueueGuard {
         ensures ready { IfSome result (λ t. may_run pass.now.seat pass.now.trace self.old.cpu t ≡ true) }
     {
         self.val.pop()
+    }
+
+    /// Takes a task out of those that wait, wherever it stands, which the seat has just taken off the queue to move it.
+    pub fn remove<B: Kept>(&mut self, wk: &Wk<B>, pass: &Pass, t: TaskNo)
+        requires of { IsOf wk.now pass.now }
+        requires moved { IsMovedOff pass.now.shape pass.now.seat pass.now.trace self.old.cpu t self.old.val }
+        ensures processor { self.new.cpu ≡ self.old.cpu }
+        ensures value { self.new.val ≡ record self.old.val { waiting = filter (is_other t) self.old.val.waiting } }
+    {
+        self.val.remove(t);
     }
 
     /// Makes a task the next of the seat's own queue that stands there and may run, and sets its busy word: it is the
@@ -112,6 +124,17 @@ impl QueueGuard {
         requires of { IsOf wk.now pass.old }
         requires processor { self.cpu < wk.now.shape.cpus }
         requires may { IsWoken pass.old.shape pass.old.seat pass.old.trace self.cpu self.val }
+        ensures same { IsSame pass.old pass.new }
+        ensures trace { pass.new.trace ≡ Gave self.cpu (val.Queue (unwrap_or (queue_held pass.old.trace self.cpu) self.val)) (val.Queue self.val) ∷ pass.old.trace }
+    {
+        self.give(wk, pass);
+    }
+
+    /// Gives the lock after a task was taken off the queue to be moved, and out of those that wait.
+    pub fn give_moved<B: Kept>(self, wk: &Wk<B>, pass: &mut Pass)
+        requires of { IsOf wk.now pass.old }
+        requires processor { self.cpu < wk.now.shape.cpus }
+        requires may { IsMoved pass.old.shape pass.old.seat pass.old.trace self.cpu self.val }
         ensures same { IsSame pass.old pass.new }
         ensures trace { pass.new.trace ≡ Gave self.cpu (val.Queue (unwrap_or (queue_held pass.old.trace self.cpu) self.val)) (val.Queue self.val) ∷ pass.old.trace }
     {

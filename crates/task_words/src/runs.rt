@@ -2,10 +2,10 @@
 ghost use Rattle.std.specs.Prelude.{◌≡◌, ℕ, ◌+◌, ◌/◌, ◌%◌, ◌^◌, ◌<◌, ◌∷◌, Some};
 ghost use Rattle.core_kinds.specs.Running.{queue_entry, dequeue_entry, is_dead};
 ghost use Rattle.handoff_data.specs.declared.entry.Entry.TheVariants as entry;
-ghost use Rattle.task_words.specs.Queues.{MayQueueHere};
+ghost use Rattle.task_words.specs.Queues.{MayQueueHere, MayMoveHere};
 ghost use Rattle.task_words.specs.Views.{IsOf, IsSameSeat, logged};
-ghost use Rattle.word_rule.specs.May.{cpu_read_of, MayQueueWord, MayDequeueWord, MayMoveWord, MaySetBusyWord, MayClearBusyWord, next_rq, next_busy};
-ghost use Rattle.word_steps.specs.Folds.{seen_state, last_reads};
+ghost use Rattle.word_rule.specs.May.{cpu_read_of, MayQueueWord, MayDequeueWord, MaySetBusyWord, MayClearBusyWord, next_rq, next_busy};
+ghost use Rattle.word_steps.specs.Folds.{seen_state};
 ghost use Rattle.word_table.specs.Views.{IsOf as IsTokenOf, IsSame as IsSameToken};
 ghost use Rattle.word_steps.specs.Records.{Queued, Dequeued, Moved, SetBusy, ClearedBusy};
 
@@ -160,12 +160,12 @@ pub fn move_task<B: Kept, R: Wait>(
 ) -> u64
     requires of { IsOf wk.now pass.old }
     requires task { t < wk.now.shape.tasks }
-    requires here { (last_reads pass.old.trace t).cpu ≡ Some queue.now.cpu }
-    requires may { (x : ℕ) → x / 4 < 2 ^ 60 → MayMoveWord pass.old.seat pass.old.trace t x (next_rq x 2) }
+    requires may { MayMoveHere pass.old.seat pass.old.trace queue.now.cpu t }
     requires spare { 0 < pass.old.turn.spare }
     ensures same { IsSameSeat pass.old pass.new }
     ensures trace { pass.new.trace ≡ Moved t queue.now.cpu result ∷ pass.old.trace }
     ensures turn { pass.new.turn ≡ logged (entry.Out t (result + 1) queue.now.cpu) pass.old.turn }
+    ensures room { result < 2 ^ 60 }
 {
     let m = change_rq::<B, MoveTask, R>(rt, wk, &mut pass.token, t, 2) / 4;
     pass.log(Entry::Out {

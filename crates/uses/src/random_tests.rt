@@ -4,6 +4,7 @@ ghost use Rattle.std.specs.List.{All};
 ghost use Rattle.task_words.specs.Views.{IsOf, IsSameSeat};
 ghost use Rattle.uses.specs.Between.{IsBetween, IsRunning};
 
+use crate::telling::tell;
 use crate::{pick, put_back, run, sleep, start, switch_out, wake};
 use handoff_data::{Journal, Journals, NoMemory, Shape, State, TaskNo};
 use journal_legal::{Verdict, legal};
@@ -11,7 +12,7 @@ use std::alloc::{AllocError, Global};
 use std::sync::Wait;
 use std::test::Fail;
 use std::thread::{Threads, map_vec};
-use task_words::{Kept, Pass, Turn, Wk, bump_cond, load_cond, set_state};
+use task_words::{Kept, Pass, Wk, bump_cond, load_cond, set_state};
 
 const TASKS: u32 = 6;
 
@@ -115,16 +116,6 @@ fn turn<B: Kept, R: Wait>(rt: &R, wk: &Wk<B>, pass: &mut Pass, cpus: u32, random
         }
         _ => cycle(rt, wk, pass, random),
     }
-}
-
-// Adds the entries of a turn to a journal.
-fn tell(turn: &Turn, journal: &mut Journal) -> Result<(), NoMemory> {
-    for i in 0..64 {
-        if let Some(entry) = turn.get(i) {
-            journal.push(entry)?;
-        }
-    }
-    Ok(())
 }
 
 // So many turns of a seat: its pass, its journal, and whether each turn ended as it has to.

@@ -53,6 +53,7 @@ pub fn start_new<B: Kept, R: Wait>(rt: &R, wk: &Wk<B>, pass: &mut Pass, t: TaskN
     ensures nothing { HoldsNothing pass.new.trace }
     ensures current { current_task pass.new.seat pass.new.trace ≡ current_task pass.old.seat pass.old.trace }
     ensures clear { task_to_clear pass.new.seat pass.new.trace ≡ task_to_clear pass.old.seat pass.old.trace }
+    ensures between { IsBetween pass.old → IsBetween pass.new }
 {
     let task = lock_task(rt, wk, pass, t);
     let seen = load_rq(wk, pass, t);
