@@ -1,0 +1,33 @@
+-- How the current task enters a wait queue, and leaves it.
+use Rattle.std.specs.Prelude.{◌≡◌, ℕ, ◌∷◌, Bool, List, Some, if◌then◌else◌}
+use Rattle.std.specs.List.{filter}
+use Rattle.core_data.specs.declared.values.WaitEntry.{WaitEntry}
+use Rattle.core_gives.specs.Waits.{has_task}
+use Rattle.core_kinds.specs.Steps.{running}
+use Rattle.handoff_data.specs.declared.state.State.{State}
+use Rattle.task_words.specs.Gives.{entered}
+use Rattle.word_steps.specs.Entries.{is_of_other}
+use Rattle.word_steps.specs.Folds.{current_task}
+use Rattle.word_steps.specs.Records.{Rec, Took, Gave, StoredOwn}
+use Rattle.word_steps.specs.declared.val.Val.TheVariants as val
+
+-- a wait queue with an entry of a task put in, where it had none of that task
+unfoldable pub with_entry : WaitEntry → List WaitEntry → List WaitEntry
+with_entry x v = if has_task v x.t then v else entered x v
+
+-- under the lock of k the current task's entry was put in, where it had none there, and then the state was stored
+pub record IsPrepared (k : ℕ) (exclusive : Bool) (state : State) (s : ℕ) (old new : List Rec) : Type 0 where
+  pub t : ℕ
+  pub v : List WaitEntry
+  pub current : current_task s old ≡ Some t
+  pub did : new
+      ≡ Gave k (val.Wait v) (val.Wait (with_entry (record { t = t; exclusive = exclusive }) v))
+      ∷ StoredOwn t state ∷ Took k (val.Wait v) ∷ old
+
+-- TASK_RUNNING was stored as the current task's state, and then under the lock of k each entry of it was taken out
+pub record IsFinished (k : ℕ) (s : ℕ) (old new : List Rec) : Type 0 where
+  pub t : ℕ
+  pub v : List WaitEntry
+  pub current : current_task s old ≡ Some t
+  pub did : new
+      ≡ Gave k (val.Wait v) (val.Wait (filter (is_of_other t) v)) ∷ Took k (val.Wait v) ∷ StoredOwn t running ∷ old

@@ -1,0 +1,11 @@
+//! Wait queues and their walks, after Linux's `kernel/sched/wait.c`.
+#![tactic(auto)]
+
+mod entering;
+mod law;
+mod meeting;
+mod walking;
+
+pub use entering::{finish, prepare};
+pub use law::{law_prepared, law_walked};
+pub use walking::{bump_and_wake, wake_all, wake_some};
