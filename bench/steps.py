@@ -1,7 +1,7 @@
 #!/usr/bin/env python3
-"""Measures nanoseconds of each step on the shared table beside the plain atomic operation, on one processor; and of a
-lock that many threads take and give, and of two threads at words that lie side by side: the least of several turns,
-which are short, so that some aren't interrupted.
+"""Measures nanoseconds of each step on the shared table beside the plain atomic operations that it makes, on one
+processor; and of a lock that many threads take and give, and of two threads at words that lie side by side: the least of
+several turns, which are short, so that some aren't interrupted.
 
 Usage: bench/steps.py [COUNT]     (default: 200000)
 The program must have been built: `rt run` in crates/bench_steps does it.
@@ -14,8 +14,10 @@ import sys
 
 TOP = os.path.dirname(os.path.dirname(os.path.abspath(__file__)))
 PROGRAM = os.path.join(TOP, "crates", "bench_steps", "out", "bench_steps")
-STEPS = ["load_state", "match_state", "load_rq", "load_busy", "load_cpu", "load_cond", "bump_cond", "lock_task",
-         "lock_queue", "lock_works", "lock_wait"]
+STEPS = ["load_state", "load_rq", "load_busy", "load_cpu", "load_cond", "match_state", "set_state", "set_running",
+         "store_running", "store_cpu", "bump_cond", "lock_task", "lock_queue", "lock_works", "lock_wait", "body", "turn"]
+# Made once with each task of many tables, whose making isn't measured.
+STARTS = ["start", "round"]
 SEATS = [1, 2, 4, 8, 16]
 TURNS = 40
 
@@ -48,6 +50,8 @@ def main():
     count = int(sys.argv[1]) if len(sys.argv) > 1 else 200_000
     for name in STEPS:
         step(name, count)
+    for name in STARTS:
+        step(name, count // 10)
     for seats in SEATS:
         shared(f"{seats} seats at one lock", ["crowd", 40 * count // seats, seats], 7, 40 * count)
     shared("two seats side by side", ["beside", 5 * count], 12, 10 * count)

@@ -1,35 +1,47 @@
 //! Steps and plain operations, with the time that each took.
 ghost use Rattle.std.specs.Prelude.{◌≡◌, ◌<◌};
-ghost use Rattle.word_table.specs.Views.{IsOf, IsSame};
 
-use crate::plain::{Plain, repeat_plain};
+use crate::own::{Body, Match, OwnStep, SetRunning, SetState, Turn, begin_own, repeat_own};
+use crate::placing::{Placing, Run, SetCpu, place_often};
+use crate::plain::{
+    OneAdd, OneBody, OneLoad, OneLock, OneRound, OneStart, OneStore, OneTurn, Plain, PlainWords,
+    repeat_plain,
+};
+use crate::starts::{Round, Start, Started, TASKS, start_all};
 use crate::step::{Step, repeat};
-use crate::steps::{Bump, Busy, Cond, Cpu, LoadState, Match, Queue, Rq, Task, WaitQueue, Works};
+use crate::steps::{Bump, Busy, Cond, Cpu, Queue, Rq, State, Task, WaitQueue, Works};
 use crate::table::small_table;
 use std::rt::Runtime;
 use std::sync::Wait;
-use std::sync::atomic::AtomicU64;
-use std::time::Instant;
+use std::time::{Duration, Instant};
 
-/// Nanoseconds of one step, and of the plain operation beside it.
+/// Nanoseconds of one step, and of the plain operations beside it.
 #[derive(Clone, Copy, Drop)]
 pub struct Took {
     pub step: f64,
     pub plain: f64,
 }
 
-const NAMES: [&str; 11] = [
+const NAMES: [&str; 19] = [
     "load_state",
-    "match_state",
     "load_rq",
     "load_busy",
     "load_cpu",
     "load_cond",
+    "match_state",
+    "set_state",
+    "set_running",
+    "store_running",
+    "store_cpu",
     "bump_cond",
     "lock_task",
     "lock_queue",
     "lock_works",
     "lock_wait",
+    "body",
+    "turn",
+    "start",
+    "round",
 ];
 
 /// Makes each step some times, and prints how many there are.
@@ -41,44 +53,129 @@ pub fn kinds<R: Runtime + AllocGlobal + Wait>(rt: &R) -> Option<()> {
     Some(())
 }
 
-/// Makes the step of this name so many times.
+/// Makes the step of this name at least so many times.
 pub fn pick<R: Runtime + AllocGlobal + Wait>(rt: &R, name: &str, count: u32) -> Option<Took> {
     match name {
-        "load_state" => time::<LoadState, R>(rt, Plain::Load, count),
-        "match_state" => time::<Match, R>(rt, Plain::Load, count),
-        "load_rq" => time::<Rq, R>(rt, Plain::Load, count),
-        "load_busy" => time::<Busy, R>(rt, Plain::Load, count),
-        "load_cpu" => time::<Cpu, R>(rt, Plain::Load, count),
-        "load_cond" => time::<Cond, R>(rt, Plain::Load, count),
-        "bump_cond" => time::<Bump, R>(rt, Plain::FetchAdd, count),
-        "lock_task" => time::<Task, R>(rt, Plain::ExchangeAndStore, count),
-        "lock_queue" => time::<Queue, R>(rt, Plain::ExchangeAndStore, count),
-        "lock_works" => time::<Works, R>(rt, Plain::ExchangeAndStore, count),
-        "lock_wait" => time::<WaitQueue, R>(rt, Plain::ExchangeAndStore, count),
+        "load_state" => time::<State, OneLoad, R>(rt, count),
+        "load_rq" => time::<Rq, OneLoad, R>(rt, count),
+        "load_busy" => time::<Busy, OneLoad, R>(rt, count),
+        "load_cpu" => time::<Cpu, OneLoad, R>(rt, count),
+        "load_cond" => time::<Cond, OneLoad, R>(rt, count),
+        "bump_cond" => time::<Bump, OneAdd, R>(rt, count),
+        "lock_task" => time::<Task, OneLock, R>(rt, count),
+        "lock_queue" => time::<Queue, OneLock, R>(rt, count),
+        "lock_works" => time::<Works, OneLock, R>(rt, count),
+        "lock_wait" => time::<WaitQueue, OneLock, R>(rt, count),
+        "match_state" => time_own::<Match, OneLoad, R>(rt, count, true),
+        "set_state" => time_own::<SetState, OneStore, R>(rt, count, false),
+        "set_running" => time_own::<SetRunning, OneStore, R>(rt, count, false),
+        "body" => time_own::<Body, OneBody, R>(rt, count, false),
+        "turn" => time_own::<Turn, OneTurn, R>(rt, count, false),
+        "store_running" => time_placing::<Run, OneStore, R>(rt, count),
+        "store_cpu" => time_placing::<SetCpu, OneStore, R>(rt, count),
+        "start" => time_starts::<Started, OneStart, R>(rt, count),
+        "round" => time_starts::<Round, OneRound, R>(rt, count),
         _ => None,
     }
 }
 
-// On a table of one processor, one task and one condition.
-fn time<S: Step, R: Runtime + AllocGlobal + Wait>(
-    rt: &R,
-    plain: Plain,
-    count: u32,
-) -> Option<Took> {
-    let Ok((words, mut tokens)) = small_table(rt.alloc(), 1) else {
+// Nanoseconds of one of so many.
+fn each(took: Duration, count: u32) -> f64 {
+    took.as_secs_f64() * 1e9 / f64::from(count)
+}
+
+fn time_plain<P: Plain, R: Runtime>(rt: &R, count: u32) -> Option<f64> {
+    let words = PlainWords::new();
+    let begun = Instant::now(rt).ok()?;
+    repeat_plain::<P>(&words, count);
+    Some(each(begun.elapsed(rt).ok()?, count))
+}
+
+// A step of a seat that holds nothing.
+fn time<S: Step, P: Plain, R: Runtime + AllocGlobal + Wait>(rt: &R, count: u32) -> Option<Took> {
+    let Ok((wk, mut passes)) = small_table(rt.alloc(), 1, 1) else {
         return None;
     };
-    let mut token = tokens.pop()?;
+    let mut pass = passes.pop()?;
     let begun = Instant::now(rt).ok()?;
-    repeat::<S, R>(rt, &words, &mut token, count);
-    let step = begun.elapsed(rt).ok()?;
-    let word = AtomicU64::new(0);
+    repeat::<S, R>(rt, &wk, &mut pass, count);
+    let step = each(begun.elapsed(rt).ok()?, count);
+    let plain = time_plain::<P, R>(rt, count)?;
+    Some(Took { step, plain })
+}
+
+// A step of a seat that runs a task, in TASK_INTERRUPTIBLE if it `dozes`.
+fn time_own<S: OwnStep, P: Plain, R: Runtime + AllocGlobal + Wait>(
+    rt: &R,
+    count: u32,
+    dozes: bool,
+) -> Option<Took> {
+    let Ok((wk, mut passes)) = small_table(rt.alloc(), 1, 1) else {
+        return None;
+    };
+    let mut pass = passes.pop()?;
+    if pass.seat() != 0 || !begin_own(rt, &wk, &mut pass, dozes) {
+        return None;
+    }
     let begun = Instant::now(rt).ok()?;
-    repeat_plain(plain, &word, count);
-    let plain = begun.elapsed(rt).ok()?;
-    let times = f64::from(count);
+    let done = repeat_own::<S, R>(rt, &wk, &mut pass, count);
+    let step = each(begun.elapsed(rt).ok()?, count);
+    let plain = time_plain::<P, R>(rt, count)?;
+    if done {
+        Some(Took { step, plain })
+    } else {
+        None
+    }
+}
+
+// A store of a seat that has the lock of a new task.
+fn time_placing<S: Placing, P: Plain, R: Runtime + AllocGlobal + Wait>(
+    rt: &R,
+    count: u32,
+) -> Option<Took> {
+    let Ok((wk, mut passes)) = small_table(rt.alloc(), 1, 1) else {
+        return None;
+    };
+    let mut pass = passes.pop()?;
+    let begun = Instant::now(rt).ok()?;
+    let done = place_often::<S, R>(rt, &wk, &mut pass, count);
+    let step = each(begun.elapsed(rt).ok()?, count);
+    let plain = time_plain::<P, R>(rt, count)?;
+    if done {
+        Some(Took { step, plain })
+    } else {
+        None
+    }
+}
+
+// What a task allows once, with all tasks of as many tables as it takes.
+fn time_starts<S: Start, P: Plain, R: Runtime + AllocGlobal + Wait>(
+    rt: &R,
+    count: u32,
+) -> Option<Took> {
+    let tables = count / TASKS + 1;
+    let mut step = 0.0;
+    for _ in 0..tables {
+        step += time_table::<S, R>(rt)?;
+    }
+    let plain = time_plain::<P, R>(rt, count)?;
     Some(Took {
-        step: step.as_secs_f64() * 1e9 / times,
-        plain: plain.as_secs_f64() * 1e9 / times,
+        step: step / f64::from(tables),
+        plain,
     })
+}
+
+// .. with all tasks of one table.
+fn time_table<S: Start, R: Runtime + AllocGlobal + Wait>(rt: &R) -> Option<f64> {
+    let Ok((wk, mut passes)) = small_table(rt.alloc(), 1, TASKS) else {
+        return None;
+    };
+    let mut pass = passes.pop()?;
+    if pass.seat() != 0 {
+        return None;
+    }
+    let begun = Instant::now(rt).ok()?;
+    let done = start_all::<S, R>(rt, &wk, &mut pass);
+    let took = begun.elapsed(rt).ok()?;
+    if done { Some(each(took, TASKS)) } else { None }
 }

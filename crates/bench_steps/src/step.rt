@@ -1,30 +1,30 @@
-//! A step that one thread can repeat.
-ghost use Rattle.std.specs.Prelude.{◌<◌};
-ghost use Rattle.word_table.specs.Views.{IsOf, IsSame};
+//! A step that a seat can repeat which holds nothing.
+ghost use Rattle.bench_steps.specs.Small.{IsSmall};
+ghost use Rattle.task_words.specs.Views.{IsOf, IsSame, IsSameSeat};
+ghost use Rattle.uses.specs.Holds.{HoldsNothing};
 
-use crate::table::Idle;
 use std::sync::Wait;
-use word_table::{Token, Words};
+use task_words::{Pass, Wk};
 
 /// A step, or some that leave the seat as it was, of the first task, processor and condition.
 pub trait Step {
-    fn once<R: Wait>(rt: &R, words: &Words<Idle>, token: &mut Token)
-        requires of { IsOf words.now token.old }
-        requires task { 0 < words.now.shape.tasks }
-        requires cpu { 0 < words.now.shape.cpus }
-        requires cond { 0 < words.now.shape.conds }
-        ensures { IsSame token.old token.new };
+    fn once<R: Wait>(rt: &R, wk: &Wk<()>, pass: &mut Pass)
+        requires of { IsOf wk.now pass.old }
+        requires small { IsSmall wk.now.shape }
+        requires nothing { HoldsNothing pass.old.trace }
+        ensures same { IsSame pass.old pass.new }
+        ensures nothing { HoldsNothing pass.new.trace };
 }
 
 /// Makes a step so many times.
-pub fn repeat<S: Step, R: Wait>(rt: &R, words: &Words<Idle>, token: &mut Token, count: u32)
-    requires of { IsOf words.now token.old }
-    requires task { 0 < words.now.shape.tasks }
-    requires cpu { 0 < words.now.shape.cpus }
-    requires cond { 0 < words.now.shape.conds }
-    ensures { IsSame token.old token.new }
+pub fn repeat<S: Step, R: Wait>(rt: &R, wk: &Wk<()>, pass: &mut Pass, count: u32)
+    requires of { IsOf wk.now pass.old }
+    requires small { IsSmall wk.now.shape }
+    requires nothing { HoldsNothing pass.old.trace }
+    ensures same { IsSame pass.old pass.new }
+    ensures nothing { HoldsNothing pass.new.trace }
 {
     for _ in 0..count {
-        S::once(rt, words, token);
+        S::once(rt, wk, pass);
     }
 }

@@ -1,114 +1,95 @@
-//! Each kind of step.
-ghost use Rattle.std.specs.Prelude.{◌<◌};
-ghost use Rattle.word_table.specs.Views.{IsOf, IsSame};
+//! Each kind of step that a seat can repeat which holds nothing.
+ghost use Rattle.bench_steps.specs.Small.{IsSmall};
+ghost use Rattle.task_words.specs.Views.{IsOf, IsSame, IsSameSeat};
+ghost use Rattle.uses.specs.Holds.{HoldsNothing};
 
 use crate::step::Step;
-use crate::table::Idle;
 use std::sync::Wait;
-use word_kinds::{
-    BumpCond, LoadBusy, LoadCond, LoadCpu, LoadRq, LoadState as LoadsState, MatchState, Normal,
-};
-use word_steps::Val;
-use word_table::{
-    Kind, Lock, QueueLock, TaskLock, Token, WaitLock, Words, WorksLock, fetch_add, give, load, take,
+use task_words::{
+    Pass, Wk, bump_cond, load_busy, load_cond, load_cpu, load_rq, load_state, lock_queue,
+    lock_task, lock_wait, lock_works,
 };
 
-pub struct LoadState;
+pub struct State;
 
-impl Step for LoadState {
-    fn once<R: Wait>(_rt: &R, words: &Words<Idle>, token: &mut Token) {
-        load::<Idle, LoadsState>(words, token, 0);
-    }
-}
-
-pub struct Match;
-
-impl Step for Match {
-    fn once<R: Wait>(_rt: &R, words: &Words<Idle>, token: &mut Token) {
-        load::<Idle, MatchState<Normal>>(words, token, 0);
+impl Step for State {
+    fn once<R: Wait>(_rt: &R, wk: &Wk<()>, pass: &mut Pass) {
+        load_state(wk, pass, 0);
     }
 }
 
 pub struct Rq;
 
 impl Step for Rq {
-    fn once<R: Wait>(_rt: &R, words: &Words<Idle>, token: &mut Token) {
-        load::<Idle, LoadRq>(words, token, 0);
+    fn once<R: Wait>(_rt: &R, wk: &Wk<()>, pass: &mut Pass) {
+        load_rq(wk, pass, 0);
     }
 }
 
 pub struct Busy;
 
 impl Step for Busy {
-    fn once<R: Wait>(_rt: &R, words: &Words<Idle>, token: &mut Token) {
-        load::<Idle, LoadBusy>(words, token, 0);
+    fn once<R: Wait>(_rt: &R, wk: &Wk<()>, pass: &mut Pass) {
+        load_busy(wk, pass, 0);
     }
 }
 
 pub struct Cpu;
 
 impl Step for Cpu {
-    fn once<R: Wait>(_rt: &R, words: &Words<Idle>, token: &mut Token) {
-        load::<Idle, LoadCpu>(words, token, 0);
+    fn once<R: Wait>(_rt: &R, wk: &Wk<()>, pass: &mut Pass) {
+        load_cpu(wk, pass, 0);
     }
 }
 
 pub struct Cond;
 
 impl Step for Cond {
-    fn once<R: Wait>(_rt: &R, words: &Words<Idle>, token: &mut Token) {
-        load::<Idle, LoadCond>(words, token, 0);
+    fn once<R: Wait>(_rt: &R, wk: &Wk<()>, pass: &mut Pass) {
+        load_cond(wk, pass, 0);
     }
 }
 
 pub struct Bump;
 
 impl Step for Bump {
-    fn once<R: Wait>(_rt: &R, words: &Words<Idle>, token: &mut Token) {
-        fetch_add::<Idle, BumpCond>(words, token, 0);
+    fn once<R: Wait>(_rt: &R, wk: &Wk<()>, pass: &mut Pass) {
+        bump_cond(wk, pass, 0);
     }
 }
 
 pub struct Task;
 
 impl Step for Task {
-    fn once<R: Wait>(rt: &R, words: &Words<Idle>, token: &mut Token) {
-        let Val::Task(task) = take::<Idle, TaskLock, R>(rt, words, token, 0) else {
-            unreachable!()
-        };
-        give::<Idle, TaskLock>(words, token, 0, Val::Task(task));
+    fn once<R: Wait>(rt: &R, wk: &Wk<()>, pass: &mut Pass) {
+        let task = lock_task(rt, wk, pass, 0);
+        task.give(wk, pass);
     }
 }
 
 pub struct Queue;
 
 impl Step for Queue {
-    fn once<R: Wait>(rt: &R, words: &Words<Idle>, token: &mut Token) {
-        let Val::Queue(queue) = take::<Idle, QueueLock, R>(rt, words, token, 0) else {
-            unreachable!()
-        };
-        give::<Idle, QueueLock>(words, token, 0, Val::Queue(queue));
+    fn once<R: Wait>(rt: &R, wk: &Wk<()>, pass: &mut Pass) {
+        let queue = lock_queue(rt, wk, pass, 0);
+        queue.give_as_taken(wk, pass);
     }
 }
 
 pub struct Works;
 
 impl Step for Works {
-    fn once<R: Wait>(rt: &R, words: &Words<Idle>, token: &mut Token) {
-        let Val::Works(works) = take::<Idle, WorksLock, R>(rt, words, token, 0) else {
-            unreachable!()
-        };
-        give::<Idle, WorksLock>(words, token, 0, Val::Works(works));
+    fn once<R: Wait>(rt: &R, wk: &Wk<()>, pass: &mut Pass) {
+        let works = lock_works(rt, wk, pass, 0);
+        works.give(wk, pass);
     }
 }
 
 pub struct WaitQueue;
 
 impl Step for WaitQueue {
-    fn once<R: Wait>(rt: &R, words: &Words<Idle>, token: &mut Token) {
-        let Val::Wait(wait) = take::<Idle, WaitLock, R>(rt, words, token, 0) else {
-            unreachable!()
-        };
-        give::<Idle, WaitLock>(words, token, 0, Val::Wait(wait));
+    fn once<R: Wait>(rt: &R, wk: &Wk<()>, pass: &mut Pass) {
+        let wait = lock_wait(rt, wk, pass, 0);
+        wait.give(wk, pass);
     }
 }

@@ -1,39 +1,32 @@
 //! A table to step on.
-ghost use Rattle.std.specs.Prelude.{◌≡◌, ◌≤◌, [], false, IfOk};
+ghost use Rattle.std.specs.Prelude.{◌≡◌, ◌<◌, ◌≤◌, IfOk};
 ghost use Rattle.std.specs.List.{All};
-ghost use Rattle.word_table.specs.Views.{IsOf};
+ghost use Rattle.bench_steps.specs.Small.{IsSmall};
+ghost use Rattle.task_words.specs.Views.{IsOf};
+ghost use Rattle.uses.specs.Between.{IsBetween};
 
 use handoff_data::{NoMemory, Shape};
 use std::alloc::Global;
-use word_table::{Kept, Token, Words};
+use task_words::{Pass, Wk};
 
-/// The body of a task that does nothing.
-#[derive(Drop)]
-pub struct Idle;
-
-impl Kept for Idle {
-    ghost lasting = { λ _. [] };
-
-    ghost ended = { λ _. false };
-}
-
-/// A table of so many processors, one task and one condition, with the tokens of its seats.
-pub fn small_table(alloc: Global, cpus: u32) -> Result<(Words<Idle>, Vec<Token>), NoMemory>
-    requires some { 1 ≤ cpus }
-    requires few { cpus ≤ 16 }
+/// A table of so many processors and tasks, and of one condition, with the passes of its seats.
+#[tactic(auto, using(uses::proofs::Begin::firsts_between))]
+pub fn small_table(alloc: Global, cpus: u32, tasks: u32) -> Result<(Wk<()>, Vec<Pass>), NoMemory>
+    requires cpus { (0 < cpus) × (cpus ≤ 16) }
+    requires tasks { (0 < tasks) × (tasks ≤ 200) }
     ensures of { IfOk result (λ r. All (IsOf r.0) r.1.items) }
-    ensures tasks { IfOk result (λ r. r.0.shape.tasks ≡ 1) }
+    ensures between { IfOk result (λ r. All IsBetween r.1.items) }
+    ensures small { IfOk result (λ r. IsSmall r.0.shape) }
+    ensures tasks { IfOk result (λ r. r.0.shape.tasks ≡ tasks) }
     ensures cpus { IfOk result (λ r. r.0.shape.cpus ≡ cpus) }
-    ensures conds { IfOk result (λ r. r.0.shape.conds ≡ 1) }
 {
-    let mut bodies = Vec::with_capacity(alloc, 1)?;
-    bodies.push_reserved(Idle);
     let shape = Shape {
         cpus,
         caches: 1,
-        tasks: 1,
+        tasks,
         conds: 1,
         agents: 0,
     };
-    Words::new(alloc, &shape, bodies)
+    let bodies = Vec::from_elem(alloc, (), tasks as usize)?;
+    Wk::new(alloc, &shape, bodies)
 }
