@@ -117,21 +117,22 @@ fn run_all<R: Wait>(
     Ok(false)
 }
 
-// A table of two processors whose tasks have two turns to run, and its passes.
+/// A table of two processors and one condition, whose four tasks have two turns to run, and its passes.
 #[tactic(auto, using(crate::proofs::Begin::firsts_between))]
-fn two_seats(alloc: Global) -> Result<(Wk<Turns>, Vec<Pass>), NoMemory>
+pub(crate) fn two_seats(alloc: Global) -> Result<(Wk<Turns>, Vec<Pass>), NoMemory>
     ensures of { IfOk result (λ r. All (IsOf r.0) r.1.items) }
     ensures between { IfOk result (λ r. All IsBetween r.1.items) }
     ensures seats { IfOk result (λ r. map (λ p. p.seat) r.1.items ≡ 0 ∷ 1 ∷ []) }
     ensures cpus { IfOk result (λ r. r.0.shape.cpus ≡ 2) }
     ensures agents { IfOk result (λ r. r.0.shape.agents ≡ 0) }
     ensures tasks { IfOk result (λ r. r.0.shape.tasks ≡ 4) }
+    ensures conditions { IfOk result (λ r. r.0.shape.conds ≡ 1) }
 {
     let shape = Shape {
         cpus: 2,
         caches: 1,
         tasks: TASKS,
-        conds: 0,
+        conds: 1,
         agents: 0,
     };
     let bodies = Vec::from_elem(alloc, Turns { left: 2 }, TASKS as usize)?;
@@ -188,8 +189,8 @@ fn pair(alloc: Global, first: Pass, second: Pass) -> Result<Vec<Pass>, NoMemory>
     Ok(passes)
 }
 
-// What is left of a table of two seats.
-fn close_both(
+/// What is left of a table of two seats.
+pub(crate) fn close_both(
     alloc: Global,
     wk: Wk<Turns>,
     first: Pass,

@@ -5,6 +5,8 @@ mod bodies;
 #[cfg(test)]
 mod death_tests;
 mod deaths;
+#[cfg(test)]
+mod each_step_tests;
 mod locks;
 mod moves;
 #[cfg(test)]
