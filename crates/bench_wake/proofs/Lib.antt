@@ -1,1 +1,1 @@
-mod Rested
+mod Settled

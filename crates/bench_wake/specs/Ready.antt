@@ -1,5 +1,6 @@
--- A seat that may start, pick and wake.
-use Rattle.std.specs.Prelude.{ℕ, ◌<◌}
+-- A seat that may start, pick and wake, and tables that it does it on.
+use Rattle.std.specs.Prelude.{◌≡◌, ℕ, ◌<◌}
+use Rattle.handoff_data.specs.declared.shape.Shape.{Shape}
 use Rattle.task_words.specs.Views.{PassView, IsOf}
 use Rattle.uses.specs.Between.{IsBetween}
 use Rattle.word_table.specs.Views.{WordsView}
@@ -9,3 +10,8 @@ pub record IsReady (wk : WordsView) (pass : PassView) : Type 0 where
   pub of : IsOf wk pass
   pub processor : pass.seat < wk.shape.cpus
   pub between : IsBetween pass
+
+-- there are six conditions, and ten tasks for each
+pub record IsRoom (shape : Shape) : Type 0 where
+  pub tasks : shape.tasks ≡ 60
+  pub conds : shape.conds ≡ 6

@@ -1,7 +1,7 @@
-//! How long a wake-up takes, beside the plain atomic operations that it makes.
+//! How long a wake-up takes, and a walk along a wait queue, beside the plain atomic operations that each makes.
 //!
 //! Usage: bench_wake [NAME COUNT]. With no words it wakes some tasks in each way and prints how many ways there are. With
-//! two it prints the nanoseconds of one wake-up and of its plain operations, over at least so many.
+//! two it prints the nanoseconds of one wake-up or walk and of its plain operations, over at least so many.
 #![tactic(auto)]
 
 mod calls;
@@ -9,9 +9,11 @@ mod measure;
 mod plain;
 mod queued;
 mod refused;
+mod rounds;
 mod runnable;
 mod table;
 mod took;
+mod walks;
 
 use crate::measure::{kinds, pick};
 use std::env;

@@ -1,9 +1,9 @@
-//! The plain atomic operations of each kind of wake-up, in their order, on words of their own. A lock taken is one
+//! The plain atomic operations of each kind of wake-up and walk, in their order, on words of their own. A lock taken is one
 //! compare-exchange, and a lock given one store.
 use std::sync::atomic::AtomicU64;
 use std::sync::atomic::Ordering::SeqCst;
 
-/// Words like those of one task and of the processor that it is on.
+/// Words like those of one task, of the processor that it is on, and of one condition.
 #[derive(Drop)]
 pub struct PlainWords {
     task_lock: AtomicU64,
@@ -12,6 +12,7 @@ pub struct PlainWords {
     busy: AtomicU64,
     cpu: AtomicU64,
     queue_lock: AtomicU64,
+    wait_lock: AtomicU64,
 }
 
 impl PlainWords {
@@ -23,16 +24,19 @@ impl PlainWords {
             busy: AtomicU64::new(0),
             cpu: AtomicU64::new(0),
             queue_lock: AtomicU64::new(0),
+            wait_lock: AtomicU64::new(0),
         }
     }
 }
 
-/// The operations of one wake-up.
+/// The operations of one wake-up, or of one walk.
 pub trait Plain {
     fn once(words: &PlainWords);
 }
 
-/// Makes them so many times.
+/// Makes them so many times. A call that stands alone: else the compiler sees that no other thread has the words, and
+/// leaves stores and loads out.
+#[inline(never)]
 pub fn repeat_plain<P: Plain>(words: &PlainWords, count: u32) {
     for _ in 0..count {
         P::once(words);
@@ -44,19 +48,7 @@ pub struct Queued;
 
 impl Plain for Queued {
     fn once(words: &PlainWords) {
-        lock(&words.task_lock);
-        words.state.load(SeqCst);
-        let seen = words.rq.load(SeqCst);
-        words.state.store(0x200, SeqCst);
-        words.busy.load(SeqCst);
-        words.cpu.load(SeqCst);
-        lock(&words.queue_lock);
-        let _ = words
-            .rq
-            .compare_exchange(seen, seen.wrapping_add(4), SeqCst, SeqCst);
-        words.state.store(0, SeqCst);
-        give(&words.queue_lock);
-        give(&words.task_lock);
+        queue(words);
     }
 }
 
@@ -86,6 +78,57 @@ impl Plain for Refused {
         words.state.load(SeqCst);
         give(&words.task_lock);
     }
+}
+
+/// Of a walk along a wait queue with no entry: a lock taken and given.
+pub struct EmptyWalk;
+
+impl Plain for EmptyWalk {
+    fn once(words: &PlainWords) {
+        walk(words, 0);
+    }
+}
+
+/// .. with one entry, of a task that is off every queue.
+pub struct SingleWalk;
+
+impl Plain for SingleWalk {
+    fn once(words: &PlainWords) {
+        walk(words, 1);
+    }
+}
+
+/// .. with ten.
+pub struct TenWalk;
+
+impl Plain for TenWalk {
+    fn once(words: &PlainWords) {
+        walk(words, 10);
+    }
+}
+
+fn walk(words: &PlainWords, entries: u32) {
+    lock(&words.wait_lock);
+    for _ in 0..entries {
+        queue(words);
+    }
+    give(&words.wait_lock);
+}
+
+fn queue(words: &PlainWords) {
+    lock(&words.task_lock);
+    words.state.load(SeqCst);
+    let seen = words.rq.load(SeqCst);
+    words.state.store(0x200, SeqCst);
+    words.busy.load(SeqCst);
+    words.cpu.load(SeqCst);
+    lock(&words.queue_lock);
+    let _ = words
+        .rq
+        .compare_exchange(seen, seen.wrapping_add(4), SeqCst, SeqCst);
+    words.state.store(0, SeqCst);
+    give(&words.queue_lock);
+    give(&words.task_lock);
 }
 
 // Takes a lock, that is free.

@@ -16,7 +16,7 @@ use ttwu_core::Wake;
 
 /// A new task is woken so many times.
 pub fn refused<R: Runtime + AllocGlobal + Wait>(rt: &R, count: u32) -> Option<Took> {
-    let (wk, mut pass) = lone_table(rt.alloc(), 1)?;
+    let (wk, mut pass) = lone_table(rt.alloc(), 1, 0)?;
     let begun = Instant::now(rt).ok()?;
     let done = repeat(rt, &wk, &mut pass, count);
     let wake = each(begun.elapsed(rt).ok()?, count);

@@ -18,7 +18,7 @@ use uses::pick;
 /// A task that another seat runs is woken so many times, each time after it has stored TASK_INTERRUPTIBLE as its own
 /// state. The time of as many of these stores alone is taken off.
 pub fn runnable<R: Runtime + AllocGlobal + Wait>(rt: &R, count: u32) -> Option<Took> {
-    let Ok((wk, mut passes)) = new_table(rt.alloc(), 2, 1) else {
+    let Ok((wk, mut passes)) = new_table(rt.alloc(), 2, 1, 0) else {
         return None;
     };
     let mut sleeper = passes.pop()?;

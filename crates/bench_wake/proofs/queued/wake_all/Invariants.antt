@@ -1,6 +1,5 @@
 use Rattle.bench_wake.proofs.queued.wake_all.Given as goal
-use Rattle.task_words.specs.Views.{IsSameSeat}
-use Rattle.uses.specs.Between.{IsBetween}
+use Rattle.bench_wake.specs.Ready.{IsReady}
 
 abbrev pub invariant-loop-t : goal.invariant-loop-t
-invariant-loop-t g l = record { same : IsSameSeat l.initial.pass l.pass; between : IsBetween l.pass }
+invariant-loop-t g l = IsReady l.wk l.pass

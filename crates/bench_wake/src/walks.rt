@@ -1,0 +1,108 @@
+//! Walks along wait queues, each of whose entries is of a task that sleeps.
+ghost use Rattle.std.specs.Prelude.{◌≡◌, ◌<◌, true};
+ghost use Rattle.bench_wake.specs.Ready.{IsReady, IsRoom};
+ghost use Rattle.task_words.specs.Views.{IsOf, IsSameSeat};
+ghost use Rattle.uses.specs.Between.{IsBetween};
+
+use crate::calls::walk_one;
+use crate::rounds::{CONDS, Round};
+use handoff_data::CondNo;
+use std::sync::Wait;
+use task_words::{Pass, Wk, load_cond};
+use uses::{pick, sleep};
+
+/// No task sleeps at any condition.
+pub struct Empty;
+
+impl Round for Empty {
+    fn sleep<R: Wait>(rt: &R, wk: &Wk<()>, pass: &mut Pass) -> bool {
+        fill_all(rt, wk, pass, 0)
+    }
+
+    fn wake<R: Wait>(rt: &R, wk: &Wk<()>, pass: &mut Pass) -> bool {
+        walk_all(rt, wk, pass, 0)
+    }
+}
+
+/// One task sleeps at each condition.
+pub struct Single;
+
+impl Round for Single {
+    fn sleep<R: Wait>(rt: &R, wk: &Wk<()>, pass: &mut Pass) -> bool {
+        fill_all(rt, wk, pass, 1)
+    }
+
+    fn wake<R: Wait>(rt: &R, wk: &Wk<()>, pass: &mut Pass) -> bool {
+        walk_all(rt, wk, pass, 1)
+    }
+}
+
+/// Ten tasks sleep at each condition.
+pub struct Ten;
+
+impl Round for Ten {
+    fn sleep<R: Wait>(rt: &R, wk: &Wk<()>, pass: &mut Pass) -> bool {
+        fill_all(rt, wk, pass, 10)
+    }
+
+    fn wake<R: Wait>(rt: &R, wk: &Wk<()>, pass: &mut Pass) -> bool {
+        walk_all(rt, wk, pass, 10)
+    }
+}
+
+// Whether so many tasks were put to sleep at each condition.
+fn fill_all<R: Wait>(rt: &R, wk: &Wk<()>, pass: &mut Pass, entries: u32) -> bool
+    requires room { IsRoom wk.now.shape }
+    requires ready { IsReady wk.now pass.old }
+    ensures ready { result ≡ true → IsReady wk.now pass.new }
+{
+    for k in 0..CONDS {
+        if !fill_one(rt, wk, pass, k, entries) {
+            return false;
+        }
+    }
+    true
+}
+
+fn fill_one<R: Wait>(rt: &R, wk: &Wk<()>, pass: &mut Pass, k: CondNo, entries: u32) -> bool
+    requires condition { k < wk.now.shape.conds }
+    requires ready { IsReady wk.now pass.old }
+    ensures ready { result ≡ true → IsReady wk.now pass.new }
+{
+    for _ in 0..entries {
+        if !sleep_at(rt, wk, pass, k) {
+            return false;
+        }
+    }
+    true
+}
+
+fn sleep_at<R: Wait>(rt: &R, wk: &Wk<()>, pass: &mut Pass, k: CondNo) -> bool
+    requires condition { k < wk.now.shape.conds }
+    requires ready { IsReady wk.now pass.old }
+    ensures ready { result ≡ true → IsReady wk.now pass.new }
+{
+    pass.clear_turn();
+    let Some(t) = pick(rt, wk, pass) else {
+        return false;
+    };
+    let seen = load_cond(wk, pass, k);
+    if pass.spare() < 2 {
+        return false;
+    }
+    sleep(rt, wk, pass, t, k, seen)
+}
+
+// Whether a walk at each condition woke so many tasks.
+fn walk_all<R: Wait>(rt: &R, wk: &Wk<()>, pass: &mut Pass, entries: u32) -> bool
+    requires room { IsRoom wk.now.shape }
+    requires ready { IsReady wk.now pass.old }
+    ensures ready { IsReady wk.now pass.new }
+{
+    for k in 0..CONDS {
+        if walk_one(rt, wk, pass, k) != entries {
+            return false;
+        }
+    }
+    true
+}
