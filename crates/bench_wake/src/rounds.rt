@@ -35,8 +35,8 @@ pub trait Round {
         ensures ready { result ≡ true → IsReady wk.now pass.new };
 }
 
-/// Rounds with at least `count` of what is measured, of which a round has so many `times`. The time of a look at the clock
-/// is taken off.
+/// Rounds with at least `count` of what is measured, of which a round has so many `times`. The time of the looks at the
+/// clock is taken off.
 pub fn rounds<S: Round, P: Plain, R: Runtime + AllocGlobal + Wait>(
     rt: &R,
     count: u32,
@@ -49,7 +49,8 @@ pub fn rounds<S: Round, P: Plain, R: Runtime + AllocGlobal + Wait>(
         return None;
     }
     let rounds = (count / times).saturating_add(1);
-    let took = repeat::<S, R>(rt, &wk, &mut pass, rounds)?;
+    let clock = time_clock(rt)?;
+    let took = repeat::<S, R>(rt, &wk, &mut pass, rounds)? - clock * f64::from(rounds);
     let plain = time_plain::<P, R>(rt, count)?;
     Some(Took {
         wake: took / (f64::from(rounds) * f64::from(times)),
@@ -99,9 +100,8 @@ fn time_round<S: Round, R: Runtime + Wait>(rt: &R, wk: &Wk<()>, pass: &mut Pass)
     if !S::sleep(rt, wk, pass) {
         return None;
     }
-    let clock = time_clock(rt)?;
     let begun = Instant::now(rt).ok()?;
     let done = S::wake(rt, wk, pass);
     let took = each(begun.elapsed(rt).ok()?, 1);
-    if done { Some(took - clock) } else { None }
+    if done { Some(took) } else { None }
 }

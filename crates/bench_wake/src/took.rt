@@ -25,8 +25,19 @@ pub fn time_plain<P: Plain, R: Runtime>(rt: &R, count: u32) -> Option<f64> {
     Some(each(begun.elapsed(rt).ok()?, count))
 }
 
-/// Nanoseconds between two looks at the clock, one after the other.
+/// Nanoseconds between two looks at the clock, one after the other: the least of a hundred.
 pub fn time_clock<R: Runtime>(rt: &R) -> Option<f64> {
+    let mut least = time_looks(rt)?;
+    for _ in 1..100 {
+        let looks = time_looks(rt)?;
+        if looks < least {
+            least = looks;
+        }
+    }
+    Some(least)
+}
+
+fn time_looks<R: Runtime>(rt: &R) -> Option<f64> {
     let begun = Instant::now(rt).ok()?;
     Some(each(begun.elapsed(rt).ok()?, 1))
 }
