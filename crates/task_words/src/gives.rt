@@ -82,7 +82,7 @@ impl QueueGuard {
         ensures trace { pass.new.trace ≡ SetBusy t pass.old.seat result ∷ pass.old.trace }
         ensures turn { pass.new.turn ≡ logged (entry.Pick t (result + 1) pass.old.seat) pass.old.turn }
     {
-        self.val.cur = Some(t);
+        self.val.set_cur(Some(t));
         set_busy(rt, wk, pass, self, t)
     }
 

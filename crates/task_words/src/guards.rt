@@ -1,19 +1,19 @@
 //! What locks guard, while they are held.
 ghost use Rattle.std.specs.Prelude.{◌≡◌};
 
-use core_data::{QueueVal, TaskVal, WorksVal};
+use core_data::WorksVal;
 use handoff_data::{CondNo, CpuNo, TaskNo};
-use word_steps::WaitQueue;
+use word_steps::{QueueBox, TaskBox, WaitQueue};
 
 /// What a task's lock guards, while the lock is held. It has no `Drop`, so it ends in `give`.
 pub struct TaskGuard {
-    pub val: TaskVal,
+    pub val: TaskBox,
     pub(crate) task: TaskNo,
 }
 
 /// What the lock of a processor's queue guards, while it is held; it ends in `give`.
 pub struct QueueGuard {
-    pub val: QueueVal,
+    pub val: QueueBox,
     pub(crate) cpu: CpuNo,
 }
 

@@ -103,7 +103,7 @@ impl QueueGuard {
         ensures trace { pass.new.trace ≡ Gave self.cpu (val.Queue (unwrap_or (queue_held pass.old.trace self.cpu) self.val)) (val.Queue self.val) ∷ pass.old.trace }
     {
         let QueueGuard { val, cpu } = self;
-        let gives_up = pass.token.seat() == cpu && val.cur.is_none();
+        let gives_up = pass.token.seat() == cpu && val.get().cur.is_none();
         give::<B, QueueLock>(&wk.words, &mut pass.token, cpu, Val::Queue(val));
         if gives_up {
             pass.current = None;

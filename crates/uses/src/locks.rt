@@ -27,7 +27,7 @@ pub fn copy_wake_cpu<B: Kept, R: Wait>(
 {
     let source = lock_task(rt, wk, pass, from);
     let mut target = lock_task(rt, wk, pass, to);
-    target.val.wake_cpu = source.val.wake_cpu;
+    target.val.set_wake_cpu(source.val.get().wake_cpu);
     source.give(wk, pass);
     target.give(wk, pass);
 }
@@ -50,9 +50,9 @@ pub fn swap_wake_cpus<B: Kept, R: Wait>(
 {
     let mut first = lock_task(rt, wk, pass, one);
     let mut second = lock_task(rt, wk, pass, other);
-    let hint = first.val.wake_cpu;
-    first.val.wake_cpu = second.val.wake_cpu;
-    second.val.wake_cpu = hint;
+    let hint = first.val.get().wake_cpu;
+    first.val.set_wake_cpu(second.val.get().wake_cpu);
+    second.val.set_wake_cpu(hint);
     second.give(wk, pass);
     first.give(wk, pass);
 }

@@ -29,7 +29,7 @@ pub fn move_to<B: Kept, R: Wait>(rt: &R, wk: &Wk<B>, pass: &mut Pass, t: TaskNo,
     let task = lock_task(rt, wk, pass, t);
     let from = load_cpu(wk, pass, t);
     let mut queue = lock_queue(rt, wk, pass, from);
-    if load_busy(wk, pass, t).on || !queue.val.contains(t) {
+    if load_busy(wk, pass, t).on || !queue.val.get().contains(t) {
         queue.give_as_taken(wk, pass);
         task.give(wk, pass);
         return false;

@@ -89,7 +89,7 @@ pub fn pick<B: Kept, R: Wait>(rt: &R, wk: &Wk<B>, pass: &mut Pass) -> Option<Tas
 {
     let c = pass.seat();
     let mut queue = lock_queue(rt, wk, pass, c);
-    if queue.val.cur.is_some() {
+    if queue.val.get().cur.is_some() {
         queue.give_as_taken(wk, pass);
         return None;
     }
@@ -141,8 +141,8 @@ pub fn put_back<B: Kept, R: Wait>(rt: &R, wk: &Wk<B>, pass: &mut Pass, t: TaskNo
         return false;
     }
     queue.push(wk, pass, t);
-    queue.val.cur = None;
-    queue.val.left = Some(t);
+    queue.val.set_cur(None);
+    queue.val.set_left(Some(t));
     queue.give_put_back(wk, pass);
     clear_busy(wk, pass, t);
     true

@@ -73,8 +73,8 @@ pub fn switch_out<B: Kept, R: Wait>(rt: &R, wk: &Wk<B>, pass: &mut Pass, t: Task
         return false;
     }
     dequeue_task(rt, wk, pass, t, false);
-    queue.val.cur = None;
-    queue.val.left = Some(t);
+    queue.val.set_cur(None);
+    queue.val.set_left(Some(t));
     queue.give_asleep(wk, pass);
     clear_busy(wk, pass, t);
     true

@@ -2,8 +2,10 @@
 //! and the traces show, and that each kind of step is that core's step. It knows nothing of threads.
 #![tactic(auto)]
 
+mod boxes;
 mod val;
 mod wait;
 
+pub use boxes::{QueueBox, TaskBox};
 pub use val::Val;
 pub use wait::WaitQueue;

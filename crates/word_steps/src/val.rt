@@ -1,16 +1,17 @@
 //! The values that locks guard, in one type.
 
+use crate::boxes::{QueueBox, TaskBox};
 use crate::wait::WaitQueue;
-use core_data::{QueueVal, TaskVal, WorksVal};
+use core_data::WorksVal;
 
 /// The value that a lock guards; its kind is the lock's kind. A slot of the shared table and a record of a trace have
 /// such a value.
 #[derive(Debug, Drop)]
 pub enum Val {
     /// What a task's lock guards.
-    Task(TaskVal),
+    Task(TaskBox),
     /// What the lock of a processor's queue guards.
-    Queue(QueueVal),
+    Queue(QueueBox),
     /// What the lock of a processor's works guards.
     Works(WorksVal),
     /// What the lock of a condition's wait queue guards.

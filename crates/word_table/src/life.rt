@@ -21,11 +21,11 @@ use crate::token::Token;
 use crate::view::View;
 use crate::words::Words;
 use atomic_table::{Refused, Seat, Table};
-use core_data::{QueueVal, TaskVal, WorksVal};
+use core_data::{TaskVal, WorksVal};
 use handoff_data::{CpuMask, NoMemory, Shape};
 use std::alloc::Global;
 use std::snapshot::Snapshot;
-use word_steps::{Val, WaitQueue};
+use word_steps::{QueueBox, TaskBox, Val, WaitQueue};
 
 // Each task is TASK_NEW, each processor active in epoch 0.
 fn first_words(alloc: Global, shape: &Shape, rows: u32) -> Result<Vec<u64>, NoMemory>
@@ -44,13 +44,18 @@ fn first_words(alloc: Global, shape: &Shape, rows: u32) -> Result<Vec<u64>, NoMe
     Ok(words)
 }
 
-fn task_slot<B: Kept>(shape: &Shape, mask: CpuMask, n: u32) -> Slot<B>
-    ensures { result ≡ task_slot shape.now mask n }
+fn task_slot<B: Kept>(
+    alloc: Global,
+    shape: &Shape,
+    mask: CpuMask,
+    n: u32,
+) -> Result<Slot<B>, NoMemory>
+    ensures { IfOk result (λ x. x ≡ task_slot shape.now mask n) }
 {
     if n >= shape.tasks {
-        return Slot::Empty;
+        return Ok(Slot::Empty);
     }
-    Slot::Held(Val::Task(TaskVal {
+    let val = TaskVal {
         mask,
         r: 0,
         narrowed: None,
@@ -58,7 +63,9 @@ fn task_slot<B: Kept>(shape: &Shape, mask: CpuMask, n: u32) -> Slot<B>
         pending: None,
         stop_queued: false,
         dest: 0,
-    }))
+    };
+    let task = TaskBox::new(alloc, val)?;
+    Ok(Slot::Held(Val::Task(task)))
 }
 
 fn queue_slot<B: Kept>(alloc: Global, shape: &Shape, n: u32) -> Result<Slot<B>, NoMemory>
@@ -67,7 +74,7 @@ fn queue_slot<B: Kept>(alloc: Global, shape: &Shape, n: u32) -> Result<Slot<B>, 
     if n >= shape.cpus {
         return Ok(Slot::Empty);
     }
-    let queue = QueueVal::new(alloc)?;
+    let queue = QueueBox::new(alloc)?;
     Ok(Slot::Held(Val::Queue(queue)))
 }
 
@@ -106,10 +113,11 @@ fn lay_row<B: Kept>(
     ensures len { IfOk result (λ _. vec_len slots.new ≡ vec_len slots.old + SLOTS) }
     ensures room { vec_capacity slots.new ≡ vec_capacity slots.old }
 {
+    let task = task_slot(alloc, shape, mask, n)?;
     let queue = queue_slot(alloc, shape, n)?;
     let works = works_slot(alloc, shape, n)?;
     let wait = wait_slot(alloc, shape, n)?;
-    slots.push_reserved(task_slot(shape, mask, n));
+    slots.push_reserved(task);
     slots.push_reserved(body);
     slots.push_reserved(queue);
     slots.push_reserved(works);
