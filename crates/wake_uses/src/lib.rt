@@ -3,6 +3,8 @@
 
 mod idle;
 mod opening;
+#[cfg(test)]
+mod ping_pong_tests;
 mod running;
 #[cfg(test)]
 mod seats;
