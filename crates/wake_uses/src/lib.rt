@@ -9,6 +9,8 @@ mod running;
 #[cfg(test)]
 mod seats;
 #[cfg(test)]
+mod thread_tests;
+#[cfg(test)]
 mod wait_tests;
 #[cfg(test)]
 mod wake_tests;
