@@ -1,0 +1,78 @@
+//! Calls of a seat with no current task.
+ghost use Rattle.std.specs.Prelude.{◌≡◌, ◌<◌, ◌≤◌, ◌*◌};
+ghost use Rattle.task_words.specs.Views.{IsOf, IsSameSeat};
+ghost use Rattle.uses.specs.Between.{IsBetween};
+
+use handoff_data::{CondNo, CpuNo, State, TaskNo};
+use run_queue::Start;
+use std::sync::Wait;
+use task_words::{Kept, Pass, Wk};
+use ttwu_core::Wake;
+
+/// Starts a new task on a processor.
+pub fn start<B: Kept, R: Wait>(rt: &R, wk: &Wk<B>, pass: &mut Pass, t: TaskNo, c: CpuNo) -> Start
+    requires of { IsOf wk.now pass.old }
+    requires task { t < wk.now.shape.tasks }
+    requires processor { c < wk.now.shape.cpus }
+    requires between { IsBetween pass.old }
+    requires spare { 0 < pass.old.turn.spare }
+    ensures same { IsSameSeat pass.old pass.new }
+    ensures between { IsBetween pass.new }
+{
+    run_queue::start(rt, wk, pass, t, c)
+}
+
+/// Wakes a task that sleeps as TASK_NORMAL says.
+pub fn wake<B: Kept, R: Wait>(rt: &R, wk: &Wk<B>, pass: &mut Pass, t: TaskNo) -> Wake
+    requires of { IsOf wk.now pass.old }
+    requires task { t < wk.now.shape.tasks }
+    requires between { IsBetween pass.old }
+    requires spare { 1 < pass.old.turn.spare }
+    ensures same { IsSameSeat pass.old pass.new }
+    ensures between { IsBetween pass.new }
+{
+    ttwu_core::wake(rt, wk, pass, t, State::TASK_NORMAL)
+}
+
+/// Wakes each task with an entry at a condition; how many it woke.
+pub fn wake_all<B: Kept, R: Wait>(rt: &R, wk: &Wk<B>, pass: &mut Pass, k: CondNo) -> u32
+    requires of { IsOf wk.now pass.old }
+    requires condition { k < wk.now.shape.conds }
+    requires between { IsBetween pass.old }
+    requires spare { 2 * wk.now.shape.tasks ≤ pass.old.turn.spare }
+    ensures same { IsSameSeat pass.old pass.new }
+    ensures between { IsBetween pass.new }
+{
+    wait_queue::wake_all(rt, wk, pass, k)
+}
+
+/// Wakes tasks with an entry at a condition, up to so many with an exclusive one; how many it woke.
+pub fn wake_some<B: Kept, R: Wait>(
+    rt: &R,
+    wk: &Wk<B>,
+    pass: &mut Pass,
+    k: CondNo,
+    exclusive: u32,
+) -> u32
+    requires of { IsOf wk.now pass.old }
+    requires condition { k < wk.now.shape.conds }
+    requires some { 0 < exclusive }
+    requires between { IsBetween pass.old }
+    requires spare { 2 * wk.now.shape.tasks ≤ pass.old.turn.spare }
+    ensures same { IsSameSeat pass.old pass.new }
+    ensures between { IsBetween pass.new }
+{
+    wait_queue::wake_some(rt, wk, pass, k, exclusive)
+}
+
+/// Raises a condition, and wakes each task with an entry there; how many it woke.
+pub fn bump_and_wake<B: Kept, R: Wait>(rt: &R, wk: &Wk<B>, pass: &mut Pass, k: CondNo) -> u32
+    requires of { IsOf wk.now pass.old }
+    requires condition { k < wk.now.shape.conds }
+    requires between { IsBetween pass.old }
+    requires spare { 2 * wk.now.shape.tasks ≤ pass.old.turn.spare }
+    ensures same { IsSameSeat pass.old pass.new }
+    ensures between { IsBetween pass.new }
+{
+    wait_queue::bump_and_wake(rt, wk, pass, k)
+}
