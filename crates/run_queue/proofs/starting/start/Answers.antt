@@ -1,5 +1,7 @@
 use Rattle.std.proofs.Common.{arith, ◌≡◌, ◌∙◌, ℕ, ◌∷◌, List, None, Some, subst, ap, refl, inl, inr}
 use Rattle.std.proofs.lemmas.Grind.{common_steps}
+use Rattle.std.specs.Prelude.{unwrap_or}
+use Rattle.core_data.specs.declared.values.TaskVal.{TaskVal}
 use Rattle.core_kinds.specs.Steps.{fresh}
 use Rattle.handoff_data.specs.declared.state.State.{State}
 use Rattle.run_queue.specs.Queueing.{placed}
@@ -94,7 +96,10 @@ started_did g c =
     let t = c.args.t in
     let v = c.lock_task-task.result.val in
     let q = c.queue_new.ensures.did.queue in
+    let last = c.queue_new.new.pass.trace in
+    let task = c.lock_task-task.result.task in
     c.give-2.ensures.trace
+    ∙ ap (λ (z : TaskVal). Gave task (val.Task (unwrap_or (task_held last task) z)) (val.Task z) ∷ last) c.set_wake_cpu.ensures
     ∙ gave_task t c.lock_task-task.result.task v (record v { wake_cpu = c.args.c }) c.queue_new.new.pass.trace
     (queued_new t c.args.c q (placed t c.place.result c.args.c (reads_of g c)))
     c.lock_task-task.ensures.task (c.queue_new.ensures.did.did ∙ ap (queued_new t c.args.c q) (placed_did g c))

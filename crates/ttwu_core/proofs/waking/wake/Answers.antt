@@ -18,7 +18,7 @@ returns-clause-rests g c =
     let v = c.lock_task-task.result.val in
     let seen = c.match_state-seen.result in
     let cpu = c.choose-c.result in
-    let given : TaskVal = record v { wake_cpu = cpu } in
+    let given : TaskVal = c.set_wake_cpu.new.self in
     let q = c.queue_woken.ensures.did.queue in
     let test : c.match_state-seen.new.pass.trace ≡ tested t v c.args.mask seen old =
     c.match_state-seen.ensures.trace ∙ ap (λ (z : List Rec). LoadedState t (Some c.args.mask) seen ∷ z) c.lock_task-task.ensures.trace in
