@@ -1,10 +1,9 @@
 //! Calls of a seat whose current task is on its queue.
-ghost use Rattle.std.specs.Prelude.{◌≡◌, ◌≢◌, ◌<◌, ◌≤◌, ◌*◌};
+ghost use Rattle.std.specs.Prelude.{◌<◌, ◌≤◌, ◌*◌};
 ghost use Rattle.task_words.specs.Views.{IsOf, IsSame, IsSameSeat};
 ghost use Rattle.uses.specs.Between.{IsRunning};
 
-use handoff_data::{CondNo, CpuNo, State, TaskNo};
-use run_queue::Start;
+use handoff_data::{CondNo, State, TaskNo};
 use std::sync::Wait;
 use task_words::{Kept, Pass, Wk};
 use ttwu_core::Wake;
