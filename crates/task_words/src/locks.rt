@@ -16,7 +16,6 @@ use word_steps::Val;
 use word_table::{Kept, QueueLock, TaskLock, WaitLock, WorksLock, give, take};
 
 /// Takes the lock of a task, as Linux's `raw_spin_lock(&p->pi_lock)`, and waits until it is free.
-#[inline(always)]
 pub fn lock_task<B: Kept, R: Wait>(rt: &R, wk: &Wk<B>, pass: &mut Pass, t: TaskNo) -> TaskGuard
     requires of { IsOf wk.now pass.old }
     requires task { t < wk.now.shape.tasks }
@@ -33,7 +32,6 @@ pub fn lock_task<B: Kept, R: Wait>(rt: &R, wk: &Wk<B>, pass: &mut Pass, t: TaskN
 }
 
 /// Takes the lock of a processor's queue, as Linux's `raw_spin_rq_lock`, and waits until it is free.
-#[inline(always)]
 pub fn lock_queue<B: Kept, R: Wait>(rt: &R, wk: &Wk<B>, pass: &mut Pass, c: CpuNo) -> QueueGuard
     requires of { IsOf wk.now pass.old }
     requires processor { c < wk.now.shape.cpus }
@@ -50,7 +48,6 @@ pub fn lock_queue<B: Kept, R: Wait>(rt: &R, wk: &Wk<B>, pass: &mut Pass, c: CpuN
 }
 
 /// Takes the lock of a processor's works, as Linux's `raw_spin_lock(&stopper->lock)`, and waits until it is free.
-#[inline(always)]
 pub fn lock_works<B: Kept, R: Wait>(rt: &R, wk: &Wk<B>, pass: &mut Pass, c: CpuNo) -> WorksGuard
     requires of { IsOf wk.now pass.old }
     requires processor { c < wk.now.shape.cpus }
@@ -66,7 +63,6 @@ pub fn lock_works<B: Kept, R: Wait>(rt: &R, wk: &Wk<B>, pass: &mut Pass, c: CpuN
 }
 
 /// Takes the lock of a condition's wait queue, as Linux's `spin_lock(&wq_head->lock)`, and waits until it is free.
-#[inline(always)]
 pub fn lock_wait<B: Kept, R: Wait>(rt: &R, wk: &Wk<B>, pass: &mut Pass, k: CondNo) -> WaitGuard
     requires of { IsOf wk.now pass.old }
     requires condition { k < wk.now.shape.conds }
