@@ -1,9 +1,8 @@
 //! What locks guard, while they are held.
 ghost use Rattle.std.specs.Prelude.{◌≡◌};
 
-use core_data::WorksVal;
 use handoff_data::{CondNo, CpuNo, TaskNo};
-use word_steps::{QueueBox, TaskBox, WaitQueue};
+use word_steps::{QueueBox, TaskBox, WaitQueue, WorksBox};
 
 /// What a task's lock guards, while the lock is held. It has no `Drop`, so it ends in `give`.
 pub struct TaskGuard {
@@ -19,7 +18,7 @@ pub struct QueueGuard {
 
 /// What the lock of a processor's works guards, while it is held; it ends in `give`.
 pub struct WorksGuard {
-    pub val: WorksVal,
+    pub val: WorksBox,
     pub(crate) cpu: CpuNo,
 }
 

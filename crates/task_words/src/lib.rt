@@ -26,6 +26,6 @@ pub use locks::{lock_queue, lock_task, lock_wait, lock_works};
 pub use pass::{Pass, Turn};
 pub use runs::{clear_busy, dequeue_task, move_task, queue_task, set_busy};
 pub use states::{match_state, set_running, set_state, store_cpu, store_running, store_waking};
-pub use waits::wait_clear;
+pub use waits::{rest_on_busy, rest_on_rq, wait_clear};
 pub use wk::Wk;
 pub use word_table::{Closed, Kept};

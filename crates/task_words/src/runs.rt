@@ -11,13 +11,14 @@ ghost use Rattle.word_steps.specs.Records.{Queued, Dequeued, Moved, SetBusy, Cle
 
 use crate::guards::QueueGuard;
 use crate::pass::Pass;
+use crate::waits::rest_on_rq;
 use crate::wk::Wk;
 use core_data::Rq;
 use crossbeam_utils::Backoff;
 use handoff_data::{CpuNo, Entry, TaskNo};
 use std::sync::Wait;
 use word_kinds::{DequeueTask, MoveTask, QueueTask};
-use word_table::{Kept, Kind, Token, exchange, fetch_add, peek};
+use word_table::{Kept, Kind, Token, exchange, fetch_add, peek, rest};
 
 // A queue word and a busy word are changed while their number is below it.
 const END: u64 = 1 << 60;
@@ -47,7 +48,7 @@ fn change_rq<B: Kept, K: Kind, R: Wait>(
                 return found;
             }
         }
-        backoff.snooze();
+        rest(rt, &wk.words, &backoff, t, K::column(), found);
     }
     unreachable!()
 }
@@ -72,7 +73,7 @@ fn queue_read<B: Kept, R: Wait>(rt: &R, wk: &Wk<B>, token: &mut Token, t: TaskNo
                 return;
             }
         }
-        backoff.snooze();
+        rest_on_rq(rt, wk, &backoff, t, seen);
     }
     unreachable!()
 }
@@ -221,7 +222,14 @@ fn change_busy<B: Kept, R: Wait>(rt: &R, wk: &Wk<B>, token: &mut Token, t: TaskN
                 return n;
             }
         }
-        backoff.snooze();
+        rest(
+            rt,
+            &wk.words,
+            &backoff,
+            t,
+            word_kinds::SetBusy::column(),
+            found,
+        );
     }
     unreachable!()
 }

@@ -11,7 +11,9 @@ use crossbeam_utils::Backoff;
 use handoff_data::{CpuMask, CpuNo, TaskNo};
 use place_pick::fallback;
 use std::sync::Wait;
-use task_words::{Kept, Pass, Wk, load_busy, lock_queue, queue_task, store_running, store_waking};
+use task_words::{
+    Kept, Pass, Wk, load_busy, lock_queue, queue_task, rest_on_busy, store_running, store_waking,
+};
 
 // Reads the busy word of a task until it is clear. It answers the number of its changes.
 fn await_clear<B: Kept, R: Wait>(rt: &R, wk: &Wk<B>, pass: &mut Pass, t: TaskNo) -> u64
@@ -26,7 +28,7 @@ fn await_clear<B: Kept, R: Wait>(rt: &R, wk: &Wk<B>, pass: &mut Pass, t: TaskNo)
         if !seen.on {
             return seen.n;
         }
-        backoff.snooze();
+        rest_on_busy(rt, wk, &backoff, t, seen);
     }
     unreachable!()
 }

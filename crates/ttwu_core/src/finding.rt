@@ -10,7 +10,7 @@ ghost use Rattle.word_steps.specs.Folds.{is_claimed, task_held, queue_held, is_m
 use crossbeam_utils::Backoff;
 use handoff_data::TaskNo;
 use std::sync::Wait;
-use task_words::{Kept, Pass, Wk, load_cpu, load_rq, lock_queue, store_running};
+use task_words::{Kept, Pass, Wk, load_cpu, load_rq, lock_queue, rest_on_rq, store_running};
 
 /// Where it is.
 #[derive(Clone, Copy, Debug, PartialEq, Eq)]
@@ -37,7 +37,7 @@ fn await_off<B: Kept, R: Wait>(rt: &R, wk: &Wk<B>, pass: &mut Pass, t: TaskNo) -
         if seen.on == 0 {
             return seen.m;
         }
-        backoff.snooze();
+        rest_on_rq(rt, wk, &backoff, t, seen);
     }
     unreachable!()
 }

@@ -6,6 +6,6 @@ mod boxes;
 mod val;
 mod wait;
 
-pub use boxes::{QueueBox, TaskBox};
+pub use boxes::{QueueBox, TaskBox, WorksBox};
 pub use val::Val;
 pub use wait::WaitQueue;

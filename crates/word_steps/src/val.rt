@@ -1,8 +1,7 @@
 //! The values that locks guard, in one type.
 
-use crate::boxes::{QueueBox, TaskBox};
+use crate::boxes::{QueueBox, TaskBox, WorksBox};
 use crate::wait::WaitQueue;
-use core_data::WorksVal;
 
 /// The value that a lock guards; its kind is the lock's kind. A slot of the shared table and a record of a trace have
 /// such a value.
@@ -13,7 +12,7 @@ pub enum Val {
     /// What the lock of a processor's queue guards.
     Queue(QueueBox),
     /// What the lock of a processor's works guards.
-    Works(WorksVal),
+    Works(WorksBox),
     /// What the lock of a condition's wait queue guards.
     Wait(WaitQueue),
 }

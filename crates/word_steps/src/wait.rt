@@ -14,10 +14,10 @@ use std::marker::Model;
 /// The entries of a wait queue, the head first, after Linux's `struct wait_queue_head`. Contracts see that list.
 ///
 /// Room for 200 entries, one for each task of the largest shape, is reserved from the start, so that putting one in takes
-/// no memory.
+/// no memory. It is in a box, so that a lock which is taken, or given, moves no more than an address.
 #[derive(Debug, Drop)]
 pub struct WaitQueue {
-    entries: VecDeque<WaitEntry>,
+    entries: Box<VecDeque<WaitEntry>>,
 }
 
 impl Model for WaitQueue {
@@ -27,9 +27,9 @@ impl Model for WaitQueue {
 
     ghost Value = { List WaitEntry };
 
-    ghost view = { λ w. w.entries.items };
+    ghost view = { λ w. w.entries.value.items };
 
-    ghost invariant = { λ w. 200 ≤ deque_capacity w.entries };
+    ghost invariant = { λ w. 200 ≤ deque_capacity w.entries.value };
 }
 
 // Whether some entry is of the task, as std tells it.
@@ -68,6 +68,7 @@ impl WaitQueue {
         ensures { IfOk result (λ w. w ≡ []) }
     {
         let entries = VecDeque::with_capacity(alloc, WaitQueue::ROOM)?;
+        let entries = Box::new(alloc, entries)?;
         Ok(WaitQueue { entries })
     }
 

@@ -59,7 +59,7 @@ fn take_room<B: Kept>(left: &mut Left<B>, rows: u32, tasks: u32) -> Vec<B>
     let Slot::Room(room) = left.take(SLOTS * rows as usize) else {
         unreachable!()
     };
-    room
+    room.into_vec()
 }
 
 // The body of a task, whose slot is empty from then on.

@@ -10,6 +10,7 @@ mod layout;
 mod life;
 mod lock;
 mod plays;
+mod resting;
 mod rule;
 #[cfg(test)]
 mod shape_tests;
@@ -27,6 +28,7 @@ pub use close::Closed;
 pub use gathered::Gathered;
 pub use kind::Kind;
 pub use lock::{Lock, QueueLock, TaskLock, WaitLock, WorksLock};
+pub use resting::rest;
 pub use slot::Kept;
 pub use steps::{exchange, fetch_add, load, peek, store};
 pub use token::Token;

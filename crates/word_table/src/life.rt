@@ -16,16 +16,16 @@ ghost use Rattle.word_table.specs.Views.{IsOf};
 use crate::layout::{ACTIVE, SLOTS, STATE, STRIDE, rows_of};
 use crate::plays::Deal;
 use crate::rule::Board;
-use crate::slot::{Kept, Key, Slot};
+use crate::slot::{BodyRoom, Kept, Key, Slot};
 use crate::token::Token;
 use crate::view::View;
 use crate::words::Words;
 use atomic_table::{Refused, Seat, Table};
-use core_data::{TaskVal, WorksVal};
+use core_data::TaskVal;
 use handoff_data::{CpuMask, NoMemory, Shape};
 use std::alloc::Global;
 use std::snapshot::Snapshot;
-use word_steps::{QueueBox, TaskBox, Val, WaitQueue};
+use word_steps::{QueueBox, TaskBox, Val, WaitQueue, WorksBox};
 
 // Each task is TASK_NEW, each processor active in epoch 0.
 fn first_words(alloc: Global, shape: &Shape, rows: u32) -> Result<Vec<u64>, NoMemory>
@@ -85,8 +85,8 @@ fn works_slot<B: Kept>(alloc: Global, shape: &Shape, n: u32) -> Result<Slot<B>, 
     if n >= shape.cpus {
         return Ok(Slot::Empty);
     }
-    let items = Vec::with_capacity(alloc, shape.tasks as usize)?;
-    Ok(Slot::Held(Val::Works(WorksVal { items })))
+    let works = WorksBox::new(alloc, shape.tasks as usize)?;
+    Ok(Slot::Held(Val::Works(works)))
 }
 
 fn wait_slot<B: Kept>(alloc: Global, shape: &Shape, n: u32) -> Result<Slot<B>, NoMemory>
@@ -139,7 +139,7 @@ fn lay_slots<B: Kept>(
     requires tasks { length bodies.items ≡ shape.now.tasks }
     ensures { IfOk result (λ v. IsLaid shape.now mask bodies.items v.items) }
 {
-    let room = Vec::with_capacity(alloc, shape.tasks as usize)?;
+    let room = BodyRoom::new(alloc, shape.tasks as usize)?;
     let mut slots = Vec::with_capacity(alloc, SLOTS * rows as usize + 1)?;
     let mut laid = 0;
     for body in bodies {

@@ -1,7 +1,9 @@
 //! What a slot holds, and what the table is told when it is made.
 ghost use Rattle.std.specs.Prelude.{ℕ, List, [], Bool, true};
 
-use handoff_data::Shape;
+use handoff_data::{NoMemory, Shape};
+use std::alloc::Global;
+use std::marker::Model;
 use std::snapshot::Snapshot;
 use word_steps::Val;
 
@@ -30,7 +32,45 @@ pub enum Slot<B> {
     /// A task's body.
     Body(B),
     /// Room for the bodies, which nobody takes before the end.
-    Room(Vec<B>),
+    Room(BodyRoom<B>),
+}
+
+/// Room for the bodies that the table gives back at its end, in a box: no slot is larger for it. Contracts see the
+/// vector.
+#[derive(Drop)]
+pub struct BodyRoom<B> {
+    inner: Box<Vec<B>>,
+}
+
+impl<B> Model for BodyRoom<B> {
+    ghost use Rattle.std.specs.Prelude.{Vec};
+    ghost use Rattle.std.specs.Global.{Global};
+
+    ghost Value = { Vec B Global };
+
+    ghost view = { λ r. r.inner.value };
+}
+
+impl<B> BodyRoom<B> {
+    ghost use Rattle.std.specs.Prelude.{◌≡◌, ◌≤◌, [], IfOk};
+    ghost use Rattle.std.specs.Vec.{vec_capacity};
+
+    /// Room for so many bodies, and none in it.
+    pub fn new(alloc: Global, count: usize) -> Result<BodyRoom<B>, NoMemory>
+        ensures items { IfOk result (λ r. r.items ≡ []) }
+        ensures capacity { IfOk result (λ r. count ≤ vec_capacity r) }
+    {
+        let bodies = Vec::with_capacity(alloc, count)?;
+        let inner = Box::new(alloc, bodies)?;
+        Ok(BodyRoom { inner })
+    }
+
+    /// The vector.
+    pub fn into_vec(self) -> Vec<B>
+        ensures { result ≡ self }
+    {
+        Box::into_inner(self.inner)
+    }
 }
 
 /// What the table is told when it is made.

@@ -14,17 +14,14 @@ ghost use Rattle.word_table.specs.declared.slot.Slot.TheVariants.{Held};
 use crate::layout::{BODY, SLOTS, STRIDE};
 use crate::lock::Lock;
 use crate::plays::{Come, Give, Lay, Leave, Lift, LiftBody, Take};
+use crate::resting::rest;
 use crate::slot::{Kept, Slot};
 use crate::view::View;
 use crate::words::Words;
 use atomic_table::Seat;
 use crossbeam_utils::Backoff;
 use std::sync::Wait;
-use std::time::Duration;
 use word_steps::Val;
-
-// How long a thread that waits for a lock sleeps at most before it tries again.
-const NAP_MICROS: u64 = 50;
 
 // The word of a lock.
 fn word_of<L: Lock>(n: u32) -> usize
@@ -64,25 +61,9 @@ fn acquire<B: Kept, L: Lock, R: Wait>(
         if found == 0 {
             return;
         }
-        back_off(rt, words, &backoff, word, found);
+        rest(rt, words, &backoff, n, L::column(), found);
     }
     unreachable!()
-}
-
-// Backs off, and after some tries sleeps while the lock's word is as it was found, for no longer than a nap: so who gives
-// the lock need not wake anybody.
-fn back_off<B: Kept, R: Wait>(rt: &R, words: &Words<B>, backoff: &Backoff, word: usize, found: u64)
-    requires word { word < STRIDE * rows_of words.now.shape }
-{
-    if !backoff.is_completed() {
-        backoff.snooze();
-        return;
-    }
-    let low = (found % (1 << 32)) as u32;
-    words
-        .table
-        .shared
-        .park_timeout(rt, word, low, Duration::from_micros(NAP_MICROS));
 }
 
 /// Takes a lock, and what is in its slot out: the lock's value.

@@ -36,7 +36,7 @@ loop-preserved g c = let m = c.args.seat.now.me in let known = m.0.known in let 
     let row : n < rows_of w.shape = (let h = count_rows sort w.shape in let lt = c.requires.row in omega (arith, h, lt)) in
     let z = (c.compare_exchange-found.ensures.2 n c.word_of-word.ensures).1 c.if-found-eq0.false in (c.compare_exchange-found.ensures.0 ∙ c.loop.invariant.0, z ∙ c.loop.invariant.1)
 
-pub back_off-requires : goal.back_off-requires
-back_off-requires g c = let n : ℕ = c.args.n in let w = c.args.words.now in let sort = g.L.Lock.sort in
+pub rest-requires : goal.rest-requires
+rest-requires g c = let n : ℕ = c.args.n in let w = c.args.words.now in let sort = g.L.Lock.sort in
     let row : n < rows_of w.shape = (let h = count_rows sort w.shape in let lt = c.requires.row in omega (arith, h, lt)) in
-    (search rules, in_table w.shape w.shape (STRIDE * rows_of w.shape) n (lock_of sort) _ refl refl row (lock_low sort) c.word_of-word.ensures)
+    (search rules, row, lock_low sort)
