@@ -51,7 +51,7 @@ impl<B> Model for BodyRoom<B> {
     ghost view = { λ r. r.inner.value };
 }
 
-impl<B> BodyRoom<B> {
+impl<B: Kept> BodyRoom<B> {
     ghost use Rattle.std.specs.Prelude.{◌≡◌, ◌≤◌, [], IfOk};
     ghost use Rattle.std.specs.Vec.{vec_capacity};
 

@@ -39,4 +39,4 @@ loop-preserved g c = let m = c.args.seat.now.me in let known = m.0.known in let 
 pub rest-requires : goal.rest-requires
 rest-requires g c = let n : ℕ = c.args.n in let w = c.args.words.now in let sort = g.L.Lock.sort in
     let row : n < rows_of w.shape = (let h = count_rows sort w.shape in let lt = c.requires.row in omega (arith, h, lt)) in
-    (search rules, row, lock_low sort)
+    (search rules, (row, (let low = lock_low sort in let is = c.column.ensures in omega (arith, low, is))))
