@@ -67,7 +67,7 @@ pub fn count_works<B: Kept, R: Wait>(rt: &R, wk: &Wk<B>, pass: &mut Pass, c: Cpu
     ensures between { IsBetween pass.old → IsBetween pass.new }
 {
     let works = lock_works(rt, wk, pass, c);
-    let count = works.val.items.len();
+    let count = works.val.get().items.len();
     works.give(wk, pass);
     count
 }
