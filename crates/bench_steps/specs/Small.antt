@@ -1,5 +1,5 @@
 -- Tables that steps are made on.
-use Rattle.std.specs.Prelude.{ℕ, ◌<◌}
+use Rattle.std.specs.Prelude.{◌<◌}
 use Rattle.handoff_data.specs.declared.shape.Shape.{Shape}
 
 -- there is a task, a processor and a condition with the number 0

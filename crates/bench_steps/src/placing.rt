@@ -16,7 +16,7 @@ use task_words::{
 
 /// A store to a word of a new task, on its processor.
 pub trait Placing {
-    fn once(wk: &Wk<()>, pass: &mut Pass, task: &TaskGuard, c: CpuNo)
+    fn once(wk: &Wk<()>, pass: &mut Pass, task: &TaskGuard<()>, c: CpuNo)
         requires of { IsOf wk.now pass.old }
         requires task { task.now.task < wk.now.shape.tasks }
         requires processor { c < wk.now.shape.cpus }
@@ -30,7 +30,7 @@ pub trait Placing {
 pub struct SetCpu;
 
 impl Placing for SetCpu {
-    fn once(wk: &Wk<()>, pass: &mut Pass, task: &TaskGuard, c: CpuNo) {
+    fn once(wk: &Wk<()>, pass: &mut Pass, task: &TaskGuard<()>, c: CpuNo) {
         store_cpu(wk, pass, task, c);
     }
 }
@@ -39,7 +39,7 @@ impl Placing for SetCpu {
 pub struct Run;
 
 impl Placing for Run {
-    fn once(wk: &Wk<()>, pass: &mut Pass, task: &TaskGuard, _c: CpuNo) {
+    fn once(wk: &Wk<()>, pass: &mut Pass, task: &TaskGuard<()>, _c: CpuNo) {
         store_running(wk, pass, task.task());
     }
 }
@@ -59,7 +59,13 @@ pub fn place_often<P: Placing, R: Wait>(rt: &R, wk: &Wk<()>, pass: &mut Pass, co
     true
 }
 
-fn repeat_placing<P: Placing>(wk: &Wk<()>, pass: &mut Pass, task: &TaskGuard, c: CpuNo, count: u32)
+fn repeat_placing<P: Placing>(
+    wk: &Wk<()>,
+    pass: &mut Pass,
+    task: &TaskGuard<()>,
+    c: CpuNo,
+    count: u32,
+)
     requires of { IsOf wk.now pass.old }
     requires task { task.now.task < wk.now.shape.tasks }
     requires processor { c < wk.now.shape.cpus }
@@ -79,11 +85,12 @@ fn begin_placing<R: Wait>(
     wk: &Wk<()>,
     pass: &mut Pass,
     t: u32,
-) -> Option<(TaskGuard, CpuNo)>
+) -> Option<(TaskGuard<()>, CpuNo)>
     requires of { IsOf wk.now pass.old }
     requires task { t < wk.now.shape.tasks }
     requires between { IsBetween pass.old }
     ensures same { IsSame pass.old pass.new }
+    ensures table { IfSome result (λ r. r.0.of ≡ wk.now.name) }
     ensures task { IfSome result (λ r. r.0.task ≡ t) }
     ensures processor { IfSome result (λ r. r.1 < wk.now.shape.cpus) }
     ensures placing { IfSome result (λ r. IsPlacing t r.1 r.0.val pass.new.trace) }
@@ -101,8 +108,9 @@ fn begin_placing<R: Wait>(
 }
 
 // Queues the task, and gives its lock.
-fn end_placing<R: Wait>(rt: &R, wk: &Wk<()>, pass: &mut Pass, task: TaskGuard, c: CpuNo)
+fn end_placing<R: Wait>(rt: &R, wk: &Wk<()>, pass: &mut Pass, task: TaskGuard<()>, c: CpuNo)
     requires of { IsOf wk.now pass.old }
+    requires table { task.of ≡ wk.now.name }
     requires task { task.task < wk.now.shape.tasks }
     requires processor { c < wk.now.shape.cpus }
     requires placing { IsPlacing task.task c task.val pass.old.trace }

@@ -1,5 +1,5 @@
 -- A seat that may start, pick and wake, and tables that it does it on.
-use Rattle.std.specs.Prelude.{◌≡◌, ℕ, ◌<◌}
+use Rattle.std.specs.Prelude.{◌≡◌, ◌<◌}
 use Rattle.handoff_data.specs.declared.shape.Shape.{Shape}
 use Rattle.task_words.specs.Views.{PassView, IsOf}
 use Rattle.uses.specs.Between.{IsBetween}

@@ -57,7 +57,7 @@ pub fn start<B: Kept, R: Wait>(rt: &R, wk: &Wk<B>, pass: &mut Pass, t: TaskNo, c
     }
     place(wk, pass, &task, c);
     queue_new(rt, wk, pass, t, c);
-    task.val.set_wake_cpu(c);
+    task.set_wake_cpu(wk, c);
     task.give(wk, pass);
     Start::Started { m: 1 }
 }

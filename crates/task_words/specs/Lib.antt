@@ -1,6 +1,8 @@
 pub mod Bodies
 pub mod Closing
 pub mod Gives
+pub mod Guards
+pub mod Lending
 pub mod Queues
 pub mod Shown
 pub mod States

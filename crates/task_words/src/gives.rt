@@ -30,45 +30,52 @@ fn few_tasks<B: Kept>(wk: &Wk<B>)
     let _words = &wk.words;
 }
 
-impl QueueGuard {
+impl<B: Kept> QueueGuard<B> {
     /// Puts a task at the back that the seat has just queued here.
-    pub fn push<B: Kept>(&mut self, wk: &Wk<B>, pass: &Pass, t: TaskNo)
+    pub fn push(&mut self, wk: &Wk<B>, pass: &Pass, t: TaskNo)
         requires of { IsOf wk.now pass.now }
+        requires table { self.old.of ≡ wk.now.name }
         requires task { t < wk.now.shape.tasks }
         requires room { HasRoomFor pass.now.shape pass.now.seat pass.now.trace self.old.cpu t self.old.val }
+        ensures table { self.new.of ≡ self.old.of }
         ensures processor { self.new.cpu ≡ self.old.cpu }
         ensures value { self.new.val ≡ record self.old.val { waiting = self.old.val.waiting ++ t ∷ [] } }
     {
         few_tasks(wk);
-        self.val.push(t);
+        self.val_mut(wk).push(t);
     }
 
     /// Takes the first task that waits out of the seat's own queue, just taken: it may be picked.
-    pub fn pop<B: Kept>(&mut self, wk: &Wk<B>, pass: &Pass) -> Option<TaskNo>
+    pub fn pop(&mut self, wk: &Wk<B>, pass: &Pass) -> Option<TaskNo>
         requires of { IsOf wk.now pass.now }
+        requires table { self.old.of ≡ wk.now.name }
         requires taken { IsJustTaken pass.now.shape pass.now.seat pass.now.trace self.old.cpu self.old.val }
+        ensures table { self.new.of ≡ self.old.of }
         ensures processor { self.new.cpu ≡ self.old.cpu }
         ensures value { MatchOption result ((self.old.val.waiting ≡ []) × (self.new.val ≡ self.old.val)) (λ t. (self.old.val.waiting ≡ t ∷ self.new.val.waiting) × (self.new.val ≡ record self.old.val { waiting = self.new.val.waiting })) }
         ensures task { IfSome result (λ t. t < wk.now.shape.tasks) }
         ensures ready { IfSome result (λ t. may_run pass.now.seat pass.now.trace self.old.cpu t ≡ true) }
     {
-        self.val.pop()
+        self.val_mut(wk).pop()
     }
 
     /// Takes a task out of those that wait, wherever it stands, which the seat has just taken off the queue to move it.
-    pub fn remove<B: Kept>(&mut self, wk: &Wk<B>, pass: &Pass, t: TaskNo)
+    pub fn remove(&mut self, wk: &Wk<B>, pass: &Pass, t: TaskNo)
         requires of { IsOf wk.now pass.now }
+        requires table { self.old.of ≡ wk.now.name }
         requires moved { IsMovedOff pass.now.shape pass.now.seat pass.now.trace self.old.cpu t self.old.val }
+        ensures table { self.new.of ≡ self.old.of }
         ensures processor { self.new.cpu ≡ self.old.cpu }
         ensures value { self.new.val ≡ record self.old.val { waiting = filter (is_other t) self.old.val.waiting } }
     {
-        self.val.remove(t);
+        self.val_mut(wk).remove(t);
     }
 
     /// Makes a task the next of the seat's own queue that stands there and may run, and sets its busy word: it is the
     /// seat's current task. It answers the number of changes before.
-    pub fn pick<B: Kept, R: Wait>(&mut self, rt: &R, wk: &Wk<B>, pass: &mut Pass, t: TaskNo) -> u64
+    pub fn pick<R: Wait>(&mut self, rt: &R, wk: &Wk<B>, pass: &mut Pass, t: TaskNo) -> u64
         requires of { IsOf wk.now pass.old }
+        requires table { self.old.of ≡ wk.now.name }
         requires task { t < wk.now.shape.tasks }
         requires own { self.old.cpu ≡ pass.old.seat }
         requires held { IsSome (queue_held pass.old.trace pass.old.seat) }
@@ -76,18 +83,19 @@ impl QueueGuard {
         requires idle { current_task pass.old.seat pass.old.trace ≡ None }
         requires clear { task_to_clear pass.old.seat pass.old.trace ≡ None }
         requires spare { 0 < pass.old.turn.spare }
+        ensures table { self.new.of ≡ self.old.of }
         ensures processor { self.new.cpu ≡ self.old.cpu }
         ensures value { self.new.val ≡ record self.old.val { cur = Some t } }
         ensures same { IsSameSeat pass.old pass.new }
         ensures trace { pass.new.trace ≡ SetBusy t pass.old.seat result ∷ pass.old.trace }
         ensures turn { pass.new.turn ≡ logged (entry.Pick t (result + 1) pass.old.seat) pass.old.turn }
     {
-        self.val.set_cur(Some(t));
+        self.val_mut(wk).set_cur(Some(t));
         set_busy(rt, wk, pass, self, t)
     }
 
     /// Stores TASK_RUNNING as the state of a task that the seat has just queued here.
-    pub fn store_running<B: Kept>(&self, wk: &Wk<B>, pass: &mut Pass, t: TaskNo)
+    pub fn store_running(&self, wk: &Wk<B>, pass: &mut Pass, t: TaskNo)
         requires of { IsOf wk.now pass.old }
         requires task { t < wk.now.shape.tasks }
         requires here { IsPutHere pass.old.seat pass.old.trace self.now.cpu t }
@@ -98,8 +106,9 @@ impl QueueGuard {
     }
 
     /// Gives the lock with the queue as it was taken.
-    pub fn give_as_taken<B: Kept>(self, wk: &Wk<B>, pass: &mut Pass)
+    pub fn give_as_taken(self, wk: &Wk<B>, pass: &mut Pass)
         requires of { IsOf wk.now pass.old }
+        requires table { self.of ≡ wk.now.name }
         requires processor { self.cpu < wk.now.shape.cpus }
         requires may { IsAsTaken pass.old.shape pass.old.seat pass.old.trace self.cpu self.val }
         ensures same { IsSame pass.old pass.new }
@@ -109,8 +118,9 @@ impl QueueGuard {
     }
 
     /// Gives the lock after a task was queued as new, or in a move, and put at the back. Its state is as it was.
-    pub fn give_put<B: Kept>(self, wk: &Wk<B>, pass: &mut Pass)
+    pub fn give_put(self, wk: &Wk<B>, pass: &mut Pass)
         requires of { IsOf wk.now pass.old }
+        requires table { self.of ≡ wk.now.name }
         requires processor { self.cpu < wk.now.shape.cpus }
         requires may { IsPut pass.old.shape pass.old.seat pass.old.trace self.cpu self.val }
         ensures same { IsSame pass.old pass.new }
@@ -120,8 +130,9 @@ impl QueueGuard {
     }
 
     /// Gives the lock after a task was queued, put at the back and then stored as running.
-    pub fn give_woken<B: Kept>(self, wk: &Wk<B>, pass: &mut Pass)
+    pub fn give_woken(self, wk: &Wk<B>, pass: &mut Pass)
         requires of { IsOf wk.now pass.old }
+        requires table { self.of ≡ wk.now.name }
         requires processor { self.cpu < wk.now.shape.cpus }
         requires may { IsWoken pass.old.shape pass.old.seat pass.old.trace self.cpu self.val }
         ensures same { IsSame pass.old pass.new }
@@ -131,8 +142,9 @@ impl QueueGuard {
     }
 
     /// Gives the lock after a task was taken off the queue to be moved, and out of those that wait.
-    pub fn give_moved<B: Kept>(self, wk: &Wk<B>, pass: &mut Pass)
+    pub fn give_moved(self, wk: &Wk<B>, pass: &mut Pass)
         requires of { IsOf wk.now pass.old }
+        requires table { self.of ≡ wk.now.name }
         requires processor { self.cpu < wk.now.shape.cpus }
         requires may { IsMoved pass.old.shape pass.old.seat pass.old.trace self.cpu self.val }
         ensures same { IsSame pass.old pass.new }
@@ -142,8 +154,9 @@ impl QueueGuard {
     }
 
     /// Gives the lock of the seat's own queue after the first task that waited was picked.
-    pub fn give_picked<B: Kept>(self, wk: &Wk<B>, pass: &mut Pass)
+    pub fn give_picked(self, wk: &Wk<B>, pass: &mut Pass)
         requires of { IsOf wk.now pass.old }
+        requires table { self.of ≡ wk.now.name }
         requires processor { self.cpu < wk.now.shape.cpus }
         requires own { self.cpu ≡ pass.old.seat }
         requires may { IsPicked pass.old.shape pass.old.seat pass.old.trace self.val }
@@ -155,8 +168,9 @@ impl QueueGuard {
 
     /// Gives the lock of the seat's own queue after its current task was put back at the end, whose state was read as
     /// TASK_RUNNING or TASK_NEW.
-    pub fn give_put_back<B: Kept>(self, wk: &Wk<B>, pass: &mut Pass)
+    pub fn give_put_back(self, wk: &Wk<B>, pass: &mut Pass)
         requires of { IsOf wk.now pass.old }
+        requires table { self.of ≡ wk.now.name }
         requires processor { self.cpu < wk.now.shape.cpus }
         requires own { self.cpu ≡ pass.old.seat }
         requires may { IsPutBack pass.old.shape pass.old.seat pass.old.trace self.val }
@@ -167,8 +181,9 @@ impl QueueGuard {
     }
 
     /// Gives the lock of the seat's own queue after its current task has left the queue to sleep or to die.
-    pub fn give_asleep<B: Kept>(self, wk: &Wk<B>, pass: &mut Pass)
+    pub fn give_asleep(self, wk: &Wk<B>, pass: &mut Pass)
         requires of { IsOf wk.now pass.old }
+        requires table { self.of ≡ wk.now.name }
         requires processor { self.cpu < wk.now.shape.cpus }
         requires own { self.cpu ≡ pass.old.seat }
         requires may { IsAsleep pass.old.shape pass.old.seat pass.old.trace self.val }
@@ -179,10 +194,11 @@ impl QueueGuard {
     }
 }
 
-impl TaskGuard {
+impl<B: Kept> TaskGuard<B> {
     /// Gives the lock of a task that was queued under it.
-    pub fn give_queued<B: Kept>(self, wk: &Wk<B>, pass: &mut Pass)
+    pub fn give_queued(self, wk: &Wk<B>, pass: &mut Pass)
         requires of { IsOf wk.now pass.old }
+        requires table { self.of ≡ wk.now.name }
         requires task { self.task < wk.now.shape.tasks }
         requires may { IsQueuedUnder pass.old.shape pass.old.trace self.task self.val }
         ensures same { IsSame pass.old pass.new }
@@ -192,30 +208,33 @@ impl TaskGuard {
     }
 }
 
-impl WaitGuard {
+impl<B: Kept> WaitGuard<B> {
     /// Puts an entry of a task in that has none there: an exclusive one at the tail, another at the head, as Linux's
     /// `prepare_to_wait_exclusive` and `prepare_to_wait`.
     #[tactic(auto, unfolding(crate::specs::Gives::entered))]
-    pub fn enter<B: Kept>(&mut self, wk: &Wk<B>, pass: &Pass, t: TaskNo, exclusive: bool)
+    pub fn enter(&mut self, wk: &Wk<B>, pass: &Pass, t: TaskNo, exclusive: bool)
         requires of { IsOf wk.now pass.now }
+        requires table { self.old.of ≡ wk.now.name }
         requires task { t < wk.now.shape.tasks }
         requires taken { TakenWait pass.now.shape self.old.val }
         requires absent { has_task self.old.val t ≡ false }
+        ensures table { self.new.of ≡ self.old.of }
         ensures condition { self.new.cond ≡ self.old.cond }
         ensures value { self.new.val ≡ entered (record { t = t; exclusive = exclusive }) self.old.val }
     {
         few_tasks(wk);
         let entry = WaitEntry { t, exclusive };
         if exclusive {
-            self.val.push_back(entry);
+            self.val_mut(wk).push_back(entry);
         } else {
-            self.val.push_front(entry);
+            self.val_mut(wk).push_front(entry);
         }
     }
 
     /// Gives the lock after the seat's current task has put its entry in and stored its state.
-    pub fn give_entered<B: Kept>(self, wk: &Wk<B>, pass: &mut Pass)
+    pub fn give_entered(self, wk: &Wk<B>, pass: &mut Pass)
         requires of { IsOf wk.now pass.old }
+        requires table { self.of ≡ wk.now.name }
         requires condition { self.cond < wk.now.shape.conds }
         requires may { IsEntered pass.old.shape pass.old.seat pass.old.trace self.cond self.val }
         ensures same { IsSame pass.old pass.new }

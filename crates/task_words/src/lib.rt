@@ -28,4 +28,4 @@ pub use runs::{clear_busy, dequeue_task, move_task, queue_task, set_busy};
 pub use states::{match_state, set_running, set_state, store_cpu, store_running, store_waking};
 pub use waits::{rest_on_busy, rest_on_rq, wait_clear};
 pub use wk::Wk;
-pub use word_table::{Closed, Kept};
+pub use word_table::{BodyOut, Closed, Kept};

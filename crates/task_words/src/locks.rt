@@ -1,4 +1,4 @@
-//! Locks, each with the value under it.
+//! Locks, taken and given.
 ghost use Rattle.std.specs.Prelude.{◌≡◌, ◌<◌, ◌∷◌, None, unwrap_or};
 ghost use Rattle.task_words.specs.Views.{IsOf, IsSame};
 ghost use Rattle.word_rule.specs.May.{MayGiveTaskVal, MayGiveQueueVal, MayGiveWorksVal, MayGiveWaitVal};
@@ -12,129 +12,128 @@ use crate::pass::Pass;
 use crate::wk::Wk;
 use handoff_data::{CondNo, CpuNo, TaskNo};
 use std::sync::Wait;
-use word_steps::Val;
 use word_table::{Kept, QueueLock, TaskLock, WaitLock, WorksLock, give, take};
 
 /// Takes the lock of a task, as Linux's `raw_spin_lock(&p->pi_lock)`, and waits until it is free.
-pub fn lock_task<B: Kept, R: Wait>(rt: &R, wk: &Wk<B>, pass: &mut Pass, t: TaskNo) -> TaskGuard
+pub fn lock_task<B: Kept, R: Wait>(rt: &R, wk: &Wk<B>, pass: &mut Pass, t: TaskNo) -> TaskGuard<B>
     requires of { IsOf wk.now pass.old }
     requires task { t < wk.now.shape.tasks }
     requires free { task_held pass.old.trace t ≡ None }
+    ensures table { result.of ≡ wk.now.name }
     ensures task { result.task ≡ t }
     ensures same { IsSame pass.old pass.new }
     ensures trace { pass.new.trace ≡ Took t (val.Task result.val) ∷ pass.old.trace }
     ensures taken { TakenTask pass.old.shape result.val }
 {
-    let Val::Task(val) = take::<B, TaskLock, R>(rt, &wk.words, &mut pass.token, t) else {
-        unreachable!()
-    };
-    TaskGuard { val, task: t }
+    let taken = take::<B, TaskLock, R>(rt, &wk.words, &mut pass.token, t);
+    TaskGuard { taken, task: t }
 }
 
 /// Takes the lock of a processor's queue, as Linux's `raw_spin_rq_lock`, and waits until it is free.
-pub fn lock_queue<B: Kept, R: Wait>(rt: &R, wk: &Wk<B>, pass: &mut Pass, c: CpuNo) -> QueueGuard
+pub fn lock_queue<B: Kept, R: Wait>(rt: &R, wk: &Wk<B>, pass: &mut Pass, c: CpuNo) -> QueueGuard<B>
     requires of { IsOf wk.now pass.old }
     requires processor { c < wk.now.shape.cpus }
     requires free { queue_held pass.old.trace c ≡ None }
+    ensures table { result.of ≡ wk.now.name }
     ensures processor { result.cpu ≡ c }
     ensures same { IsSame pass.old pass.new }
     ensures trace { pass.new.trace ≡ Took c (val.Queue result.val) ∷ pass.old.trace }
     ensures taken { TakenQueue pass.old.shape pass.old.seat pass.old.trace c result.val }
 {
-    let Val::Queue(val) = take::<B, QueueLock, R>(rt, &wk.words, &mut pass.token, c) else {
-        unreachable!()
-    };
-    QueueGuard { val, cpu: c }
+    let taken = take::<B, QueueLock, R>(rt, &wk.words, &mut pass.token, c);
+    QueueGuard { taken, cpu: c }
 }
 
 /// Takes the lock of a processor's works, as Linux's `raw_spin_lock(&stopper->lock)`, and waits until it is free.
-pub fn lock_works<B: Kept, R: Wait>(rt: &R, wk: &Wk<B>, pass: &mut Pass, c: CpuNo) -> WorksGuard
+pub fn lock_works<B: Kept, R: Wait>(rt: &R, wk: &Wk<B>, pass: &mut Pass, c: CpuNo) -> WorksGuard<B>
     requires of { IsOf wk.now pass.old }
     requires processor { c < wk.now.shape.cpus }
     requires free { works_held pass.old.trace c ≡ None }
+    ensures table { result.of ≡ wk.now.name }
     ensures processor { result.cpu ≡ c }
     ensures same { IsSame pass.old pass.new }
     ensures trace { pass.new.trace ≡ Took c (val.Works result.val) ∷ pass.old.trace }
 {
-    let Val::Works(val) = take::<B, WorksLock, R>(rt, &wk.words, &mut pass.token, c) else {
-        unreachable!()
-    };
-    WorksGuard { val, cpu: c }
+    let taken = take::<B, WorksLock, R>(rt, &wk.words, &mut pass.token, c);
+    WorksGuard { taken, cpu: c }
 }
 
 /// Takes the lock of a condition's wait queue, as Linux's `spin_lock(&wq_head->lock)`, and waits until it is free.
-pub fn lock_wait<B: Kept, R: Wait>(rt: &R, wk: &Wk<B>, pass: &mut Pass, k: CondNo) -> WaitGuard
+pub fn lock_wait<B: Kept, R: Wait>(rt: &R, wk: &Wk<B>, pass: &mut Pass, k: CondNo) -> WaitGuard<B>
     requires of { IsOf wk.now pass.old }
     requires condition { k < wk.now.shape.conds }
     requires free { wait_held pass.old.trace k ≡ None }
+    ensures table { result.of ≡ wk.now.name }
     ensures condition { result.cond ≡ k }
     ensures same { IsSame pass.old pass.new }
     ensures trace { pass.new.trace ≡ Took k (val.Wait result.val) ∷ pass.old.trace }
     ensures taken { TakenWait pass.old.shape result.val }
 {
-    let Val::Wait(val) = take::<B, WaitLock, R>(rt, &wk.words, &mut pass.token, k) else {
-        unreachable!()
-    };
-    WaitGuard { val, cond: k }
+    let taken = take::<B, WaitLock, R>(rt, &wk.words, &mut pass.token, k);
+    WaitGuard { taken, cond: k }
 }
 
-impl TaskGuard {
+impl<B: Kept> TaskGuard<B> {
     /// Gives the lock, with the value as it now is.
-    pub fn give<B: Kept>(self, wk: &Wk<B>, pass: &mut Pass)
+    pub fn give(self, wk: &Wk<B>, pass: &mut Pass)
         requires of { IsOf wk.now pass.old }
+        requires table { self.of ≡ wk.now.name }
         requires task { self.task < wk.now.shape.tasks }
         requires may { MayGiveTaskVal pass.old.seat pass.old.trace wk.now.shape self.task self.val }
         ensures same { IsSame pass.old pass.new }
         ensures trace { pass.new.trace ≡ Gave self.task (val.Task (unwrap_or (task_held pass.old.trace self.task) self.val)) (val.Task self.val) ∷ pass.old.trace }
     {
-        let TaskGuard { val, task } = self;
-        give::<B, TaskLock>(&wk.words, &mut pass.token, task, Val::Task(val));
+        let TaskGuard { taken, task } = self;
+        give::<B, TaskLock>(&wk.words, &mut pass.token, task, taken);
     }
 }
 
-impl QueueGuard {
+impl<B: Kept> QueueGuard<B> {
     /// Gives the lock, with the value as it now is. Where the queue is the seat's own and has no `cur`, the seat has no
     /// current task from then on.
-    pub fn give<B: Kept>(self, wk: &Wk<B>, pass: &mut Pass)
+    pub fn give(mut self, wk: &Wk<B>, pass: &mut Pass)
         requires of { IsOf wk.now pass.old }
+        requires table { self.of ≡ wk.now.name }
         requires processor { self.cpu < wk.now.shape.cpus }
         requires may { MayGiveQueueVal pass.old.seat pass.old.trace wk.now.shape self.cpu self.val }
         ensures same { IsSame pass.old pass.new }
         ensures trace { pass.new.trace ≡ Gave self.cpu (val.Queue (unwrap_or (queue_held pass.old.trace self.cpu) self.val)) (val.Queue self.val) ∷ pass.old.trace }
     {
-        let QueueGuard { val, cpu } = self;
-        let gives_up = pass.token.seat() == cpu && val.get().cur.is_none();
-        give::<B, QueueLock>(&wk.words, &mut pass.token, cpu, Val::Queue(val));
+        let gives_up = pass.token.seat() == self.cpu && self.val_mut(wk).get().cur.is_none();
+        let QueueGuard { taken, cpu } = self;
+        give::<B, QueueLock>(&wk.words, &mut pass.token, cpu, taken);
         if gives_up {
             pass.current = None;
         }
     }
 }
 
-impl WorksGuard {
+impl<B: Kept> WorksGuard<B> {
     /// Gives the lock, with the works as they were taken.
-    pub fn give<B: Kept>(self, wk: &Wk<B>, pass: &mut Pass)
+    pub fn give(self, wk: &Wk<B>, pass: &mut Pass)
         requires of { IsOf wk.now pass.old }
+        requires table { self.of ≡ wk.now.name }
         requires processor { self.cpu < wk.now.shape.cpus }
         requires may { MayGiveWorksVal pass.old.seat pass.old.trace self.cpu self.val }
         ensures same { IsSame pass.old pass.new }
         ensures trace { pass.new.trace ≡ Gave self.cpu (val.Works (unwrap_or (works_held pass.old.trace self.cpu) self.val)) (val.Works self.val) ∷ pass.old.trace }
     {
-        let WorksGuard { val, cpu } = self;
-        give::<B, WorksLock>(&wk.words, &mut pass.token, cpu, Val::Works(val));
+        let WorksGuard { taken, cpu } = self;
+        give::<B, WorksLock>(&wk.words, &mut pass.token, cpu, taken);
     }
 }
 
-impl WaitGuard {
+impl<B: Kept> WaitGuard<B> {
     /// Gives the lock, with the entries as they now are.
-    pub fn give<B: Kept>(self, wk: &Wk<B>, pass: &mut Pass)
+    pub fn give(self, wk: &Wk<B>, pass: &mut Pass)
         requires of { IsOf wk.now pass.old }
+        requires table { self.of ≡ wk.now.name }
         requires condition { self.cond < wk.now.shape.conds }
         requires may { MayGiveWaitVal pass.old.seat pass.old.trace wk.now.shape self.cond self.val }
         ensures same { IsSame pass.old pass.new }
         ensures trace { pass.new.trace ≡ Gave self.cond (val.Wait (unwrap_or (wait_held pass.old.trace self.cond) self.val)) (val.Wait self.val) ∷ pass.old.trace }
     {
-        let WaitGuard { val, cond } = self;
-        give::<B, WaitLock>(&wk.words, &mut pass.token, cond, Val::Wait(val));
+        let WaitGuard { taken, cond } = self;
+        give::<B, WaitLock>(&wk.words, &mut pass.token, cond, taken);
     }
 }

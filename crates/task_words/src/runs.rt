@@ -105,7 +105,7 @@ pub fn queue_task<B: Kept, R: Wait>(
     rt: &R,
     wk: &Wk<B>,
     pass: &mut Pass,
-    queue: &QueueGuard,
+    queue: &QueueGuard<B>,
     t: TaskNo,
     seen: Rq,
 )
@@ -156,7 +156,7 @@ pub fn move_task<B: Kept, R: Wait>(
     rt: &R,
     wk: &Wk<B>,
     pass: &mut Pass,
-    queue: &QueueGuard,
+    queue: &QueueGuard<B>,
     t: TaskNo,
 ) -> u64
     requires of { IsOf wk.now pass.old }
@@ -183,7 +183,7 @@ pub fn set_busy<B: Kept, R: Wait>(
     rt: &R,
     wk: &Wk<B>,
     pass: &mut Pass,
-    queue: &QueueGuard,
+    queue: &QueueGuard<B>,
     t: TaskNo,
 ) -> u64
     requires of { IsOf wk.now pass.old }

@@ -70,7 +70,7 @@ pub fn store_running<B: Kept>(wk: &Wk<B>, pass: &mut Pass, t: TaskNo)
 }
 
 /// Stores the processor of a task that is on no queue, under its lock, as Linux's `set_task_cpu`.
-pub fn store_cpu<B: Kept>(wk: &Wk<B>, pass: &mut Pass, task: &TaskGuard, c: CpuNo)
+pub fn store_cpu<B: Kept>(wk: &Wk<B>, pass: &mut Pass, task: &TaskGuard<B>, c: CpuNo)
     requires of { IsOf wk.now pass.old }
     requires task { task.now.task < wk.now.shape.tasks }
     requires may { (x : ℕ) → MayCpuWord pass.old.seat pass.old.trace wk.now.shape task.now.task x c }

@@ -1,10 +1,11 @@
 -- What a whole wake-up leaves as it was, by what its parts leave.
-use Rattle.std.proofs.Common.{◌≡◌, ◌≢◌, ◌∙◌, ℕ, ◌∷◌, List, inl, inr, refl, sym, ap, subst, arith}
+use Rattle.std.proofs.Common.{◌≡◌, ◌≢◌, ◌<◌, ◌∙◌, ℕ, suc, ◌∷◌, List, inl, inr, refl, sym, ap, subst, arith}
 use Rattle.std.specs.Prelude.{Bool, true, false, ◌==◌, if◌then◌else◌, Option, Some}
 use Rattle.std.proofs.lemmas.Bool.{cases_eq}
 use Rattle.std.proofs.lemmas.Bool.Decides.{nat_tests}
 use Rattle.core_data.specs.Queue.{Queue}
 use Rattle.core_data.specs.declared.values.TaskVal.{TaskVal}
+use Rattle.handoff_data.specs.declared.shape.Shape.{Shape}
 use Rattle.handoff_data.specs.declared.state.State.{State}
 use Rattle.run_queue.proofs.Apart.{apart_again, took_task_apart, gave_task_apart, state_apart, placed_apart}
 use Rattle.run_queue.specs.Queueing.{placed}
@@ -12,7 +13,8 @@ use Rattle.ttwu_core.specs.Claims.{queued_woken}
 use Rattle.run_queue.specs.Rests.{Rests, IsApart}
 use Rattle.ttwu_core.specs.Keeps.{Keeps}
 use Rattle.ttwu_core.specs.Wakes.{tested}
-use Rattle.word_steps.specs.Folds.{task_held, is_claimed}
+use Rattle.word_rule.specs.May.{MayGiveTaskVal}
+use Rattle.word_steps.specs.Folds.{task_held, is_claimed, is_moving, number_read}
 use Rattle.word_steps.specs.Records.{Rec, Took, Gave, LoadedCpu, StoredCpu}
 use Rattle.word_steps.specs.declared.val.Val.TheVariants as val
 
@@ -48,6 +50,29 @@ queued_others t c m q trace u apart = grind (arith, nat_tests, apart)
 
 pub queued_unclaimed : (t c m : ℕ) (q : Queue) (trace : List Rec) → is_claimed (queued_woken t c m q trace) t ≡ false
 queued_unclaimed t c m q trace = grind (arith, nat_tests)
+
+queued_unmoving : (t c m : ℕ) (q : Queue) (trace : List Rec) → is_moving (queued_woken t c m q trace) t ≡ false
+queued_unmoving t c m q trace = grind (arith, nat_tests)
+
+queued_number : (t c m : ℕ) (q : Queue) (trace : List Rec) → number_read (queued_woken t c m q trace) t ≡ Some (suc m)
+queued_number t c m q trace = grind (arith, nat_tests)
+
+-- the lock of a task that was queued under it may be given, with where the task was woken
+pub woken_may_give : (shape : Shape) (s t c m : ℕ) (v : TaskVal) (q : Queue) (trace new : List Rec)
+    → new ≡ queued_woken t c m q trace → task_held new t ≡ Some v → v.dest < shape.cpus → c < shape.cpus
+    → MayGiveTaskVal s new shape t (record v { wake_cpu = c })
+woken_may_give shape s t c m v q trace new did held dest woken = record {
+  taken = v;
+  held = held;
+  kept = record { mask = refl; r = refl; narrowed = refl; pending = refl; stop_queued = refl };
+  wake_cpu = woken;
+  dest = dest;
+  settled = inr (
+    ap (λ (z : List Rec). is_claimed z t) did ∙ queued_unclaimed t c m q trace,
+    ap (λ (z : List Rec). is_moving z t) did ∙ queued_unmoving t c m q trace,
+  );
+  begun = inr (inl (m, ap (λ (z : List Rec). number_read z t) did ∙ queued_number t c m q trace));
+}
 
 -- the lock of t was taken, and is given
 pub rests_after : (s t : ℕ) (mask seen : State) (v w given : TaskVal) (old new : List Rec)

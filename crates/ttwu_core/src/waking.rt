@@ -43,10 +43,10 @@ pub fn wake<B: Kept, R: Wait>(rt: &R, wk: &Wk<B>, pass: &mut Pass, t: TaskNo, ma
         return Wake::Woke { how: How::Runnable };
     };
     claim(rt, wk, pass, t, m);
-    let c = choose(wk, task.val.get());
+    let c = choose(wk, task.val_mut(wk).get());
     place(wk, pass, &task, c);
     queue_woken(rt, wk, pass, t, c, m);
-    task.val.set_wake_cpu(c);
+    task.set_wake_cpu(wk, c);
     task.give(wk, pass);
     Wake::Woke {
         how: How::Queued(c),

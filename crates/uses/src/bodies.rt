@@ -38,8 +38,8 @@ pub fn run_turn(wk: &Wk<Turns>, pass: &mut Pass, t: TaskNo) -> bool
     ensures running { IsRunning t pass.new }
     ensures ended { result ≡ true → ended_known pass.new.trace t ≡ Some true }
 {
-    let mut body = body_out(wk, pass);
-    let ended = shorten(&mut body);
-    body_home(wk, pass, body);
+    let mut out = body_out(wk, pass);
+    let ended = shorten(out.body_mut());
+    body_home(wk, pass, out);
     ended
 }

@@ -33,8 +33,8 @@ pub fn die<B: Kept, R: Wait>(rt: &R, wk: &Wk<B>, pass: &mut Pass, t: TaskNo) -> 
         return false;
     }
     dequeue_task(rt, wk, pass, t, true);
-    queue.val.set_cur(None);
-    queue.val.set_left(Some(t));
+    queue.val_mut(wk).set_cur(None);
+    queue.val_mut(wk).set_left(Some(t));
     queue.give_asleep(wk, pass);
     clear_busy(wk, pass, t);
     true

@@ -1,12 +1,38 @@
 //! Two locks at once, and the lock of works.
 ghost use Rattle.std.specs.Prelude.{◌≡◌, ◌≢◌, ◌<◌, None};
+ghost use Rattle.core_kinds.specs.Locks.{IsKept};
 ghost use Rattle.task_words.specs.Views.{IsOf, IsSame};
 ghost use Rattle.uses.specs.Between.{IsBetween};
 ghost use Rattle.word_steps.specs.Folds.{task_held, works_held};
 
 use handoff_data::{CpuNo, TaskNo};
 use std::sync::Wait;
-use task_words::{Kept, Pass, Wk, lock_task, lock_works};
+use task_words::{Kept, Pass, TaskGuard, Wk, lock_task, lock_works};
+
+// The hint on where a task was woken last.
+fn hint_of<B: Kept>(wk: &Wk<B>, task: &mut TaskGuard<B>) -> CpuNo
+    requires table { task.old.of ≡ wk.now.name }
+    ensures table { task.new.of ≡ task.old.of }
+    ensures task { task.new.task ≡ task.old.task }
+    ensures kept { IsKept task.old.val task.new.val }
+    ensures hint { result ≡ task.old.val.wake_cpu }
+    ensures same { task.new.val.wake_cpu ≡ task.old.val.wake_cpu }
+    ensures dest { task.new.val.dest ≡ task.old.val.dest }
+{
+    task.val_mut(wk).get().wake_cpu
+}
+
+// Changes that hint.
+fn set_hint<B: Kept>(wk: &Wk<B>, task: &mut TaskGuard<B>, hint: CpuNo)
+    requires table { task.old.of ≡ wk.now.name }
+    ensures table { task.new.of ≡ task.old.of }
+    ensures task { task.new.task ≡ task.old.task }
+    ensures kept { IsKept task.old.val task.new.val }
+    ensures hint { task.new.val.wake_cpu ≡ hint }
+    ensures dest { task.new.val.dest ≡ task.old.val.dest }
+{
+    task.set_wake_cpu(wk, hint);
+}
 
 /// Copies the hint on where a task was woken last from one task to another, under both locks, and gives the lock first
 /// that it took first.
@@ -25,9 +51,10 @@ pub fn copy_wake_cpu<B: Kept, R: Wait>(
     ensures free { (task_held pass.new.trace from ≡ None) × (task_held pass.new.trace to ≡ None) }
     ensures between { IsBetween pass.old → IsBetween pass.new }
 {
-    let source = lock_task(rt, wk, pass, from);
+    let mut source = lock_task(rt, wk, pass, from);
     let mut target = lock_task(rt, wk, pass, to);
-    target.val.set_wake_cpu(source.val.get().wake_cpu);
+    let hint = hint_of(wk, &mut source);
+    set_hint(wk, &mut target, hint);
     source.give(wk, pass);
     target.give(wk, pass);
 }
@@ -50,9 +77,10 @@ pub fn swap_wake_cpus<B: Kept, R: Wait>(
 {
     let mut first = lock_task(rt, wk, pass, one);
     let mut second = lock_task(rt, wk, pass, other);
-    let hint = first.val.get().wake_cpu;
-    first.val.set_wake_cpu(second.val.get().wake_cpu);
-    second.val.set_wake_cpu(hint);
+    let first_hint = hint_of(wk, &mut first);
+    let second_hint = hint_of(wk, &mut second);
+    set_hint(wk, &mut first, second_hint);
+    set_hint(wk, &mut second, first_hint);
     second.give(wk, pass);
     first.give(wk, pass);
 }
@@ -66,8 +94,8 @@ pub fn count_works<B: Kept, R: Wait>(rt: &R, wk: &Wk<B>, pass: &mut Pass, c: Cpu
     ensures free { works_held pass.new.trace c ≡ None }
     ensures between { IsBetween pass.old → IsBetween pass.new }
 {
-    let works = lock_works(rt, wk, pass, c);
-    let count = works.val.get().items.len();
+    let mut works = lock_works(rt, wk, pass, c);
+    let count = works.val_mut(wk).get().items.len();
     works.give(wk, pass);
     count
 }

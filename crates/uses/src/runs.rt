@@ -89,7 +89,7 @@ pub fn pick<B: Kept, R: Wait>(rt: &R, wk: &Wk<B>, pass: &mut Pass) -> Option<Tas
 {
     let c = pass.seat();
     let mut queue = lock_queue(rt, wk, pass, c);
-    if queue.val.get().cur.is_some() {
+    if queue.val_mut(wk).get().cur.is_some() {
         queue.give_as_taken(wk, pass);
         return None;
     }
@@ -113,8 +113,8 @@ pub fn run<B: Kept>(wk: &Wk<B>, pass: &mut Pass, t: TaskNo)
     ensures nothing { HoldsNothing pass.new.trace }
     ensures running { IsRunning t pass.old → IsRunning t pass.new }
 {
-    let body = body_out(wk, pass);
-    body_home(wk, pass, body);
+    let out = body_out(wk, pass);
+    body_home(wk, pass, out);
 }
 
 /// Puts the current task, while it runs or is still TASK_NEW, at the back of its queue, as Linux's `schedule` of a
@@ -141,8 +141,8 @@ pub fn put_back<B: Kept, R: Wait>(rt: &R, wk: &Wk<B>, pass: &mut Pass, t: TaskNo
         return false;
     }
     queue.push(wk, pass, t);
-    queue.val.set_cur(None);
-    queue.val.set_left(Some(t));
+    queue.val_mut(wk).set_cur(None);
+    queue.val_mut(wk).set_left(Some(t));
     queue.give_put_back(wk, pass);
     clear_busy(wk, pass, t);
     true

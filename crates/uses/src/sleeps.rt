@@ -1,14 +1,17 @@
 //! A sleep on a condition, step by step.
-ghost use Rattle.std.specs.Prelude.{◌≡◌, ◌<◌, true, false, None, Some};
+ghost use Rattle.std.specs.Prelude.{◌≡◌, ◌<◌, ◌∷◌, true, false, None, Some};
 ghost use Rattle.uses.specs.Between.{IsBetween, IsRunning};
 ghost use Rattle.task_words.specs.Views.{IsOf, IsSame, IsSameSeat};
+ghost use Rattle.word_rule.specs.Told.{TakenWait};
+ghost use Rattle.word_steps.specs.Records.{Gave};
+ghost use Rattle.word_steps.specs.declared.val.Val.TheVariants as val;
 ghost use Rattle.word_steps.specs.Folds.{body_held, current_task, queue_held, stays_queued, task_to_clear, wait_held};
 
 use handoff_data::{CondNo, State, TaskNo};
 use std::sync::Wait;
 use task_words::{
-    Kept, Pass, Wk, clear_busy, dequeue_task, load_cond, load_state, lock_queue, lock_wait,
-    set_running, set_state,
+    Kept, Pass, WaitGuard, Wk, clear_busy, dequeue_task, load_cond, load_state, lock_queue,
+    lock_wait, set_running, set_state,
 };
 
 /// Puts the current task to sleep until a condition has another value than `seen`, as Linux's `prepare_to_wait` and
@@ -36,19 +39,54 @@ pub fn sleep<B: Kept, R: Wait>(
     ensures slept { result ≡ true → IsRunning t pass.old → IsBetween pass.new }
     ensures woken { result ≡ false → IsRunning t pass.old → IsRunning t pass.new }
 {
-    let mut wait = lock_wait(rt, wk, pass, k);
-    if wait.val.has_task(t) {
-        wait.give(wk, pass);
+    if !prepare(rt, wk, pass, t, k) {
         return false;
     }
-    wait.enter(wk, pass, t, false);
-    set_state(wk, pass, State::TASK_INTERRUPTIBLE);
-    wait.give_entered(wk, pass);
     if load_cond(wk, pass, k) != seen {
         set_running(wk, pass);
         return false;
     }
     switch_out(rt, wk, pass, t)
+}
+
+// Puts an entry of the current task in at a condition, and stores that it sleeps, as Linux's
+// `prepare_to_wait`; whether it had none there.
+fn prepare<B: Kept, R: Wait>(rt: &R, wk: &Wk<B>, pass: &mut Pass, t: TaskNo, k: CondNo) -> bool
+    requires of { IsOf wk.now pass.old }
+    requires task { t < wk.now.shape.tasks }
+    requires condition { k < wk.now.shape.conds }
+    requires free { wait_held pass.old.trace k ≡ None }
+    requires current { current_task pass.old.seat pass.old.trace ≡ Some t }
+    requires stays { stays_queued pass.old.trace ≡ true }
+    ensures same { IsSame pass.old pass.new }
+    ensures queues { queue_held pass.new.trace ≡ queue_held pass.old.trace }
+    ensures current { current_task pass.new.seat pass.new.trace ≡ current_task pass.old.seat pass.old.trace }
+    ensures stays { stays_queued pass.new.trace ≡ true }
+    ensures body { body_held pass.new.trace ≡ body_held pass.old.trace }
+    ensures running { IsRunning t pass.old → IsRunning t pass.new }
+{
+    let mut wait = lock_wait(rt, wk, pass, k);
+    if wait.val_mut(wk).has_task(t) {
+        give_as_taken(wk, pass, wait);
+        return false;
+    }
+    wait.enter(wk, pass, t, false);
+    set_state(wk, pass, State::TASK_INTERRUPTIBLE);
+    wait.give_entered(wk, pass);
+    true
+}
+
+// Gives the lock of a wait queue with the entries as they were taken.
+fn give_as_taken<B: Kept>(wk: &Wk<B>, pass: &mut Pass, wait: WaitGuard<B>)
+    requires of { IsOf wk.now pass.old }
+    requires table { wait.of ≡ wk.now.name }
+    requires condition { wait.cond < wk.now.shape.conds }
+    requires held { wait_held pass.old.trace wait.cond ≡ Some wait.val }
+    requires told { TakenWait pass.old.shape wait.val }
+    ensures same { IsSame pass.old pass.new }
+    ensures trace { pass.new.trace ≡ Gave wait.cond (val.Wait wait.val) (val.Wait wait.val) ∷ pass.old.trace }
+{
+    wait.give(wk, pass);
 }
 
 /// Takes the current task off its queue where its state says that it sleeps, as Linux's `schedule`; whether it did.
@@ -73,8 +111,8 @@ pub fn switch_out<B: Kept, R: Wait>(rt: &R, wk: &Wk<B>, pass: &mut Pass, t: Task
         return false;
     }
     dequeue_task(rt, wk, pass, t, false);
-    queue.val.set_cur(None);
-    queue.val.set_left(Some(t));
+    queue.val_mut(wk).set_cur(None);
+    queue.val_mut(wk).set_left(Some(t));
     queue.give_asleep(wk, pass);
     clear_busy(wk, pass, t);
     true

@@ -1,11 +1,12 @@
 //! A wake-up, step by step.
-ghost use Rattle.std.specs.Prelude.{◌≡◌, ◌≢◌, ℕ, ◌<◌, true, false, Some, None, IsSome};
+ghost use Rattle.std.specs.Prelude.{◌≡◌, ◌≢◌, ℕ, ◌<◌, ◌-◌, true, false, Some, None, IsSome};
 ghost use Rattle.uses.specs.Between.{IsBetween};
 ghost use Rattle.core_data.specs.Table.{put};
 ghost use Rattle.task_words.specs.Views.{IsOf, IsSame, IsSameSeat};
 ghost use Rattle.word_rule.specs.May.{number_of};
-ghost use Rattle.word_steps.specs.Folds.{body_held, current_task, is_claimed, is_moving, last_reads, queue_held};
-ghost use Rattle.word_steps.specs.Folds.{saw_clear, task_held, task_to_clear, wait_held, works_held};
+ghost use Rattle.word_steps.specs.Folds.{body_held, current_task, is_claimed, is_matched_by};
+ghost use Rattle.word_steps.specs.Folds.{is_moving, last_reads, queue_held, saw_clear, saw_off};
+ghost use Rattle.word_steps.specs.Folds.{task_held, task_to_clear, wait_held, works_held};
 
 use core_data::Rq;
 use handoff_data::{CpuNo, State, TaskNo, matches};
@@ -37,29 +38,76 @@ pub fn wake<B: Kept, R: Wait>(rt: &R, wk: &Wk<B>, pass: &mut Pass, t: TaskNo, to
     }
     let seen = load_rq(wk, pass, t);
     if seen.on == 1 {
-        let c = load_cpu(wk, pass, t);
-        let queue = lock_queue(rt, wk, pass, c);
-        let again = load_rq(wk, pass, t);
-        if again.on != 1 {
-            queue.give_as_taken(wk, pass);
-            task.give(wk, pass);
-            return false;
-        }
-        store_running(wk, pass, t);
-        queue.give_as_taken(wk, pass);
+        let did = run_on(rt, wk, pass, t);
         task.give(wk, pass);
-        return true;
+        return did;
     }
     if seen.on != 0 {
         task.give(wk, pass);
         return false;
     }
-    store_waking(wk, pass, t, seen.m);
-    wait_clear(rt, wk, pass, t);
+    claim(rt, wk, pass, t, seen.m);
     place(wk, pass, &task, to);
     queue_woken(rt, wk, pass, t, to, seen.m);
     task.give_queued(wk, pass);
     true
+}
+
+// Lets a task that matched run on, where it is still queued; whether it is.
+fn run_on<B: Kept, R: Wait>(rt: &R, wk: &Wk<B>, pass: &mut Pass, t: TaskNo) -> bool
+    requires of { IsOf wk.now pass.old }
+    requires task { t < wk.now.shape.tasks }
+    requires locked { IsSome (task_held pass.old.trace t) }
+    requires matched { is_matched_by pass.old.trace t ≡ true }
+    requires free_queues { (c : ℕ) → queue_held pass.old.trace c ≡ None }
+    requires other { current_task pass.old.seat pass.old.trace ≢ Some t }
+    ensures same { IsSame pass.old pass.new }
+    ensures tasks { task_held pass.new.trace ≡ task_held pass.old.trace }
+    ensures queues { (c : ℕ) → queue_held pass.new.trace c ≡ None }
+    ensures works { works_held pass.new.trace ≡ works_held pass.old.trace }
+    ensures waits { wait_held pass.new.trace ≡ wait_held pass.old.trace }
+    ensures body { body_held pass.new.trace ≡ body_held pass.old.trace }
+    ensures idle { current_task pass.old.seat pass.old.trace ≡ None → current_task pass.new.seat pass.new.trace ≡ None }
+    ensures cleared { current_task pass.old.seat pass.old.trace ≡ None → task_to_clear pass.new.seat pass.new.trace ≡ task_to_clear pass.old.seat pass.old.trace }
+    ensures claimed { is_claimed pass.new.trace ≡ is_claimed pass.old.trace }
+    ensures moving { is_moving pass.new.trace ≡ is_moving pass.old.trace }
+    ensures matched { is_matched_by pass.new.trace t ≡ true }
+{
+    let c = load_cpu(wk, pass, t);
+    let queue = lock_queue(rt, wk, pass, c);
+    let again = load_rq(wk, pass, t);
+    if again.on != 1 {
+        queue.give_as_taken(wk, pass);
+        return false;
+    }
+    store_running(wk, pass, t);
+    queue.give_as_taken(wk, pass);
+    true
+}
+
+// Claims a task that matched and is on no queue, and waits until it runs nowhere.
+fn claim<B: Kept, R: Wait>(rt: &R, wk: &Wk<B>, pass: &mut Pass, t: TaskNo, m: u64)
+    requires of { IsOf wk.now pass.old }
+    requires task { t < wk.now.shape.tasks }
+    requires locked { IsSome (task_held pass.old.trace t) }
+    requires off { saw_off pass.old.trace t ≡ true }
+    requires number { number_of pass.old.trace t ≡ m }
+    requires spare { 0 < pass.old.turn.spare }
+    ensures same { IsSameSeat pass.old pass.new }
+    ensures turn { pass.new.turn.spare ≡ pass.old.turn.spare - 1 }
+    ensures tasks { task_held pass.new.trace ≡ task_held pass.old.trace }
+    ensures queues { queue_held pass.new.trace ≡ queue_held pass.old.trace }
+    ensures works { works_held pass.new.trace ≡ works_held pass.old.trace }
+    ensures waits { wait_held pass.new.trace ≡ wait_held pass.old.trace }
+    ensures body { body_held pass.new.trace ≡ body_held pass.old.trace }
+    ensures current { current_task pass.new.seat pass.new.trace ≡ current_task pass.old.seat pass.old.trace }
+    ensures cleared { task_to_clear pass.new.seat pass.new.trace ≡ task_to_clear pass.old.seat pass.old.trace }
+    ensures claims { is_claimed pass.new.trace ≡ put (is_claimed pass.old.trace) t true }
+    ensures claimed { is_claimed pass.new.trace t ≡ true }
+    ensures clear { saw_clear pass.new.trace t ≡ true }
+{
+    store_waking(wk, pass, t, m);
+    wait_clear(rt, wk, pass, t);
 }
 
 // Puts a claimed task at the back of its processor's queue, to run.
@@ -95,7 +143,7 @@ fn queue_woken<B: Kept, R: Wait>(rt: &R, wk: &Wk<B>, pass: &mut Pass, t: TaskNo,
 }
 
 // Stores the processor of a claimed task where it isn't that one already.
-fn place<B: Kept>(wk: &Wk<B>, pass: &mut Pass, task: &TaskGuard, to: CpuNo)
+fn place<B: Kept>(wk: &Wk<B>, pass: &mut Pass, task: &TaskGuard<B>, to: CpuNo)
     requires of { IsOf wk.now pass.old }
     requires task { task.now.task < wk.now.shape.tasks }
     requires processor { to < wk.now.shape.cpus }

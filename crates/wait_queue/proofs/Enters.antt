@@ -1,12 +1,11 @@
 -- A wait queue that the current task has entered, or left, may be given.
 use Rattle.std.proofs.Common.{◌≡◌, ◌∙◌, ℕ, ◌<◌, ◌∷◌, List, refl, sym, ap, subst, inl, inr, arith}
-use Rattle.std.specs.Prelude.{Bool, true, false, ◌⊎◌, Option, Some, unwrap_or, if◌then◌else◌}
+use Rattle.std.specs.Prelude.{Bool, Option, Some, unwrap_or, if◌then◌else◌}
 use Rattle.std.specs.List.{filter}
 use Rattle.std.proofs.lemmas.Bool.{cases_Bool}
 use Rattle.std.proofs.lemmas.Bool.Decides.{nat_tests}
 use Rattle.core_data.specs.declared.values.WaitEntry.{WaitEntry}
 use Rattle.core_gives.specs.Waits.{has_task}
-use Rattle.core_kinds.specs.Steps.{running}
 use Rattle.handoff_data.specs.declared.shape.Shape.{Shape}
 use Rattle.handoff_data.specs.declared.state.State.{State}
 use Rattle.task_words.proofs.Entered.{entered_gives}

@@ -1,6 +1,6 @@
 -- A walk, entry by entry.
-use Rattle.std.proofs.Common.{◌≡◌, ◌≢◌, ◌∙◌, ℕ, ◌+◌, ◌-◌, ◌*◌, ◌<◌, ◌≤◌, ◌++◌, ◌∷◌, [], List, refl, sym, ap, subst, zero, suc, map, length, arith}
-use Rattle.std.specs.Prelude.{Bool, true, false, ◌&&◌, ◌==◌, Option, Some, None, IfSome, if◌then◌else◌}
+use Rattle.std.proofs.Common.{◌≡◌, ◌≢◌, ◌∙◌, ℕ, ◌+◌, ◌-◌, ◌*◌, ◌<◌, ◌≤◌, ◌++◌, ◌∷◌, [], List, refl, sym, ap, subst, length, arith}
+use Rattle.std.specs.Prelude.{Bool, true, false, ◌&&◌, ◌==◌, Option, Some, IfSome, if◌then◌else◌}
 use Rattle.std.proofs.lemmas.Bool.Decides.{nat_tests}
 use Rattle.std.proofs.lemmas.List.{append_assoc, length-append, append-nil, map-append, length-map}
 use Rattle.core_data.specs.Entries.{has_entry, same_entry, same_truth}
@@ -12,7 +12,7 @@ use Rattle.wait_queue.proofs.Parts.{any_there}
 use Rattle.wait_queue.proofs.Passes.{same_seat_again, rests_none, rests_again, passed_still, passed_more, spare_woken}
 use Rattle.wait_queue.proofs.Turning.{head_or, rest_of, turned_cut}
 use Rattle.wait_queue.specs.Meets.{Meeting, DidWakeTask, HasMet, HasMetOne, HasPassedAll, is_true, is_true_exclusive, entries_of, staying, count_true, count_exclusive}
-use Rattle.wait_queue.specs.Walks.{HasWalked, IsEnd, IsTurned}
+use Rattle.wait_queue.specs.Walks.{HasWalked, IsTurned}
 
 none_behind : (before after : List Meeting) → [] ≡ before ++ after → after ≡ []
 none_behind [] after e = sym e

@@ -1,12 +1,12 @@
 -- A wait queue that is given with some of its entries taken out.
-use Rattle.std.proofs.Common.{◌≡◌, ◌∙◌, ℕ, ◌<◌, ◌++◌, ◌∷◌, [], List, refl, sym, ap, subst, inl, inr, arith}
+use Rattle.std.proofs.Common.{◌≡◌, ◌∙◌, ℕ, ◌++◌, ◌∷◌, [], List, refl, sym, ap, subst, inl, inr, arith}
 use Rattle.std.specs.Prelude.{Bool, true, false, ◌⊎◌, ◌==◌, ◌&&◌, Some, if◌then◌else◌}
 use Rattle.std.specs.List.{filter}
 use Rattle.std.proofs.lemmas.Bool.{cases_Bool, false≢true}
 use Rattle.std.proofs.lemmas.Bool.Decides.{nat_tests}
 use Rattle.core_data.specs.Entries.{any_from, has_entry, same_entry}
 use Rattle.core_data.specs.declared.values.WaitEntry.{WaitEntry}
-use Rattle.core_gives.specs.Waits.{has_task, HasEachOnce, is_walk}
+use Rattle.core_gives.specs.Waits.{HasEachOnce, is_walk}
 use Rattle.handoff_data.specs.declared.shape.Shape.{Shape}
 use Rattle.wait_queue.specs.Meets.{Meeting, HasPassedAll, is_true, entries_of, staying}
 use Rattle.word_rule.specs.May.{MayGiveWaitVal}

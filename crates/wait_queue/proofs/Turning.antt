@@ -1,5 +1,5 @@
 -- Entries that go from the head to the tail.
-use Rattle.std.proofs.Common.{◌≡◌, ◌∙◌, ℕ, ◌+◌, ◌<◌, ◌++◌, ◌∷◌, [], List, refl, sym, ap, zero, suc, length, arith}
+use Rattle.std.proofs.Common.{◌≡◌, ◌∙◌, ℕ, ◌+◌, ◌<◌, ◌++◌, ◌∷◌, [], List, refl, sym, ap, length, arith}
 use Rattle.std.proofs.lemmas.List.{append_assoc, length-append, append-nil}
 use Rattle.core_data.specs.declared.values.WaitEntry.{WaitEntry}
 use Rattle.wait_queue.specs.Walks.{IsTurned}

@@ -1,16 +1,18 @@
 -- The end of a walk: the wait queue is given.
-use Rattle.std.proofs.Common.{◌≡◌, ◌≢◌, ◌∙◌, ℕ, ◌++◌, ◌∷◌, [], List, refl, sym, ap, subst, inr, arith}
+use Rattle.std.proofs.Common.{◌≡◌, ◌≢◌, ◌∙◌, ℕ, ◌++◌, ◌∷◌, [], List, refl, sym, ap, subst, inl, inr, arith}
 use Rattle.std.specs.Prelude.{Bool, true, false, ◌⊎◌, ◌&&◌, Option, Some, None, unwrap_or}
+use Rattle.std.proofs.lemmas.Bool.{cases_eq}
 use Rattle.std.proofs.lemmas.Bool.Decides.{nat_tests}
 use Rattle.std.proofs.lemmas.List.{append-nil}
 use Rattle.core_data.specs.declared.values.WaitEntry.{WaitEntry}
 use Rattle.core_gives.specs.Waits.{is_walk}
 use Rattle.handoff_data.specs.declared.shape.Shape.{Shape}
 use Rattle.run_queue.specs.Rests.{Rests}
-use Rattle.task_words.specs.Views.{PassView, IsSame, IsSameSeat}
+use Rattle.task_words.specs.Views.{PassView, IsSame}
 use Rattle.wait_queue.proofs.Parts.{IsPart, part_gives, part_staying, part_more, passed_walk}
-use Rattle.wait_queue.specs.Meets.{entries_of, staying, count_exclusive, HasMet, HasPassedAll}
-use Rattle.wait_queue.specs.Walks.{HasWalked, IsWalked, IsEnd}
+use Rattle.wait_queue.specs.Meets.{entries_of, staying, count_exclusive, HasMet}
+use Rattle.wait_queue.specs.Settles.{Settles}
+use Rattle.wait_queue.specs.Walks.{HasWalked, IsWalked}
 use Rattle.word_rule.specs.May.{MayGiveWaitVal}
 use Rattle.word_rule.specs.Told.{TakenWait}
 use Rattle.word_steps.specs.Folds.{current_task, wait_held, has_passed, has_retaken, owes_walk, put_if}
@@ -39,6 +41,33 @@ pub walk_pays : (k : ℕ) (trace : List Rec) (v given : List WaitEntry) → has_
     → is_walk (has_passed trace k) v ≡ true → owes_walk (Gave k (val.Wait v) (val.Wait given) ∷ trace) k ≡ false
 walk_pays k trace v given retaken all =
     paid_if (owes_walk trace k) (has_retaken trace k) (is_walk (has_passed trace k) v) k (owes_walk trace) refl retaken all
+
+-- the lock of a wait queue was taken, and is given
+around : (s k : ℕ) (v w given : List WaitEntry) (rs after : List Rec) → Rests s (Took k (val.Wait v) ∷ rs) after
+    → Settles s rs (Gave k (val.Wait w) (val.Wait given) ∷ after)
+around s k v w given rs after x = record {
+  tasks = x.tasks;
+  queues = x.queues;
+  waits = λ j e. elim (cases_eq j k) [
+    | inl same ↦ grind (arith, nat_tests, same)
+    | inr apart ↦
+        let held : wait_held after j ≡ wait_held (Took k (val.Wait v) ∷ rs) j = ap (λ (h : ℕ → Option (List WaitEntry)). h j) x.apart.waits in
+        grind (arith, nat_tests, apart, held, e)
+  ];
+  claimed = x.claimed;
+  works = x.apart.works;
+  body = x.apart.body;
+  ended = x.apart.ended;
+  current = x.current;
+  stays = x.apart.stays;
+  clear = x.clear;
+}
+
+pub walk_settles : (s seat k cond : ℕ) (v w given : List WaitEntry) (rs old after new : List Rec) → old ≡ Took k (val.Wait v) ∷ rs
+    → Rests seat old after → seat ≡ s → cond ≡ k → new ≡ Gave cond (val.Wait w) (val.Wait given) ∷ after → Settles s rs new
+walk_settles s seat k cond v w given rs old after new took rests same at gave =
+    subst (Settles s rs) (sym (gave ∙ ap (λ (n : ℕ). Gave n (val.Wait w) (val.Wait given) ∷ after) at))
+    (around s k v w given rs after (subst (λ (z : ℕ × List Rec). Rests z.0 z.1 after) (λ i. (same i, took i)) rests))
 
 module _ (shape : Shape) (limit : Option ℕ) (given v : List WaitEntry) (old after : PassView) (woken k : ℕ) where
   -- the lock is held still, as it was taken

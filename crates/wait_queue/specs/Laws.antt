@@ -1,5 +1,5 @@
 -- What the calls on wait queues mean for those who wait there.
-use Rattle.std.specs.Prelude.{◌≡◌, ◌≢◌, ℕ, ◌≤◌, ◌++◌, ◌∷◌, [], ◌⊎◌, ◌↔◌, Bool, true, false, List, Option, Some, None}
+use Rattle.std.specs.Prelude.{◌≡◌, ◌≢◌, ℕ, ◌≤◌, ◌++◌, ◌∷◌, [], ◌⊎◌, Bool, true, false, List, Some}
 use Rattle.std.specs.List.{All}
 use Rattle.core_data.specs.Entries.{has_entry}
 use Rattle.core_data.specs.declared.values.WaitEntry.{WaitEntry}
@@ -8,7 +8,6 @@ use Rattle.handoff_data.specs.declared.shape.Shape.{Shape}
 use Rattle.handoff_data.specs.declared.state.State.{State}
 use Rattle.task_words.specs.Views.{PassView}
 use Rattle.wait_queue.specs.Meets.{Meeting, HasMet, is_true, entries_of, staying, count_exclusive}
-use Rattle.wait_queue.specs.Walks.{IsWalked}
 use Rattle.word_steps.specs.Folds.{current_task}
 use Rattle.word_steps.specs.Records.{Rec, Took, Gave, StoredOwn}
 use Rattle.word_steps.specs.declared.val.Val.TheVariants as val

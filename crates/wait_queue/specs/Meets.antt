@@ -1,5 +1,5 @@
 -- A walk meets the entries of a wait queue, and wakes their tasks.
-use Rattle.std.specs.Prelude.{◌≡◌, ◌≢◌, ℕ, ◌+◌, ◌++◌, ◌∷◌, [], ◌&&◌, Bool, true, false, List, Option, Some, None, map, if◌then◌else◌}
+use Rattle.std.specs.Prelude.{◌≡◌, ◌≢◌, ℕ, ◌+◌, ◌++◌, ◌∷◌, [], ◌&&◌, Bool, true, false, List, Some, map, if◌then◌else◌}
 use Rattle.core_data.specs.declared.values.WaitEntry.{WaitEntry}
 use Rattle.core_kinds.specs.Steps.{normal}
 use Rattle.handoff_data.specs.declared.shape.Shape.{Shape}

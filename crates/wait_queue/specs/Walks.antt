@@ -4,7 +4,7 @@ use Rattle.core_data.specs.declared.values.WaitEntry.{WaitEntry}
 use Rattle.handoff_data.specs.declared.shape.Shape.{Shape}
 use Rattle.task_words.specs.Views.{PassView}
 use Rattle.wait_queue.specs.Meets.{Meeting, HasMet, entries_of, staying, count_true, count_exclusive, HasPassedAll}
-use Rattle.word_steps.specs.Records.{Rec, Took, Gave, Bumped}
+use Rattle.word_steps.specs.Records.{Took, Gave, Bumped}
 use Rattle.word_steps.specs.declared.val.Val.TheVariants as val
 
 -- a walk ends where no entry is left, or as soon as so many true exclusive wakes are made, where a number was asked for

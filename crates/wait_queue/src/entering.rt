@@ -13,14 +13,16 @@ use task_words::{Kept, Pass, WaitGuard, Wk, lock_wait, set_running, set_state};
 
 // Puts an entry of a task in, where it has none there.
 #[tactic(auto, unfolding(crate::specs::Entering::with_entry))]
-fn enter_once<B: Kept>(wk: &Wk<B>, pass: &Pass, wait: &mut WaitGuard, t: TaskNo, exclusive: bool)
+fn enter_once<B: Kept>(wk: &Wk<B>, pass: &Pass, wait: &mut WaitGuard<B>, t: TaskNo, exclusive: bool)
     requires of { IsOf wk.now pass.now }
     requires task { t < wk.now.shape.tasks }
+    requires table { wait.old.of ≡ wk.now.name }
     requires taken { TakenWait pass.now.shape wait.old.val }
+    ensures table { wait.new.of ≡ wait.old.of }
     ensures condition { wait.new.cond ≡ wait.old.cond }
     ensures value { wait.new.val ≡ with_entry (record { t = t; exclusive = exclusive }) wait.old.val }
 {
-    if !wait.val.has_task(t) {
+    if !wait.val_mut(wk).has_task(t) {
         wait.enter(wk, pass, t, exclusive);
     }
 }
@@ -73,6 +75,6 @@ pub fn finish<B: Kept, R: Wait>(rt: &R, wk: &Wk<B>, pass: &mut Pass, k: CondNo)
     };
     set_running(wk, pass);
     let mut left = lock_wait(rt, wk, pass, k);
-    left.val.remove(t);
+    left.val_mut(wk).remove(t);
     left.give(wk, pass);
 }

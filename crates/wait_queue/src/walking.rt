@@ -24,7 +24,7 @@ fn walk<B: Kept, R: Wait>(rt: &R, wk: &Wk<B>, pass: &mut Pass, k: CondNo, limit:
     ensures paid { limit ≡ None → owes_walk pass.new.trace k ≡ false }
 {
     let mut wait = lock_wait(rt, wk, pass, k);
-    let woken = walk_entries(rt, wk, pass, &mut wait.val, limit);
+    let woken = walk_entries(rt, wk, pass, wait.val_mut(wk), limit);
     wait.give(wk, pass);
     woken
 }

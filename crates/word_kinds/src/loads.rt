@@ -31,7 +31,7 @@ impl Kind for LoadState {
     ghost keep = { load_state_law };
 
     fn column() -> usize {
-        2
+        10
     }
 }
 
@@ -67,7 +67,7 @@ impl Kind for LoadRq {
     ghost keep = { load_rq_law };
 
     fn column() -> usize {
-        3
+        11
     }
 }
 
@@ -101,7 +101,7 @@ impl Kind for LoadBusy {
     ghost keep = { load_busy_law };
 
     fn column() -> usize {
-        4
+        12
     }
 }
 
@@ -135,7 +135,7 @@ impl Kind for LoadCpu {
     ghost keep = { load_cpu_law };
 
     fn column() -> usize {
-        5
+        13
     }
 }
 
@@ -169,6 +169,6 @@ impl Kind for LoadCond {
     ghost keep = { load_cond_law };
 
     fn column() -> usize {
-        33
+        41
     }
 }

@@ -32,7 +32,7 @@ impl Kind for QueueTask {
     ghost keep = { queue_law };
 
     fn column() -> usize {
-        3
+        11
     }
 }
 
@@ -67,7 +67,7 @@ impl Kind for DequeueTask {
     ghost keep = { dequeue_law };
 
     fn column() -> usize {
-        3
+        11
     }
 }
 
@@ -102,7 +102,7 @@ impl Kind for MoveTask {
     ghost keep = { move_law };
 
     fn column() -> usize {
-        3
+        11
     }
 }
 
@@ -137,7 +137,7 @@ impl Kind for SetBusy {
     ghost keep = { set_busy_law };
 
     fn column() -> usize {
-        4
+        12
     }
 }
 
@@ -172,6 +172,6 @@ impl Kind for ClearBusy {
     ghost keep = { clear_busy_law };
 
     fn column() -> usize {
-        4
+        12
     }
 }

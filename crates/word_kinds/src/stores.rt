@@ -32,7 +32,7 @@ impl Kind for StoreOwn {
     ghost keep = { own_state_law };
 
     fn column() -> usize {
-        2
+        10
     }
 }
 
@@ -67,7 +67,7 @@ impl Kind for StoreWaking {
     ghost keep = { claim_law };
 
     fn column() -> usize {
-        2
+        10
     }
 }
 
@@ -102,7 +102,7 @@ impl Kind for StoreRunning {
     ghost keep = { release_law };
 
     fn column() -> usize {
-        2
+        10
     }
 }
 
@@ -137,7 +137,7 @@ impl Kind for StoreCpu {
     ghost keep = { store_cpu_law };
 
     fn column() -> usize {
-        5
+        13
     }
 }
 
@@ -171,6 +171,6 @@ impl Kind for BumpCond {
     ghost keep = { bump_law };
 
     fn column() -> usize {
-        33
+        41
     }
 }

@@ -1,69 +1,70 @@
 -- The words: their columns, and what each shows. Word n of column c is word 64 n + c, so a task, a processor, a
--- condition and a seat have 16 words each of their own.
+-- condition and a seat have 16 words each of their own. The first eight of a number stay 0: word 0, which each lock
+-- taken and given loads, is on a cache line that nobody writes.
 use Rattle.std.specs.Prelude.{ℕ, zero, suc, ◌+◌, ◌*◌, ◌%◌, ◌==◌, Bool, Option, Some, None, List, slice_index, nat_lt, if◌then◌else◌}
 use Rattle.core_data.specs.declared.words.Phase.{Phase}
 use Rattle.core_data.specs.declared.words.Phase.TheVariants.{Live, Leaving, Swept, Dead, Rising}
 
 -- of a task; no step changes BODY, by which bodies are taken out and put home
 abbrev pub LOCK : ℕ
-LOCK = 0
+LOCK = 8
 
 abbrev pub BODY : ℕ
-BODY = 1
+BODY = 9
 
 abbrev pub STATE : ℕ
-STATE = 2
+STATE = 10
 
 abbrev pub RQ : ℕ
-RQ = 3
+RQ = 11
 
 abbrev pub BUSY : ℕ
-BUSY = 4
+BUSY = 12
 
 abbrev pub CPU : ℕ
-CPU = 5
+CPU = 13
 
 abbrev pub COUNT : ℕ
-COUNT = 6
+COUNT = 14
 
 -- of a processor
 abbrev pub QUEUE_LOCK : ℕ
-QUEUE_LOCK = 16
+QUEUE_LOCK = 24
 
 abbrev pub WORKS_LOCK : ℕ
-WORKS_LOCK = 17
+WORKS_LOCK = 25
 
 abbrev pub LIST_LOCK : ℕ
-LIST_LOCK = 18
+LIST_LOCK = 26
 
 abbrev pub HINT : ℕ
-HINT = 19
+HINT = 27
 
 abbrev pub PINNED : ℕ
-PINNED = 20
+PINNED = 28
 
 abbrev pub PHASE : ℕ
-PHASE = 21
+PHASE = 29
 
 abbrev pub ACTIVE : ℕ
-ACTIVE = 22
+ACTIVE = 30
 
 -- of a condition
 abbrev pub WAIT_LOCK : ℕ
-WAIT_LOCK = 32
+WAIT_LOCK = 40
 
 abbrev pub COND : ℕ
-COND = 33
+COND = 41
 
 -- of a seat
 abbrev pub MARK : ℕ
-MARK = 48
+MARK = 56
 
 abbrev pub DONE : ℕ
-DONE = 49
+DONE = 57
 
 abbrev pub REFS : ℕ
-REFS = 50
+REFS = 58
 
 abbrev pub STRIDE : ℕ
 STRIDE = 64

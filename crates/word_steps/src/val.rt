@@ -1,4 +1,8 @@
 //! The values that locks guard, in one type.
+ghost use Rattle.std.specs.Prelude.{◌≡◌};
+ghost use Rattle.std.specs.Borrow.{sem};
+ghost use Rattle.word_steps.specs.Lending.{LendsTask, LendsQueue, LendsWorks, LendsWait, IsTask, IsQueue, IsWorks, IsWait};
+ghost use Rattle.word_steps.specs.declared.val.Val.TheVariants as val;
 
 use crate::boxes::{QueueBox, TaskBox, WorksBox};
 use crate::wait::WaitQueue;
@@ -15,4 +19,54 @@ pub enum Val {
     Works(WorksBox),
     /// What the lock of a condition's wait queue guards.
     Wait(WaitQueue),
+}
+
+impl Val {
+    /// What a task's lock guards, where this is that.
+    pub fn task_mut(&mut self) -> &mut TaskBox
+        requires task { IsTask self.old }
+        ensures* writes_back { sem 𝓛 (LendsTask self.entry result) }
+        ensures value { self.old ≡ val.Task result.now }
+    {
+        match self {
+            Val::Task(task) => task,
+            _ => unreachable!(),
+        }
+    }
+
+    /// What the lock of a processor's queue guards, where this is that.
+    pub fn queue_mut(&mut self) -> &mut QueueBox
+        requires queue { IsQueue self.old }
+        ensures* writes_back { sem 𝓛 (LendsQueue self.entry result) }
+        ensures value { self.old ≡ val.Queue result.now }
+    {
+        match self {
+            Val::Queue(queue) => queue,
+            _ => unreachable!(),
+        }
+    }
+
+    /// What the lock of a processor's works guards, where this is that.
+    pub fn works_mut(&mut self) -> &mut WorksBox
+        requires works { IsWorks self.old }
+        ensures* writes_back { sem 𝓛 (LendsWorks self.entry result) }
+        ensures value { self.old ≡ val.Works result.now }
+    {
+        match self {
+            Val::Works(works) => works,
+            _ => unreachable!(),
+        }
+    }
+
+    /// What the lock of a condition's wait queue guards, where this is that.
+    pub fn wait_mut(&mut self) -> &mut WaitQueue
+        requires wait { IsWait self.old }
+        ensures* writes_back { sem 𝓛 (LendsWait self.entry result) }
+        ensures value { self.old ≡ val.Wait result.now }
+    {
+        match self {
+            Val::Wait(wait) => wait,
+            _ => unreachable!(),
+        }
+    }
 }

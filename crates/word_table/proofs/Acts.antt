@@ -1,6 +1,5 @@
--- What each kind of table act leaves of the rule: a step on a word alone, a slot that is taken up, and one that is put
--- down.
-use Rattle.std.proofs.Common.{◌≡◌, ◌≢◌, ℕ, suc, ◌+◌, ◌*◌, ◌<◌, Bool, true, set, length, length-set, refl, sym, ap, ◌∙◌, subst, List, [], ◌∷◌, ◌⊎◌, inl, inr, ⊎_elim, arith}
+-- What each kind of table act leaves of the rule: a step on a word alone, a slot that is taken, and one that is put home.
+use Rattle.std.proofs.Common.{◌≡◌, ◌≢◌, ℕ, ◌+◌, ◌*◌, ◌<◌, Bool, true, false, set, length, length-set, refl, sym, ap, ◌∙◌, subst, List, [], ◌∷◌, ◌⊎◌, inl, ⊎_elim, arith}
 use mathlib.Core.Logic.{dite}
 use mathlib.Core.Option.{none, some, some-injective, some-ne-none}
 use mathlib.Core.Option as maybe
@@ -26,7 +25,7 @@ use Rattle.word_table.specs.Plays.{one, part}
 use Rattle.word_table.specs.Ruled.{Each, Fits, SlotOut, IsRoomed, IsBody, homes_of, known_of, Ruled}
 use Rattle.word_table.specs.declared.slot.Key.{Key}
 use Rattle.word_table.specs.declared.slot.Slot.{Slot}
-use Rattle.word_table.specs.declared.slot.Slot.TheVariants.{Empty, Held, Body}
+use Rattle.word_table.specs.declared.slot.Slot.TheVariants.{Held, Body}
 use Rattle.word_table.specs.declared.view.View.{View}
 
 pub each_map : {A : Type 0} (P Q : A → Type 0) (xs : List A) → ((x : A) → P x → Q x) → Each P xs → Each Q xs
@@ -57,29 +56,24 @@ module _ {B : Type 0} (lasting : B → List ℕ) (ended_of : B → Bool) (key : 
   last = SLOTS * rows_of key.shape
 
   -- what the rule has of a seat with one part
-  pub record Mine (s : St) (r : R s) (id k : ℕ) (known : Known) (trace : List Rec) (h : ℕ) : Type 0 where
+  pub record Mine (s : St) (r : R s) (id k : ℕ) (known : Known) (trace : List Rec) : Type 0 where
     pub near : k < seats
     pub owned : r.owner k ≡ id
     pub trace_is : trace ≡ r.trace k
-    pub hand_is : h ≡ r.hand k
     pub known_is : known ≡ known_of lasting key
 
-  pub mine : (s : St) (r : R s) (id k : ℕ) (known : Known) (trace : List Rec) (h : ℕ)
-      → get_elem? s.views id ≡ some (one known (part k trace h)) → Mine s r id k known trace h
-  mine s r id k known trace h at = let e = r.parts id (one known (part k trace h)) at in let f = e.0.0 in record {
+  pub mine : (s : St) (r : R s) (id k : ℕ) (known : Known) (trace : List Rec)
+      → get_elem? s.views id ≡ some (one known (part k trace)) → Mine s r id k known trace
+  mine s r id k known trace at = let e = r.parts id (one known (part k trace)) at in let f = e.0.0 in record {
     near = f.near;
     owned = f.owned;
     trace_is = f.trace_is;
-    hand_is = f.hand_is;
-    known_is = ⊎_elim (λ z. z) (λ z. let no : part k trace h ∷ [] ≡ [] = z in cc) e.1;
+    known_is = ⊎_elim (λ z. z) (λ z. let no : part k trace ∷ [] ≡ [] = z in cc) e.1;
   }
 
-  -- what the seats have out, after the seat k has the trace tr' and the hand h'
-  abbrev SlotsAfter : (s : St) → R s → (k : ℕ) → List Rec → (h' : ℕ) → Lying → (ℕ → ℕ) → Type 0
-  SlotsAfter s r k tr' h' homes' keeper' = (j q : ℕ) → q < seats → has_out j (put r.trace k tr' q) ≡ true → SlotOut homes' (put r.hand k h') keeper' j q
-
-  abbrev HandsAfter : (s : St) → R s → (k : ℕ) → List Rec → (h' : ℕ) → Type 0
-  HandsAfter s r k tr' h' = (j q : ℕ) → q < seats → put r.hand k h' q ≡ suc j → has_out j (put r.trace k tr' q) ≡ true
+  -- what the seats have out, after the seat k has the trace tr'
+  abbrev SlotsAfter : (s : St) → R s → (k : ℕ) → List Rec → Lying → (ℕ → ℕ) → Type 0
+  SlotsAfter s r k tr' homes' keeper' = (j q : ℕ) → q < seats → has_out j (put r.trace k tr' q) ≡ true → SlotOut homes' keeper' j q
 
   abbrev BodiesAfter : Lying → (ℕ → Bool) → Type 0
   BodiesAfter homes' ended' = (t : ℕ) (b : B) → get_elem? homes' (slot_at t BODY_SLOT) ≡ some (some (Body b)) → IsBody lasting key ended_of ended' t b
@@ -87,15 +81,14 @@ module _ {B : Type 0} (lasting : B → List ℕ) (ended_of : B → Bool) (key : 
   abbrev KeptAfter : (s : St) → R s → (k : ℕ) → List Rec → (i x : ℕ) → Lying → (ℕ → Bool) → Type 0
   KeptAfter s r k tr' i x homes' ended' = Kept key.shape (words_of (set s.words i x)) (homes_of homes' ended') (put r.trace k tr')
 
-  moved : (s : St) (r : R s) (id k : ℕ) (known : Known) (tr tr' : List Rec) (h h' i x : ℕ) (homes' : Lying) (keeper' : ℕ → ℕ) (ended' : ℕ → Bool)
-      → get_elem? s.views id ≡ some (one known (part k tr h)) → length homes' ≡ length s.homes
+  moved : (s : St) (r : R s) (id k : ℕ) (known : Known) (tr tr' : List Rec) (i x : ℕ) (homes' : Lying) (keeper' : ℕ → ℕ) (ended' : ℕ → Bool)
+      → get_elem? s.views id ≡ some (one known (part k tr)) → length homes' ≡ length s.homes
       → get_elem? homes' last ≡ get_elem? s.homes last
-      → SlotsAfter s r k tr' h' homes' keeper' → HandsAfter s r k tr' h' → BodiesAfter homes' ended'
+      → SlotsAfter s r k tr' homes' keeper' → BodiesAfter homes' ended'
       → ExclusivesTold (put r.trace k tr') (homes_of homes' ended').wait → KeptAfter s r k tr' i x homes' ended'
-      → R record { words = set s.words i x; homes = homes'; views = set s.views id (one known (part k tr' h')) }
-  moved s r id k known tr tr' h h' i x homes' keeper' ended' at as_long same_room slots hands bodies told inv = let me = mine s r id k known tr h at in record {
+      → R record { words = set s.words i x; homes = homes'; views = set s.views id (one known (part k tr')) }
+  moved s r id k known tr tr' i x homes' keeper' ended' at as_long same_room slots bodies told inv = let me = mine s r id k known tr at in record {
     trace = put r.trace k tr';
-    hand = put r.hand k h';
     owner = r.owner;
     keeper = keeper';
     ended = ended';
@@ -104,112 +97,79 @@ module _ {B : Type 0} (lasting : B → List ℕ) (ended_of : B → Bool) (key : 
     deep = as_long ∙ r.deep;
     room = subst (IsRoomed key.shape.tasks) (sym same_room) r.room;
     parts = λ j v there. ⊎_elim
-        (λ e. subst (λ (u : View). Each (Fits seats (put r.trace k tr') (put r.hand k h') r.owner j) u.parts × ((u.known ≡ known_of lasting key) ⊎ (u.parts ≡ []))) e.1
-        ((record { near = me.near; owned = me.owned ∙ sym e.0; trace_is = sym (put_same r.trace k tr'); hand_is = sym (put_same r.hand k h') }, tt), inl me.known_is))
+        (λ e. subst (λ (u : View). Each (Fits seats (put r.trace k tr') r.owner j) u.parts × ((u.known ≡ known_of lasting key) ⊎ (u.parts ≡ []))) e.1
+        ((record { near = me.near; owned = me.owned ∙ sym e.0; trace_is = sym (put_same r.trace k tr') }, tt), inl me.known_is))
         (λ e. let old = r.parts j v e.1 in (
-          each_map (Fits seats r.trace r.hand r.owner j) (Fits seats (put r.trace k tr') (put r.hand k h') r.owner j) v.parts
+          each_map (Fits seats r.trace r.owner j) (Fits seats (put r.trace k tr') r.owner j) v.parts
               (λ p f. let ne : p.number ≢ k = λ same. e.0 (sym f.owned ∙ ap r.owner same ∙ me.owned) in record {
                 near = f.near;
                 owned = f.owned;
                 trace_is = f.trace_is ∙ sym (put_other r.trace k tr' p.number ne);
-                hand_is = f.hand_is ∙ sym (put_other r.hand k h' p.number ne);
               })
               old.0,
           old.1,
         ))
-        (at_set s.views id j (one known (part k tr' h')) v there);
+        (at_set s.views id j (one known (part k tr')) v there);
     slots = slots;
-    hands = hands;
     bodies = bodies;
     inv = inv;
     exclusives = told;
   }
 
-  -- another slot of the seat q, after the seat k did something with the slot i
-  other_slot : (s : St) (r : R s) (k i j q h' : ℕ) (homes' : Lying) (keeper' : ℕ → ℕ) → j ≢ i → ((r.hand k ≡ 0) ⊎ (r.hand k ≡ suc i))
-      → ((h' ≡ 0) ⊎ (h' ≡ suc i))
-      → get_elem? homes' j ≡ get_elem? s.homes j → keeper' j ≡ r.keeper j → SlotOut s.homes r.hand r.keeper j q
-      → SlotOut homes' (put r.hand k h') keeper' j q
-  other_slot s r k i j q h' homes' keeper' ne before after home kept old =
-      let was : r.hand k ≢ suc j = ⊎_elim (λ z e. absurd (omega (arith, z, e))) (λ z e. ne (omega (arith, z, e))) before in
-      let now : h' ≢ suc j = ⊎_elim (λ z e. absurd (omega (arith, z, e))) (λ z e. ne (omega (arith, z, e))) after in record {
-        kept = kept ∙ old.kept;
-        lies = dite (ℕ_discrete q k)
-            (λ same. ⊎_elim (λ t. absurd (was (ap r.hand (sym same) ∙ t.0))) (λ t. inr ((λ e. now (sym (put_same r.hand k h') ∙ ap (put r.hand k h') (sym same) ∙ e)), home ∙ t.1)) old.lies)
-            (λ other. ⊎_elim (λ t. inl (put_other r.hand k h' q other ∙ t.0, home ∙ t.1)) (λ t. inr ((λ e. t.0 (sym (put_other r.hand k h' q other) ∙ e)), home ∙ t.1)) old.lies);
-      }
-
   -- A step on a word alone
   pub steady : (s : St) (r : R s) (id k : ℕ) (known : Known) (tr tr' : List Rec) (i x : ℕ)
-      → get_elem? s.views id ≡ some (one known (part k tr 0))
+      → get_elem? s.views id ≡ some (one known (part k tr))
       → ((j : ℕ) → has_out j tr' ≡ has_out j tr) → TellsAll tr tr' → KeptAfter s r k tr' i x s.homes r.ended
-      → R record { words = set s.words i x; homes = s.homes; views = set s.views id (one known (part k tr' 0)) }
-  steady s r id k known tr tr' i x at quiet more inv = let me = mine s r id k known tr 0 at in
+      → R record { words = set s.words i x; homes = s.homes; views = set s.views id (one known (part k tr')) }
+  steady s r id k known tr tr' i x at quiet more inv = let me = mine s r id k known tr at in
       let same : (j q : ℕ) → has_out j (put r.trace k tr' q) ≡ has_out j (r.trace q) = λ j. put_unseen (has_out j) r.trace k tr' (quiet j ∙ ap (has_out j) me.trace_is) in
-      let hand : (q : ℕ) → put r.hand k 0 q ≡ r.hand q = put_unseen (λ (n : ℕ). n) r.hand k 0 me.hand_is in
-      moved s r id k known tr tr' 0 0 i x s.homes r.keeper r.ended at refl refl
-      (λ j q near e. let old = r.slots j q near (sym (same j q) ∙ e) in record {
-        kept = old.kept;
-        lies = ⊎_elim (λ t. inl (hand q ∙ t.0, t.1)) (λ t. inr ((λ e. t.0 (sym (hand q) ∙ e)), t.1)) old.lies;
-      })
-      (λ j q near e. same j q ∙ r.hands j q near (sym (hand q) ∙ e))
+      moved s r id k known tr tr' i x s.homes r.keeper r.ended at refl refl
+      (λ j q near e. r.slots j q near (sym (same j q) ∙ e))
       r.bodies (told_still r.trace k tr tr' me.trace_is more (homes_of s.homes r.ended).wait r.exclusives) inv
 
-  -- The slot j comes into the seat's hand, which nobody else has
+  -- The slot j, which nobody else has, comes into the seat's hand
   pub ups : (s : St) (r : R s) (id k : ℕ) (known : Known) (tr tr' : List Rec) (j i x : ℕ)
-      → get_elem? s.views id ≡ some (one known (part k tr 0)) → j < length s.homes → j < last
-      → ((o : ℕ) → o ≢ j → has_out o tr' ≡ has_out o tr) → has_out j tr' ≡ true
-      → ((q : ℕ) → q < seats → q ≢ k → has_out j (r.trace q) ≡ true → ⊥)
+      → get_elem? s.views id ≡ some (one known (part k tr)) → j < length s.homes → j < last
+      → ((o : ℕ) → o ≢ j → has_out o tr' ≡ has_out o tr)
+      → ((q : ℕ) → q < seats → has_out j (r.trace q) ≡ true → ⊥)
       → TellsAll tr tr' → KeptAfter s r k tr' i x (set s.homes j none) r.ended
-      → R record { words = set s.words i x; homes = set s.homes j none; views = set s.views id (one known (part k tr' (suc j))) }
-  ups s r id k known tr tr' j i x at there below quiet out alone more inv = let me = mine s r id k known tr 0 at in
+      → R record { words = set s.words i x; homes = set s.homes j none; views = set s.views id (one known (part k tr')) }
+  ups s r id k known tr tr' j i x at there below quiet alone more inv = let me = mine s r id k known tr at in
       let same : (o q : ℕ) → o ≢ j → has_out o (put r.trace k tr' q) ≡ has_out o (r.trace q) = λ o q ne. put_unseen (has_out o) r.trace k tr' (quiet o ne ∙ ap (has_out o) me.trace_is) q in
-      let out_now : has_out j (put r.trace k tr' k) ≡ true = ap (has_out j) (put_same r.trace k tr') ∙ out in
-      moved s r id k known tr tr' 0 (suc j) i x (set s.homes j none) (put r.keeper j k) r.ended at (length-set s.homes j none) (set_else s.homes j last none (λ e. omega (arith, e, below)))
+      moved s r id k known tr tr' i x (set s.homes j none) (put r.keeper j k) r.ended at (length-set s.homes j none) (set_else s.homes j last none (λ e. omega (arith, e, below)))
       (λ o q near e. dite (ℕ_discrete o j)
       (λ is. dite (ℕ_discrete q k)
-      (λ mine_too. subst (λ (z : ℕ). SlotOut (set s.homes j none) (put r.hand k (suc j)) (put r.keeper j k) z q) (sym is)
-      (subst (λ (z : ℕ). SlotOut (set s.homes j none) (put r.hand k (suc j)) (put r.keeper j k) j z) (sym mine_too)
-      record { kept = put_same r.keeper j k; lies = inl (put_same r.hand k (suc j), set_here s.homes j none there) }))
-      (λ other. absurd (alone q near other (subst (λ (z : ℕ). has_out z (r.trace q) ≡ true) is (ap (has_out o) (sym (put_other r.trace k tr' q other)) ∙ e)))))
-      (λ ne. other_slot s r k j o q (suc j) (set s.homes j none) (put r.keeper j k) ne (inl (sym me.hand_is)) (inr refl) (set_else s.homes j o none ne) (put_other r.keeper j k o ne)
-      (r.slots o q near (sym (same o q ne) ∙ e))))
-      (λ o q near e. dite (ℕ_discrete q k)
-      (λ mine_too. let is : suc j ≡ suc o = sym (put_same r.hand k (suc j)) ∙ ap (put r.hand k (suc j)) (sym mine_too) ∙ e in let is' : j ≡ o = omega (arith, is) in
-      subst (λ (z : ℕ). has_out z (put r.trace k tr' q) ≡ true) is' (subst (λ (z : ℕ). has_out j (put r.trace k tr' z) ≡ true) (sym mine_too) out_now))
-      (λ other. ap (has_out o) (put_other r.trace k tr' q other) ∙ r.hands o q near (sym (put_other r.hand k (suc j) q other) ∙ e)))
+      (λ mine_too. subst (λ (z : ℕ). SlotOut (set s.homes j none) (put r.keeper j k) z q) (sym is)
+      (subst (λ (z : ℕ). SlotOut (set s.homes j none) (put r.keeper j k) j z) (sym mine_too)
+      record { kept = put_same r.keeper j k; lies = set_here s.homes j none there }))
+      (λ other. absurd (alone q near (subst (λ (z : ℕ). has_out z (r.trace q) ≡ true) is (ap (has_out o) (sym (put_other r.trace k tr' q other)) ∙ e)))))
+      (λ ne. let old = r.slots o q near (sym (same o q ne) ∙ e) in record { kept = put_other r.keeper j k o ne ∙ old.kept; lies = set_else s.homes j o none ne ∙ old.lies }))
       (λ t b is. ⊎_elim (λ e. absurd (some-ne-none (Body b) (sym e.1))) (λ e. r.bodies t b e.1) (at_set s.homes j (slot_at t BODY_SLOT) none (some (Body b)) is))
       (told_gone r.trace k tr tr' me.trace_is more s.homes r.ended r.exclusives j) inv
 
   -- The slot j goes from the seat's hand to its place, with y in it
   pub downs : (s : St) (r : R s) (id k : ℕ) (known : Known) (tr tr' : List Rec) (j i x : ℕ) (y : Slot B) (ended' : ℕ → Bool)
-      → get_elem? s.views id ≡ some (one known (part k tr (suc j))) → j < length s.homes → j < last
-      → ((o : ℕ) → o ≢ j → has_out o tr' ≡ has_out o tr) → (has_out j tr' ≡ true → y ≡ Empty)
+      → get_elem? s.views id ≡ some (one known (part k tr)) → j < length s.homes → j < last
+      → ((o : ℕ) → o ≢ j → has_out o tr' ≡ has_out o tr) → has_out j tr ≡ true → has_out j tr' ≡ false
       → ((t : ℕ) (b : B) → slot_at t BODY_SLOT ≡ j → y ≡ Body b → IsBody lasting key ended_of ended' t b)
       → ((t : ℕ) → slot_at t BODY_SLOT ≢ j → r.ended t ≡ ended' t)
       → TellsAll tr tr'
       → ((l t : ℕ) (entries : List WaitEntry) → slot_at l (slot_of OfWait) ≡ j → y ≡ Held (val.Wait entries)
       → has_entry entries (exclusive_entry t) ≡ true → gave_exclusive tr' l t ≡ true)
       → KeptAfter s r k tr' i x (set s.homes j (some y)) ended'
-      → R record { words = set s.words i x; homes = set s.homes j (some y); views = set s.views id (one known (part k tr' 0)) }
-  downs s r id k known tr tr' j i x y ended' at there below quiet empty body others more new inv = let me = mine s r id k known tr (suc j) at in
+      → R record { words = set s.words i x; homes = set s.homes j (some y); views = set s.views id (one known (part k tr')) }
+  downs s r id k known tr tr' j i x y ended' at there below quiet had back body others more new inv = let me = mine s r id k known tr at in
       let same : (o q : ℕ) → o ≢ j → has_out o (put r.trace k tr' q) ≡ has_out o (r.trace q) = λ o q ne. put_unseen (has_out o) r.trace k tr' (quiet o ne ∙ ap (has_out o) me.trace_is) q in
-      let had : has_out j (r.trace k) ≡ true = r.hands j k me.near (sym me.hand_is) in
-      moved s r id k known tr tr' (suc j) 0 i x (set s.homes j (some y)) r.keeper ended' at (length-set s.homes j (some y)) (set_else s.homes j last (some y) (λ e. omega (arith, e, below)))
+      let had' : has_out j (r.trace k) ≡ true = ap (has_out j) (sym me.trace_is) ∙ had in
+      moved s r id k known tr tr' i x (set s.homes j (some y)) r.keeper ended' at (length-set s.homes j (some y)) (set_else s.homes j last (some y) (λ e. omega (arith, e, below)))
       (λ o q near e. dite (ℕ_discrete o j)
       (λ is. dite (ℕ_discrete q k)
-      (λ mine_too. subst (λ (z : ℕ). SlotOut (set s.homes j (some y)) (put r.hand k 0) r.keeper z q) (sym is)
-      (subst (λ (z : ℕ). SlotOut (set s.homes j (some y)) (put r.hand k 0) r.keeper j z) (sym mine_too)
-      (let out : has_out j tr' ≡ true = sym (ap (has_out j) (put_same r.trace k tr')) ∙ subst (λ (z : ℕ). has_out j (put r.trace k tr' z) ≡ true) mine_too (subst (λ (z : ℕ). has_out z (put r.trace k tr' q) ≡ true) is e) in record {
-        kept = (r.slots j k me.near had).kept;
-        lies = inr ((λ e. let z : 0 ≡ suc j = sym (put_same r.hand k 0) ∙ e in absurd (omega (arith, z))), set_here s.homes j (some y) there ∙ ap (λ (w : Slot B). some (some w)) (empty out));
-      })))
+      (λ mine_too.
+      let out : has_out j tr' ≡ true = sym (ap (has_out j) (put_same r.trace k tr')) ∙ subst (λ (z : ℕ). has_out j (put r.trace k tr' z) ≡ true) mine_too (subst (λ (z : ℕ). has_out z (put r.trace k tr' q) ≡ true) is e) in
+      let no : false ≡ true = sym back ∙ out in absurd (let never : ⊥ = cc in never))
       (λ other. let old = r.slots j q near (subst (λ (z : ℕ). has_out z (r.trace q) ≡ true) is (ap (has_out o) (sym (put_other r.trace k tr' q other)) ∙ e)) in
-      absurd (other (sym old.kept ∙ (r.slots j k me.near had).kept))))
-      (λ ne. other_slot s r k j o q 0 (set s.homes j (some y)) r.keeper ne (inr (sym me.hand_is)) (inl refl) (set_else s.homes j o (some y) ne) refl (r.slots o q near (sym (same o q ne) ∙ e))))
-      (λ o q near e. dite (ℕ_discrete q k)
-      (λ mine_too. let z : 0 ≡ suc o = sym (put_same r.hand k 0) ∙ ap (put r.hand k 0) (sym mine_too) ∙ e in absurd (omega (arith, z)))
-      (λ other. ap (has_out o) (put_other r.trace k tr' q other) ∙ r.hands o q near (sym (put_other r.hand k 0 q other) ∙ e)))
+      absurd (other (sym old.kept ∙ (r.slots j k me.near had').kept))))
+      (λ ne. let old = r.slots o q near (sym (same o q ne) ∙ e) in record { kept = old.kept; lies = set_else s.homes j o (some y) ne ∙ old.lies }))
       (λ t b is. ⊎_elim (λ e. body t b e.0 (some-injective y (Body b) e.1))
       (λ e. let old = r.bodies t b e.1 in record { lasts = old.lasts; ends = old.ends ∙ others t e.0 })
       (at_set s.homes j (slot_at t BODY_SLOT) (some y) (some (Body b)) is))

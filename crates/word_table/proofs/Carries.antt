@@ -1,5 +1,5 @@
 -- Each kind of step that takes or gives a slot, at a seat that equals one at rest or with a slot in its hand.
-use Rattle.std.proofs.Common.{◌≡◌, ℕ, suc, ◌<◌, Bool, true, eqb, sym, subst, List}
+use Rattle.std.proofs.Common.{◌≡◌, ℕ, suc, ◌<◌, Bool, eqb, sym, subst, List}
 use Rattle.std.specs.Prelude.{Some, [], slice_index_or}
 use mathlib.Core.Option.{none}
 use prog.Atomic.{either}
@@ -10,16 +10,15 @@ use Rattle.word_rule.specs.Sorts.{Sort, lock_of, count_of, held_of}
 use Rattle.word_steps.specs.Records.{Rec}
 use Rattle.word_steps.specs.Words.{BODY}
 use Rattle.word_steps.specs.declared.val.Val.{Val}
-use Rattle.word_table.specs.Layout.{SLOTS, BODY_SLOT, rows_of, slot_of, word_at, slot_at}
-use Rattle.word_table.specs.Outs.{has_out}
+use Rattle.word_table.specs.Layout.{BODY_SLOT, slot_of, word_at, slot_at}
 use Rattle.word_table.specs.Parts.{Known}
-use Rattle.word_table.specs.Plays.{sat, holding, Sat, took, lain, lifted, gave, left, came}
+use Rattle.word_table.specs.Plays.{sat, holding, Sat, took, gave, left, came}
 use Rattle.word_table.specs.Ruled.{lastings, Ruled}
 use Rattle.word_table.specs.declared.slot.Key.{Key}
 use Rattle.word_table.specs.declared.slot.Slot.{Slot}
-use Rattle.word_table.specs.declared.slot.Slot.TheVariants.{Empty, Held, Body}
+use Rattle.word_table.specs.declared.slot.Slot.TheVariants.{Held, Body}
 use Rattle.word_table.specs.declared.view.View.{View}
-use Rattle.word_table.proofs.Moves.{may_take, may_lay, may_lift, may_give, may_leave, may_come}
+use Rattle.word_table.proofs.Moves.{may_take, may_give, may_leave, may_come}
 
 module _ {B : Type 0} (lasting : B → List ℕ) (ended_of : B → Bool) (key : Key B) (slots id s : ℕ) (known : Known) (trace : List Rec) (m : Sat B) (shape : Shape) (same : key.shape ≡ shape) where
   abbrev R : State (Slot B) View → Type 0
@@ -38,17 +37,6 @@ module _ {B : Type 0} (lasting : B → List ℕ) (ended_of : B → Bool) (key : 
         → MayGive s trace shape sort n w → Allows R slots id m i (λ _. 0) (λ _. gave sort (step slots i 0 0 none) m 0)
     give_may v w is has may = subst (λ (z : ℕ × Sat B). Allows R slots id z.1 z.0 (λ _. 0) (λ _. gave sort (step slots z.0 0 0 none) z.1 0)) (λ h. (sym at h, sym is h))
         (may_give lasting ended_of key slots id s sort n known trace v w near has (subst (λ (z : Shape). MayGive s trace z sort n w) (sym same) may))
-
-  -- at the word i
-  pub lay_may : (i n c : ℕ) → m ≡ holding known s trace (slot_at n c) Empty → n < rows_of shape → c < SLOTS
-      → Allows R slots id m i (λ x. x) (lain (step slots i 0 0 none) m)
-  lay_may i n c is lt low = subst (λ (z : Sat B). Allows R slots id z i (λ x. x) (lain (step slots i 0 0 none) z)) (sym is)
-      (may_lay lasting ended_of key slots id s i n c known trace (subst (λ (z : Shape). n < rows_of z) (sym same) lt) low)
-
-  pub lift_may : (i n col c : ℕ) → i ≡ word_at n col → m ≡ sat known s trace → n < rows_of shape → c < SLOTS
-      → has_out (slot_at n c) trace ≡ true → Allows R slots id m i (λ x. x) (lifted col c (step slots i 0 0 none) m)
-  lift_may i n col c at is lt low out = subst (λ (z : ℕ × Sat B). Allows R slots id z.1 z.0 (λ x. x) (lifted col c (step slots z.0 0 0 none) z.1)) (λ h. (sym at h, sym is h))
-      (may_lift lasting ended_of key slots id s n col c known trace (subst (λ (z : Shape). n < rows_of z) (sym same) lt) low out)
 
   pub leave_may : (i t : ℕ) → i ≡ word_at t BODY → m ≡ sat known s trace → t < shape.tasks → MayTakeBody s trace t
       → Allows R slots id m i (λ x. x) (left lasting ended_of (step slots i 0 0 none) m)

@@ -36,9 +36,9 @@ later_trace : (token : TokenView) (tokens : List TokenView) (s : ℕ) → token.
     → traces_of (token ∷ tokens) s ≡ traces_of tokens s
 later_trace token tokens s ne = rw (ne_eqb token.seat s ne)
 
-module _ (m : ℕ) (trace : ℕ → List Rec) (hand owner : ℕ → ℕ) (j : ℕ) where
+module _ (m : ℕ) (trace : ℕ → List Rec) (owner : ℕ → ℕ) (j : ℕ) where
   -- a seat that has a token has its trace
-  found_trace : (tokens : List TokenView) (s : ℕ) → Each (Fits m trace hand owner j) (map part_of tokens)
+  found_trace : (tokens : List TokenView) (s : ℕ) → Each (Fits m trace owner j) (map part_of tokens)
       → Contains (seats_of tokens) s → traces_of tokens s ≡ trace s
   found_trace [] s fits there = absurd (omega (arith, there.1))
   found_trace (token ∷ tokens) s fits there = elim (cases_eq token.seat s) [
@@ -52,7 +52,7 @@ module _ (m : ℕ) (trace : ℕ → List Rec) (hand owner : ℕ → ℕ) (j : �
       rest (suc k) lt e ne = (k, omega arith, e)
 
   -- one past the seats has none
-  no_trace : (tokens : List TokenView) (s : ℕ) → m ≤ s → Each (Fits m trace hand owner j) (map part_of tokens)
+  no_trace : (tokens : List TokenView) (s : ℕ) → m ≤ s → Each (Fits m trace owner j) (map part_of tokens)
       → traces_of tokens s ≡ []
   no_trace [] s far fits = refl
   no_trace (token ∷ tokens) s far fits = later_trace token tokens s (λ e. let near = fits.0.near in omega arith)
@@ -87,8 +87,8 @@ module _ {B : Type 0} (lasting : B → List ℕ) (ended_of : B → Bool) (key : 
       let s = final.0 in let r = final.1.0 in let seats : ℕ = key.shape.cpus + key.shape.agents in
       let fits = (r.parts id (all_parts tokens) final.1.1).0 in
       let traces : r.trace ≡ traces_of tokens = fun_ext (λ q. elim (cases_lt q seats) [
-        | inl near ↦ sym (found_trace seats r.trace r.hand r.owner id tokens q fits (all.each q near))
-        | inr far ↦ r.bare q far ∙ sym (no_trace seats r.trace r.hand r.owner id tokens q far fits)
+        | inl near ↦ sym (found_trace seats r.trace r.owner id tokens q fits (all.each q near))
+        | inr far ↦ r.bare q far ∙ sym (no_trace seats r.trace r.owner id tokens q far fits)
       ]) in
       let homes : Homes = homes_of s.homes r.ended in
       let kept : Kept key.shape (words_of words) homes (traces_of tokens) =

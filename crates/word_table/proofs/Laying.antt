@@ -42,15 +42,15 @@ cpu_word : (t p m c : ℕ) → put_at (words_with t p) p ACTIVE 1 m c ≡ words_
 cpu_word t p m c = grind (arith, nat_tests)
 
 -- one task more is TASK_NEW
-pub task_stored : (words : List ℕ) (t p : ℕ) → words_of words ≡ words_with t p → 64 * t + 2 < length words
-    → words_of (set words (64 * t + 2) 0x800) ≡ words_with (t + 1) p
-task_stored words t p is fits = words_of-set words t 2 0x800 (omega arith) fits ∙ ap (λ f. put_at f t 2 0x800) is
+pub task_stored : (words : List ℕ) (t p : ℕ) → words_of words ≡ words_with t p → 64 * t + 10 < length words
+    → words_of (set words (64 * t + 10) 0x800) ≡ words_with (t + 1) p
+task_stored words t p is fits = words_of-set words t 10 0x800 (omega arith) fits ∙ ap (λ f. put_at f t 10 0x800) is
     ∙ fun_ext (λ m. fun_ext (task_word t p m))
 
 -- one processor more is active
-pub cpu_stored : (words : List ℕ) (t p : ℕ) → words_of words ≡ words_with t p → 64 * p + 22 < length words
-    → words_of (set words (64 * p + 22) 1) ≡ words_with t (p + 1)
-cpu_stored words t p is fits = words_of-set words p 22 1 (omega arith) fits ∙ ap (λ f. put_at f p 22 1) is
+pub cpu_stored : (words : List ℕ) (t p : ℕ) → words_of words ≡ words_with t p → 64 * p + 30 < length words
+    → words_of (set words (64 * p + 30) 1) ≡ words_with t (p + 1)
+cpu_stored words t p is fits = words_of-set words p 30 1 (omega arith) fits ∙ ap (λ f. put_at f p 30 1) is
     ∙ fun_ext (λ m. fun_ext (cpu_word t p m))
 
 -- The slots

@@ -1,5 +1,5 @@
 -- Each kind of step keeps the rule, and tells its seat what it did.
-use Rattle.std.proofs.Common.{◌≡◌, ◌≢◌, ℕ, suc, ◌*◌, ◌<◌, ◌≤◌, Bool, true, false, eqb, set, get_or, length, lt-ltb, refl, sym, ap, ◌∙◌, subst, List, [], ◌∷◌, ⊎_elim, arith}
+use Rattle.std.proofs.Common.{◌≡◌, ℕ, suc, ◌*◌, ◌<◌, ◌≤◌, Bool, true, eqb, set, get_or, length, lt-ltb, refl, sym, ap, ◌∙◌, subst, List, [], ◌∷◌, arith}
 use Rattle.std.specs.Prelude.{Some, slice_index_or}
 use mathlib.Core.Option.{none, some, some-injective}
 use mathlib.Core.Option as maybe
@@ -9,7 +9,7 @@ use prog.Atomic.{either}
 use Rattle.atomic_table.specs.Table.{step, Act, keeps, takes, gives, Valid, carried_after, stepped, Allows}
 use Rattle.atomic_table.proofs.Lists.{set_again, exchanged}
 use Rattle.core_data.specs.Table.{put}
-use Rattle.core_stores.proofs.Columns.{put_there, put_other, put_id}
+use Rattle.core_stores.proofs.Columns.{put_there, put_other}
 use Rattle.handoff_data.specs.declared.shape.Shape.{Shape}
 use Rattle.word_rule.proofs.BodyLaws.{take_body_law, return_body_law}
 use Rattle.word_rule.proofs.LockLaws.{home_there, take_law, give_law}
@@ -28,17 +28,17 @@ use Rattle.word_table.specs.Kinds.{Note, May, Told, LeavesSlots, KeepsRule}
 use Rattle.word_table.specs.Layout.{SLOTS, BODY_SLOT, rows_of, slot_of, word_at, slot_at}
 use Rattle.word_table.specs.Outs.{has_out}
 use Rattle.word_table.specs.Parts.{Known}
-use Rattle.word_table.specs.Plays.{one, part, sat, holding, push, lift, lay, Sat, became, stored, tried, took, lain, lifted, gave, left, came}
-use Rattle.word_table.specs.Ruled.{IsBody, val_in, has_body, homes_of, lastings}
+use Rattle.word_table.specs.Plays.{one, part, sat, holding, push, lift, lay, Sat, became, stored, tried, took, gave, left, came}
+use Rattle.word_table.specs.Ruled.{IsBody, homes_of, lastings}
 use Rattle.word_table.specs.declared.slot.Key.{Key}
 use Rattle.word_table.specs.declared.slot.Slot.{Slot}
 use Rattle.word_table.specs.declared.slot.Slot.TheVariants.{Empty, Held, Body}
 use Rattle.word_table.specs.declared.view.View.{View}
 use Rattle.word_table.proofs.Acts.{St, R, seats, mine, steady, ups, downs}
-use Rattle.word_table.proofs.Exclusives.{tells_more, tells_same, given_told}
-use Rattle.word_table.proofs.Decoded.{without_shown, home_shown, body_shown, still_shown, value_there, body_there}
+use Rattle.word_table.proofs.Exclusives.{tells_more, given_told}
+use Rattle.word_table.proofs.Decoded.{without_shown, home_shown, body_shown, value_there, body_there}
 use Rattle.word_table.proofs.Rows.{count_rows, tasks_rows}
-use Rattle.word_table.proofs.Slotted.{sort_is, held_is, low_slot, quiet_out, took_out, took_else, gave_back, gave_else, left_out, left_else, came_back, came_else}
+use Rattle.word_table.proofs.Slotted.{sort_is, held_is, low_slot, quiet_out, took_else, held_out, gave_back, gave_else, body_out, left_else, came_back, came_else}
 
 pub lock_low : (sort : Sort) → lock_of sort < STRIDE
 lock_low OfTask = omega arith
@@ -104,15 +104,15 @@ module _ {B : Type 0} (lasting : B → List ℕ) (ended_of : B → Bool) (key : 
       (quiet : LeavesSlots note)
       (keep : KeepsRule col bound note may told) where
     pub by_kind : (s : St lasting ended_of key) (r : R lasting ended_of key s) (id k n y : ℕ) (known : Known) (tr : List Rec)
-        → n < bound key.shape → get_elem? s.views id ≡ some (one known (part k tr 0))
+        → n < bound key.shape → get_elem? s.views id ≡ some (one known (part k tr))
         → may key.shape k tr n (get_or s.words (word_at n col) 0) y
         → R lasting ended_of key record {
           words = set s.words (word_at n col) y;
           homes = s.homes;
-          views = set s.views id (one known (part k (note k tr n y (get_or s.words (word_at n col) 0) ∷ tr) 0));
+          views = set s.views id (one known (part k (note k tr n y (get_or s.words (word_at n col) 0) ∷ tr)));
         } × told known.shape k tr n (get_or s.words (word_at n col) 0)
     by_kind s r id k n y known tr lt at ok =
-        let m = mine lasting ended_of key s r id k known tr 0 at in let x : ℕ = get_or s.words (word_at n col) 0 in
+        let m = mine lasting ended_of key s r id k known tr at in let x : ℕ = get_or s.words (word_at n col) 0 in
         let is : words_of s.words n col ≡ x = word_seen s.words n col low in
         let row : n < rows_of key.shape = (let h = rows key.shape in omega (arith, lt, h)) in
         let homes = homes_of s.homes r.ended in
@@ -129,7 +129,7 @@ module _ {B : Type 0} (lasting : B → List ℕ) (ended_of : B → Bool) (key : 
         → Allows (R lasting ended_of key) slots id (sat known k tr) (word_at n col) f (became col note told f (step slots (word_at n col) a 0 none) (sat known k tr))
     may_become f slots a id k n known tr lt ok s r deep at _ = let x : ℕ = get_or s.words (word_at n col) 0 in
         let z = by_kind s r id k n (f x) known tr lt at (ok x) in (
-          one known (part k (note k tr n (f x) x ∷ tr) 0),
+          one known (part k (note k tr n (f x) x ∷ tr)),
           keeps,
           tt,
           z.0,
@@ -144,7 +144,7 @@ module _ {B : Type 0} (lasting : B → List ℕ) (ended_of : B → Bool) (key : 
         → Allows (R lasting ended_of key) slots id (sat known k tr) (word_at n col) (λ _. y) (λ _. stored col note told (step slots (word_at n col) y 0 none) (sat known k tr) y)
     may_store slots id k n y known tr lt ok plain s r deep at _ = let x : ℕ = get_or s.words (word_at n col) 0 in
         let z = by_kind s r id k n y known tr lt at (ok x) in (
-          one known (part k (note k tr n y x ∷ tr) 0),
+          one known (part k (note k tr n y x ∷ tr)),
           keeps,
           tt,
           z.0,
@@ -157,7 +157,7 @@ module _ {B : Type 0} (lasting : B → List ℕ) (ended_of : B → Bool) (key : 
         let says = tried col note told (step slots (word_at n col) old new none) (sat known k tr) in
         exchanged x old new (Goes s (word_at n col) id (sat known k tr) says)
         (λ hit. let z = by_kind s r id k n new known tr lt at (subst (λ (w : ℕ). may key.shape k tr n w new) (sym hit) ok) in (
-          one known (part k (note k tr n new x ∷ tr) 0),
+          one known (part k (note k tr n new x ∷ tr)),
           keeps,
           tt,
           z.0,
@@ -171,63 +171,17 @@ module _ {B : Type 0} (lasting : B → List ℕ) (ended_of : B → Bool) (key : 
         ))
         (λ miss. stands s r (word_at n col) id (sat known k tr) says at (λ u same. ((λ hit. absurd (miss hit)), λ _. refl)))
 
-  -- Slots that change hands without a record
-
-  -- a slot that is empty, at home or in a hand, leaves the rule as it is
-  still_kept : (s : St lasting ended_of key) (r : R lasting ended_of key s) (k i j : ℕ) (h : maybe.Option (Slot B)) (tr : List Rec)
-      → tr ≡ r.trace k → j < length s.homes → val_in (some h) ≡ val_in (get_elem? s.homes j)
-      → has_body (some h) ≡ has_body (get_elem? s.homes j)
-      → Kept key.shape (words_of (set s.words i (get_or s.words i 0))) (homes_of (set s.homes j h) r.ended) (put r.trace k tr)
-  still_kept s r k i j h tr is fits a b =
-      subst (λ (z : List ℕ × Homes × (ℕ → List Rec)). Kept key.shape (words_of z.0) z.1 z.2) (λ l. (sym (set-get_or s.words i 0) l, sym (still_shown s.homes r.ended j h fits a b) l, sym (put_id r.trace k tr is) l)) r.inv
-
-  -- an empty slot is put down
-  pub may_lay : (slots id k i n c : ℕ) (known : Known) (tr : List Rec) → n < rows_of key.shape → c < SLOTS
-      → Allows (R lasting ended_of key) slots id (holding known k tr (slot_at n c) Empty) i (λ x. x) (lain (step slots i 0 0 none)
-      (holding known k tr (slot_at n c) Empty))
-  may_lay slots id k i n c known tr lt low s r deep at _ = let j : ℕ = slot_at n c in
-      let m = mine lasting ended_of key s r id k known tr (suc j) at in let room : j < length s.homes = in_homes s r n c lt low in
-      let was = r.slots j k m.near (r.hands j k m.near (sym m.hand_is)) in
-      let gone : get_elem? s.homes j ≡ some none = ⊎_elim (λ z. z.1) (λ z. absurd (z.0 (sym m.hand_is))) was.lies in (
-        one known (part k tr 0),
-        gives,
-        tt,
-        downs lasting ended_of key s r id k known tr tr j i (get_or s.words i 0) Empty r.ended at room (before_room n c lt low) (λ o ne. refl) (λ out. refl) (λ u b e d. let no : Empty ≡ Body b = d in cc) (λ u ne. refl)
-            (tells_same tr) (λ l u es e d has. let no : Empty ≡ Held (val.Wait es) = d in cc)
-            (still_kept s r k i j (some Empty) tr m.trace_is room (sym (ap val_in gone)) (sym (ap has_body gone))),
-        refl,
-      )
-
-  -- an empty slot is taken up
-  pub may_lift : (slots id k n col c : ℕ) (known : Known) (tr : List Rec) → n < rows_of key.shape → c < SLOTS
-      → has_out (slot_at n c) tr ≡ true
-      → Allows (R lasting ended_of key) slots id (sat known k tr) (word_at n col) (λ x. x) (lifted col c (step slots (word_at n col) 0 0 none) (sat known k tr))
-  may_lift slots id k n col c known tr lt low out s r deep at _ = let m = mine lasting ended_of key s r id k known tr 0 at in
-      let j : ℕ = slot_at n c in let room : j < length s.homes = in_homes s r n c lt low in
-      let mine_out : has_out j (r.trace k) ≡ true = ap (has_out j) (sym m.trace_is) ∙ out in let was = r.slots j k m.near mine_out in
-      let lies : get_elem? s.homes j ≡ some (some Empty) = ⊎_elim (λ z. let no : 0 ≡ suc j = m.hand_is ∙ z.0 in absurd (omega (arith, no))) (λ z. z.1) was.lies in (
-        one known (part k tr (suc j)),
-        takes j Empty,
-        lies,
-        ups lasting ended_of key s r id k known tr tr j (word_at n col) (get_or s.words (word_at n col) 0) at room (before_room n c lt low) (λ o ne. refl) out (λ q near other theirs. other (sym (r.slots j q near theirs).kept ∙ was.kept)) (tells_same tr)
-            (still_kept s r k (word_at n col) j none tr m.trace_is room (sym (ap val_in lies)) (sym (ap has_body lies))),
-        λ u same. let e : n ≡ u = omega (arith, same) in λ h. lift (slot_at (e h) c) Empty (sat known k tr),
-      )
-
-  -- a slot whose value lies there is out with nobody
+  -- a slot that lies at home is out with nobody
   at_home : (s : St lasting ended_of key) (r : R lasting ended_of key s) (j q : ℕ) (y : Slot B) → get_elem? s.homes j ≡ some (some y)
-      → (Empty ≢ y) → q < seats lasting ended_of key → has_out j (r.trace q) ≡ true → ⊥
-  at_home s r j q y lies full near out = ⊎_elim (λ z. none_lies (sym z.1 ∙ lies)) (λ z. full (some-injective Empty y (some-injective (some Empty) (some y) (sym z.1 ∙ lies)))) (r.slots j q near out).lies
-    where
-      none_lies : ◌≡◌ {A = maybe.Option (maybe.Option (Slot B))} (some none) (some (some y)) → ⊥
-      none_lies e = let no : ◌≡◌ {A = maybe.Option (Slot B)} none (some y) = some-injective none (some y) e in cc
+      → q < seats lasting ended_of key → has_out j (r.trace q) ≡ true → ⊥
+  at_home s r j q y lies near out = let e : ◌≡◌ {A = maybe.Option (Slot B)} none (some y) = some-injective none (some y) (sym (r.slots j q near out).lies ∙ lies) in cc
 
   -- The locks
 
   pub may_take : (slots id k : ℕ) (sort : Sort) (n : ℕ) (known : Known) (tr : List Rec) → n < count_of sort key.shape
       → Allows (R lasting ended_of key) slots id (sat known k tr) (word_at n (lock_of sort)) (λ x. either (eqb x 0)
       (suc k) x) (took sort (step slots (word_at n (lock_of sort)) 0 (suc k) none) (sat known k tr))
-  may_take slots id k sort n known tr lt s r deep at _ = let m = mine lasting ended_of key s r id k known tr 0 at in
+  may_take slots id k sort n known tr lt s r deep at _ = let m = mine lasting ended_of key s r id k known tr at in
       let i : ℕ = word_at n (lock_of sort) in let x : ℕ = get_or s.words i 0 in let j : ℕ = slot_at n (slot_of sort) in
       let homes = homes_of s.homes r.ended in
       let row : n < rows_of key.shape = (let h = count_rows sort key.shape in omega (arith, lt, h)) in
@@ -239,11 +193,11 @@ module _ {B : Type 0} (lasting : B → List ℕ) (ended_of : B → Bool) (key : 
       let lies = value_there sort s.homes r.ended n v there.1 in
       let tells : (u : ℕ) → n ≡ u → TakeTold known.shape k tr sort u v =
       λ u e. subst (λ (z : Known × List Rec × ℕ). TakeTold z.0.shape k z.1 sort z.2 v) (λ h. (sym m.known_is h, sym m.trace_is h, e h)) (take_told key.shape (words_of s.words) homes r.trace k r.inv sort n v there.1) in (
-        one known (part k (Took n v ∷ tr) (suc j)),
+        one known (part k (Took n v ∷ tr)),
         takes j (Held v),
         lies,
-        ups lasting ended_of key s r id k known tr (Took n v ∷ tr) j i (suc k) at room (before_room n (slot_of sort) row (low_slot sort)) (took_else sort n v there.2 tr) (took_out sort n v there.2 tr)
-            (λ q near other out. at_home s r j q (Held v) lies (λ e. let no : Empty ≡ Held v = e in cc) near out) (tells_more (Took n v) tr)
+        ups lasting ended_of key s r id k known tr (Took n v ∷ tr) j i (suc k) at room (before_room n (slot_of sort) row (low_slot sort)) (took_else sort n v there.2 tr)
+            (λ q near out. at_home s r j q (Held v) lies near out) (tells_more (Took n v) tr)
             (subst (λ (z : (ℕ → ℕ → ℕ) × Homes × List Rec). Kept key.shape z.0 z.1 (put r.trace k (Took n v ∷ z.2)))
             (λ h. (sym (words_of-set s.words n (lock_of sort) (suc k) (lock_low sort) (in_words s r n (lock_of sort) row (lock_low sort))) h, sym (without_shown s.homes r.ended sort n room) h, sym m.trace_is h))
             (take_law sort key.shape (words_of s.words) homes r.trace k n v r.inv m.near lt free there.1)),
@@ -256,17 +210,17 @@ module _ {B : Type 0} (lasting : B → List ℕ) (ended_of : B → Bool) (key : 
       → Allows (R lasting ended_of key) slots id (holding known k tr (slot_at n (slot_of sort))
       (Held w)) (word_at n (lock_of sort)) (λ _. 0) (λ _. gave sort (step slots (word_at n (lock_of sort)) 0 0 none) (holding known k tr (slot_at n (slot_of sort)) (Held w)) 0)
   may_give slots id k sort n known tr v w lt has may s r deep at _ = let j : ℕ = slot_at n (slot_of sort) in
-      let i : ℕ = word_at n (lock_of sort) in let m = mine lasting ended_of key s r id k known tr (suc j) at in
+      let i : ℕ = word_at n (lock_of sort) in let m = mine lasting ended_of key s r id k known tr at in
       let homes = homes_of s.homes r.ended in let row : n < rows_of key.shape = (let h = count_rows sort key.shape in omega (arith, lt, h)) in
       let room : j < length s.homes = in_homes s r n (slot_of sort) row (low_slot sort) in
       let is = sort_is sort w (given_is k tr key.shape sort n w may) in let of = held_is sort tr n v has in
       let shown : homes_of (set s.homes j (some (Held w))) r.ended ≡ with_home n w homes =
       ap (λ (z : Sort). homes_of (set s.homes (slot_at n (slot_of z)) (some (Held w))) r.ended) is ∙ home_shown s.homes r.ended n w (subst (λ (z : Sort). slot_at n (slot_of z) < length s.homes) is room) in (
-        one known (part k (Gave n v w ∷ tr) 0),
+        one known (part k (Gave n v w ∷ tr)),
         gives,
         tt,
         downs lasting ended_of key s r id k known tr (Gave n v w ∷ tr) j i 0 (Held w) r.ended at room (before_room n (slot_of sort) row (low_slot sort)) (gave_else sort n v of w tr)
-            (λ out. let no : false ≡ true = sym (gave_back sort n v of w tr) ∙ out in cc) (λ u b e d. let no : Held w ≡ Body b = d in cc) (λ u ne. refl) (tells_more (Gave n v w) tr)
+            (held_out sort tr n v has) (gave_back sort n v of w tr) (λ u b e d. let no : Held w ≡ Body b = d in cc) (λ u ne. refl) (tells_more (Gave n v w) tr)
             (λ l u es e d has. let x : Slot B = Held w in let y : Slot B = Held (val.Wait es) in let f : x ≡ y = d in let w' : w ≡ val.Wait es = cc in given_told n v w tr sort l u es e w' has)
             (subst (λ (z : (ℕ → ℕ → ℕ) × Homes × List Rec). Kept key.shape z.0 z.1 (put r.trace k (Gave n v w ∷ z.2)))
             (λ h. (sym (words_of-set s.words n (lock_of sort) 0 (lock_low sort) (in_words s r n (lock_of sort) row (lock_low sort))) h, sym shown h, sym m.trace_is h))
@@ -282,17 +236,17 @@ module _ {B : Type 0} (lasting : B → List ℕ) (ended_of : B → Bool) (key : 
 
   pub may_leave : (slots id k t : ℕ) (known : Known) (tr : List Rec) → t < key.shape.tasks → MayTakeBody k tr t
       → Allows (R lasting ended_of key) slots id (sat known k tr) (word_at t BODY) (λ x. x) (left lasting ended_of (step slots (word_at t BODY) 0 0 none) (sat known k tr))
-  may_leave slots id k t known tr lt may s r deep at _ = let m = mine lasting ended_of key s r id k known tr 0 at in
+  may_leave slots id k t known tr lt may s r deep at _ = let m = mine lasting ended_of key s r id k known tr at in
       let i : ℕ = word_at t BODY in let j : ℕ = slot_at t BODY_SLOT in
       let homes = homes_of s.homes r.ended in let row : t < rows_of key.shape = (let h = tasks_rows key.shape in omega (arith, lt, h)) in
       let room : j < length s.homes = in_homes s r t BODY_SLOT row (omega arith) in
       let law = take_body_law key.shape (words_of s.words) homes r.trace k t r.inv m.near lt (subst (λ (z : List Rec). MayTakeBody k z t) m.trace_is may) in
       let there = body_there (get_elem? s.homes j) law.0 in let b : B = there.0 in let is = r.bodies t b there.1 in (
-        one known (part k (OutBody t (ended_of b) ∷ tr) (suc j)),
+        one known (part k (OutBody t (ended_of b) ∷ tr)),
         takes j (Body b),
         there.1,
-        ups lasting ended_of key s r id k known tr (OutBody t (ended_of b) ∷ tr) j i (get_or s.words i 0) at room (before_room t BODY_SLOT row (omega arith)) (left_else t (ended_of b) tr may.home) (left_out t (ended_of b) tr)
-            (λ q near other out. at_home s r j q (Body b) there.1 (λ e. let no : Empty ≡ Body b = e in cc) near out) (tells_more (OutBody t (ended_of b)) tr)
+        ups lasting ended_of key s r id k known tr (OutBody t (ended_of b) ∷ tr) j i (get_or s.words i 0) at room (before_room t BODY_SLOT row (omega arith)) (left_else t (ended_of b) tr may.home)
+            (λ q near out. at_home s r j q (Body b) there.1 near out) (tells_more (OutBody t (ended_of b)) tr)
             (subst (λ (z : List ℕ × Homes × List Rec × Bool). Kept key.shape (words_of z.0) z.1 (put r.trace k (OutBody t z.3 ∷ z.2)))
             (λ h. (sym (set-get_or s.words i 0) h, sym (body_shown s.homes r.ended t none room) h, sym m.trace_is h, sym is.ends h)) law.1),
         λ u same. let e : t ≡ u = omega (arith, same) in (
@@ -308,16 +262,16 @@ module _ {B : Type 0} (lasting : B → List ℕ) (ended_of : B → Bool) (key : 
       (Body b)) (word_at t BODY) (λ x. x) (came ended_of (step slots (word_at t BODY) 0 0 none) (holding known k tr (slot_at t BODY_SLOT)
       (Body b)))
   may_come slots id k t known tr b lt may lasts s r deep at _ = let i : ℕ = word_at t BODY in let j : ℕ = slot_at t BODY_SLOT in
-      let m = mine lasting ended_of key s r id k known tr (suc j) at in
+      let m = mine lasting ended_of key s r id k known tr at in
       let homes = homes_of s.homes r.ended in let row : t < rows_of key.shape = (let h = tasks_rows key.shape in omega (arith, lt, h)) in
       let room : j < length s.homes = in_homes s r t BODY_SLOT row (omega arith) in
       let law = return_body_law key.shape (words_of s.words) homes r.trace k t (ended_of b) r.inv m.near lt (subst (λ (z : List Rec). MayReturnBody k z t (ended_of b)) m.trace_is may) in
       let ended' : ℕ → Bool = put r.ended t (ended_of b) in (
-        one known (part k (HomeBody t (ended_of b) ∷ tr) 0),
+        one known (part k (HomeBody t (ended_of b) ∷ tr)),
         gives,
         tt,
         downs lasting ended_of key s r id k known tr (HomeBody t (ended_of b) ∷ tr) j i (get_or s.words i 0) (Body b) ended' at room (before_room t BODY_SLOT row (omega arith)) (came_else t (ended_of b) tr may.out)
-            (λ out. let no : false ≡ true = sym (came_back t (ended_of b) tr) ∙ out in cc)
+            (body_out tr t may.out) (came_back t (ended_of b) tr)
             (λ u c e d. let e' : t ≡ u = omega (arith, e) in let d' : b ≡ c = cc in subst (λ (z : ℕ × B). IsBody lasting key ended_of ended' z.0 z.1) (λ h. (e' h, d' h)) record { lasts = lasts; ends = sym (put_there r.ended t (ended_of b) t refl) })
             (λ u ne. sym (put_other r.ended t (ended_of b) u (λ e. ne (omega (arith, e)))))
             (tells_more (HomeBody t (ended_of b)) tr) (λ l u es e d has. let no : Body b ≡ Held (val.Wait es) = d in cc)

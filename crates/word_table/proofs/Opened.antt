@@ -12,7 +12,9 @@ use Rattle.word_steps.specs.declared.val.Val.{Val}
 use Rattle.word_table.specs.Kinds.{Note, Told}
 use Rattle.word_table.specs.Layout.{rows_of, word_at}
 use Rattle.word_table.specs.Parts.{Known}
-use Rattle.word_table.specs.Plays.{one, part, trace_in, seat_in, sat, holding, push, lift, lay, Sat}
+use Rattle.word_table.specs.Plays.{one, part, trace_in, seat_in, sat, holding, bare, spent, push, lift, lay, Sat}
+use Rattle.word_table.specs.Ruled.{none_kept, all_given, taken_back}
+use Rattle.word_table.specs.Taken.{val_in_hand}
 use Rattle.word_table.specs.Shown.{trace_of, known_in, token_view, IsToken}
 use Rattle.word_table.specs.Views.{TokenView, IsSame}
 use Rattle.word_table.specs.declared.slot.Slot.{Slot}
@@ -35,14 +37,14 @@ known_by p = record { shape = p.shape; lasting = p.lasting }
 
 -- the views of a token
 abbrev pub made : Known → ℕ → List Rec → List View
-made known s trace = one known (part s trace 0) ∷ []
+made known s trace = one known (part s trace) ∷ []
 
 views_are : (i : Inside) (p : TokenView) → IsToken i → token_view i ≡ p → i.badge.views ≡ made (known_by p) p.seat p.trace
 views_are i p is seen = is ∙ λ j. made (known_by (seen j)) (seen j).seat (seen j).trace
 
 -- what a token shows once it has the seat again
 pub record Closing (i : Inside) (p : TokenView) (views' : List View) (name' : TableId) (trace' : List Rec) : Type 0 where
-  pub is : views' ≡ one (known_in views') (part i.seat (trace_of views') 0) ∷ []
+  pub is : views' ≡ one (known_in views') (part i.seat (trace_of views')) ∷ []
   pub same : IsSame p record { of = name'; shape = (known_in views').shape; lasting = (known_in views').lasting; seat = i.seat; trace = trace_of views' }
   pub trace_is : trace_of views' ≡ trace'
 
@@ -50,7 +52,7 @@ module _ {B : Type 0} where
   -- the seat that a token rests on
   pub opened : (i : Inside) (p : TokenView) (views : List View) (m : Sat B) → IsToken i → token_view i ≡ p → views ≡ i.badge.views
       → views ≡ m.0 ∷ [] → m.1 ≡ [] → m ≡ sat (known_by p) p.seat p.trace
-  opened i p views m is seen same at free = let e : m.0 ≡ one (known_by p) (part p.seat p.trace 0) = ap (first_of m.0) (sym at ∙ (same ∙ views_are i p is seen)) in λ j. (e j, free j)
+  opened i p views m is seen same at free = let e : m.0 ≡ one (known_by p) (part p.seat p.trace) = ap (first_of m.0) (sym at ∙ (same ∙ views_are i p is seen)) in λ j. (e j, free j)
 
   -- .. by the names of the table: of the badge, of the seat after and before, and of the badge that was opened
   pub closing : (i : Inside) (p : TokenView) (views' : List View) (name' after before badge : TableId) (m' : Sat B) (trace' : List Rec)
@@ -112,27 +114,35 @@ module _ {B : Type 0} where
       → m.1 ≡ (j, y) ∷ rest m.1
   in_hand m known s j trace y is = ap (λ (z : Sat B). z.1) is ∙ λ h. (j, y) ∷ rest (sym is h).1
 
-  -- the slot i = j comes into the hand of a seat at rest, without a record and with one
-  pub lifted_from : (m m' : Sat B) (known : Known) (s : ℕ) (trace : List Rec) (i j : ℕ) (x : Slot B) → m ≡ sat known s trace
-      → m' ≡ lift j x m → i ≡ j → m' ≡ holding known s trace i x
-  lifted_from m m' known s trace i j x rest now same = now ∙ λ h. lift (sym same h) x (rest h)
-
+  -- the slot i = j comes into the hand of a seat at rest, with a record
   pub took_from : (m m' : Sat B) (known : Known) (s : ℕ) (trace : List Rec) (i j : ℕ) (x : Slot B) (r : Rec) → m ≡ sat known s trace
       → m' ≡ lift j x (push r m) → i ≡ j → m' ≡ holding known s (r ∷ trace) i x
   took_from m m' known s trace i j x r rest now same = now ∙ λ h. lift (sym same h) x (push r (rest h))
 
-  pub hand_at : (m : Sat B) (known : Known) (s : ℕ) (trace : List Rec) (i j : ℕ) (x : Slot B) → m ≡ holding known s trace i x → i ≡ j
-      → m ≡ holding known s trace j x
-  hand_at m known s trace i j x is same = is ∙ λ h. holding known s trace (same h) x
+  -- the seat hands its parts to a new one, and keeps the slot in its hand
+  pub handed_from : (m m' own : Sat B) (known : Known) (s : ℕ) (trace : List Rec) (i : ℕ) (x : Slot B) (r : Rec) → m ≡ sat known s trace
+      → m' ≡ lift i x (push r m) → own ≡ (all_given m'.0, []) → own ≡ sat known s (r ∷ trace)
+  handed_from m m' own known s trace i x r rest now got = got ∙ (λ h. (all_given (now h).0, [])) ∙ λ h. (all_given (lift i x (push r (rest h))).0, [])
 
-  -- the slot goes from the hand of a seat that was at rest as m, with the record before and with it
-  pub laid_from : (m m' m'' : Sat B) (known : Known) (s : ℕ) (trace : List Rec) (i : ℕ) (x : Slot B) (r : Rec) → m ≡ sat known s trace
-      → m' ≡ holding known s (r ∷ trace) i x → m'' ≡ lay m' → m'' ≡ push r m
-  laid_from m m' m'' known s trace i x r rest had now = now ∙ (λ h. lay (had h)) ∙ λ h. push r (sym rest h)
+  pub kept_from : (m m' left : Sat B) (known : Known) (s : ℕ) (trace : List Rec) (i j : ℕ) (x : Slot B) (r : Rec) → m ≡ sat known s trace
+      → m' ≡ lift i x (push r m) → left ≡ (none_kept m'.0, m'.1) → j ≡ i → left ≡ bare j x
+  kept_from m m' left known s trace i j x r rest now got same = got ∙ (λ h. (none_kept (now h).0, (now h).1)) ∙ λ h. (spent, (lift (sym same h) x (push r (rest h))).1)
 
-  pub gave_from : (m m' m'' : Sat B) (known : Known) (s : ℕ) (trace : List Rec) (i : ℕ) (x : Slot B) (r : Rec) → m ≡ sat known s trace
-      → m' ≡ holding known s trace i x → m'' ≡ lay (push r m') → m'' ≡ push r m
-  gave_from m m' m'' known s trace i x r rest had now = now ∙ (λ h. lay (push r (had h))) ∙ λ h. push r (sym rest h)
+  -- .. and takes them back
+  pub back_from : (m own m' : Sat B) (known : Known) (s : ℕ) (trace : List Rec) (i j : ℕ) (x : Slot B) → m ≡ bare i x
+      → own ≡ sat known s trace → m' ≡ (taken_back m.0 own.0, m.1) → i ≡ j → m' ≡ holding known s trace j x
+  back_from m own m' known s trace i j x had rest got same = got ∙ (λ h. ((rest h).0, (had h).1)) ∙ λ h. holding known s trace (same h) x
+
+  pub laid_from : (m m' : Sat B) (known : Known) (s : ℕ) (trace : List Rec) (i : ℕ) (x : Slot B) (r : Rec)
+      → m ≡ holding known s trace i x → m' ≡ lay (push r m) → m' ≡ sat known s (r ∷ trace)
+  laid_from m m' known s trace i x r had now = now ∙ λ h. lay (push r (had h))
+
+  -- the slot in the hand of a seat of no part
+  pub alone : (m : Sat B) (i : ℕ) (x : Slot B) → m ≡ bare i x → m.1 ≡ (i, x) ∷ rest m.1
+  alone m i x is = ap (λ (z : Sat B). z.1) is ∙ λ h. (i, x) ∷ rest (sym is h).1
+
+  pub hand_is : (m : Sat B) (i : ℕ) (v : Val) → m ≡ bare i (Held v) → m ≡ bare i (Held (val_in_hand m.1))
+  hand_is m i v is = is ∙ λ h. bare i (Held (val_in_hand (sym is h).1))
 
   pub held_same : (v w : Val) → ◌≡◌ {A = Slot B} (Held v) (Held w) → v ≡ w
   held_same v w e = cc

@@ -151,10 +151,10 @@ no_column k = grind (arith, nat_tests)
 no_out : (i : ℕ) → has_out i [] ≡ true → ⊥
 no_out i e = let no : false ≡ true = sym (no_column (i % SLOTS)) ∙ e in cc
 
-fresh_fits : (m k n : ℕ) → k + n ≤ m → Each (Fits m (λ q. []) (λ q. 0) (λ q. 0) 0) (fresh k n)
+fresh_fits : (m k n : ℕ) → k + n ≤ m → Each (Fits m (λ q. []) (λ q. 0) 0) (fresh k n)
 fresh_fits m k zero le = tt
 fresh_fits m k (suc n) le = (
-  record { near = omega arith; owned = refl; trace_is = refl; hand_is = refl },
+  record { near = omega arith; owned = refl; trace_is = refl },
   fresh_fits m
       (suc k) n (omega arith),
 )
@@ -164,7 +164,7 @@ module _ {B : Type 0} (lasting : B → List ℕ) (ended_of : B → Bool) (key : 
   seats = key.shape.cpus + key.shape.agents
 
   abbrev IsFirst : ℕ → View → Type 0
-  IsFirst j v = Each (Fits seats (λ q. []) (λ q. 0) (λ q. 0) j)
+  IsFirst j v = Each (Fits seats (λ q. []) (λ q. 0) j)
       v.parts × ((v.known ≡ known_of lasting key) ⊎ (v.parts ≡ []))
 
   firsts : (j : ℕ) (v : View) → get_elem? (first_view lasting key ∷ []) j ≡ some v → IsFirst j v
@@ -179,7 +179,6 @@ module _ {B : Type 0} (lasting : B → List ℕ) (ended_of : B → Bool) (key : 
       let bodies = key.bodies.value.items in
       let ended = λ (t : ℕ). get_or (map ended_of bodies) t false in record {
         trace = λ q. [];
-        hand = λ q. 0;
         owner = λ q. 0;
         keeper = λ q. 0;
         ended = ended;
@@ -189,7 +188,6 @@ module _ {B : Type 0} (lasting : B → List ℕ) (ended_of : B → Bool) (key : 
         room = (let r = room_laid key.shape mask bodies slots laid in subst (IsRoomed key.shape.tasks) (sym r.1) r.2);
         parts = firsts;
         slots = λ i q near e. absurd (no_out i e);
-        hands = λ i q near e. absurd (omega (arith, e));
         bodies = λ t b e. let is = body_laid key.shape mask bodies slots laid t b e in record {
           lasts = sym (read_at (map lasting bodies) t (lasting b) [] (at_map lasting bodies t b is));
           ends = sym (read_at (map ended_of bodies) t (ended_of b) false (at_map ended_of bodies t b is));

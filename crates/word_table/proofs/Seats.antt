@@ -11,9 +11,8 @@ use Rattle.word_steps.specs.Records.{Rec}
 use Rattle.word_table.specs.Parts.{Part, Known}
 use Rattle.word_table.proofs.Acts.{each_map}
 use Rattle.word_table.specs.End.{part_of}
-use Rattle.word_table.specs.Plays.{Sat, sat, entered}
-use Rattle.word_table.specs.Ruled.{Each, Fits, known_of, Ruled, fresh, first_view, but_first, first_alone, joined}
-use Rattle.word_table.specs.Shown.{spent}
+use Rattle.word_table.specs.Plays.{Sat, sat, bare, entered, spent}
+use Rattle.word_table.specs.Ruled.{Each, Fits, known_of, Ruled, fresh, first_view, but_first, first_alone, joined, none_kept, all_given, taken_back}
 use Rattle.word_table.specs.Views.{TokenView}
 use Rattle.word_table.specs.declared.slot.Key.{Key}
 use Rattle.word_table.specs.declared.slot.Slot.{Slot}
@@ -32,18 +31,17 @@ snoc_at (x ∷ xs) a b zero e = inl e
 snoc_at (x ∷ xs) a b (suc j) e = ⊎_elim inl (λ t. inr (omega (arith, t.0), t.1)) (snoc_at xs a b j e)
 
 -- the parts that are dealt later have higher numbers
-later : (m : ℕ) (trace : ℕ → List Rec) (hand owner : ℕ → ℕ) (j b low k n : ℕ) → low < k
-    → Each (Fits m trace hand owner j) (fresh k n) → Each (Fits m trace hand (put owner low b) j) (fresh k n)
-later m trace hand owner j b low k zero lt e = tt
-later m trace hand owner j b low k (suc n) lt e = let f = e.0 in (
+later : (m : ℕ) (trace : ℕ → List Rec) (owner : ℕ → ℕ) (j b low k n : ℕ) → low < k
+    → Each (Fits m trace owner j) (fresh k n) → Each (Fits m trace (put owner low b) j) (fresh k n)
+later m trace owner j b low k zero lt e = tt
+later m trace owner j b low k (suc n) lt e = let f = e.0 in (
   record {
     near = f.near;
     owned = put_other owner low b k (λ same. omega arith)
         ∙ f.owned;
     trace_is = f.trace_is;
-    hand_is = f.hand_is;
   },
-  later m trace hand owner j b low (suc k) n (omega arith) e.1,
+  later m trace owner j b low (suc k) n (omega arith) e.1,
 )
 
 -- what the seat `other` had is the seat id's
@@ -86,7 +84,7 @@ module _ {B : Type 0} (lasting : B → List ℕ) (ended_of : B → Bool) (key : 
   -- what the rule says of the view at the seat j
   abbrev IsAt : {s : St} (r : R s) (owner : ℕ → ℕ) (j : ℕ) → View → Type 0
   IsAt r owner j v =
-      Each (Fits seats r.trace r.hand owner j) v.parts × ((v.known ≡ known_of lasting key) ⊎ (v.parts ≡ []))
+      Each (Fits seats r.trace owner j) v.parts × ((v.known ≡ known_of lasting key) ⊎ (v.parts ≡ []))
 
   -- the rule hangs on views only by whose each part is
   reseated : {s : St} (r : R s) (views : List View) (owner : ℕ → ℕ)
@@ -94,7 +92,6 @@ module _ {B : Type 0} (lasting : B → List ℕ) (ended_of : B → Bool) (key : 
       → R record { words = s.words; homes = s.homes; views = views }
   reseated r views own parts = record {
     trace = r.trace;
-    hand = r.hand;
     owner = own;
     keeper = r.keeper;
     ended = r.ended;
@@ -104,7 +101,6 @@ module _ {B : Type 0} (lasting : B → List ℕ) (ended_of : B → Bool) (key : 
     room = r.room;
     parts = parts;
     slots = r.slots;
-    hands = r.hands;
     bodies = r.bodies;
     inv = r.inv;
     exclusives = r.exclusives;
@@ -119,17 +115,16 @@ module _ {B : Type 0} (lasting : B → List ℕ) (ended_of : B → Bool) (key : 
       (λ j u there. ⊎_elim
       (λ old. ⊎_elim
       (λ t. subst (IsAt r own j) t.1 (
-        later seats r.trace r.hand r.owner j b k (suc k) n (omega arith)
-            (subst (λ (z : ℕ). Each (Fits seats r.trace r.hand r.owner z) (fresh (suc k) n)) (sym t.0) e.0.1),
+        later seats r.trace r.owner j b k (suc k) n (omega arith)
+            (subst (λ (z : ℕ). Each (Fits seats r.trace r.owner z) (fresh (suc k) n)) (sym t.0) e.0.1),
         inl refl,
       ))
       (λ t. let o = r.parts j u t.1 in (
-        each_map (Fits seats r.trace r.hand r.owner j) (Fits seats r.trace r.hand own j) u.parts
+        each_map (Fits seats r.trace r.owner j) (Fits seats r.trace own j) u.parts
             (λ p g. record {
               near = g.near;
               owned = put_other r.owner k b p.number (λ same. t.0 (sym g.owned ∙ ap r.owner same ∙ f.owned)) ∙ g.owned;
               trace_is = g.trace_is;
-              hand_is = g.hand_is;
             })
             o.0,
         o.1,
@@ -143,7 +138,6 @@ module _ {B : Type 0} (lasting : B → List ℕ) (ended_of : B → Bool) (key : 
                 ∙ sym (length-set s.views id (view_of (fresh (suc k) n)))
                 ∙ sym new.0;
             trace_is = f.trace_is;
-            hand_is = f.hand_is;
           },
           tt,
         ),
@@ -155,7 +149,7 @@ module _ {B : Type 0} (lasting : B → List ℕ) (ended_of : B → Bool) (key : 
   gathers id other v w is s r at apart there =
       let own : ℕ → ℕ = moved_to id other r.owner in
       let there' : get_elem? s.views other ≡ some w = sym (set_else s.views id other (joined v w) apart) ∙ there in
-      let F : (ℕ → ℕ) → ℕ → Part → Type 0 = λ o j. Fits seats r.trace r.hand o j in
+      let F : (ℕ → ℕ) → ℕ → Part → Type 0 = λ o j. Fits seats r.trace o j in
       reseated r (set (set s.views id (joined v w)) other spent) own
       (λ j u here. ⊎_elim
       (λ t. subst (IsAt r own j) t.1 (tt, inr refl))
@@ -168,7 +162,6 @@ module _ {B : Type 0} (lasting : B → List ℕ) (ended_of : B → Bool) (key : 
               owned = from_other id other r.owner p.number g.owned
                   ∙ sym z.0;
               trace_is = g.trace_is;
-              hand_is = g.hand_is;
             })
             (r.parts other w there').0)
             (each_map (F r.owner id) (F own j) v.parts
@@ -177,7 +170,6 @@ module _ {B : Type 0} (lasting : B → List ℕ) (ended_of : B → Bool) (key : 
               owned = from_else id other r.owner p.number (λ e. apart (sym e ∙ g.owned))
                   ∙ (g.owned ∙ sym z.0);
               trace_is = g.trace_is;
-              hand_is = g.hand_is;
             })
             (r.parts id v at).0),
         inl is,
@@ -189,13 +181,85 @@ module _ {B : Type 0} (lasting : B → List ℕ) (ended_of : B → Bool) (key : 
               owned = from_else id other r.owner p.number (λ e. t.0 (sym g.owned ∙ e))
                   ∙ g.owned;
               trace_is = g.trace_is;
-              hand_is = g.hand_is;
             })
             o.0,
         o.1,
       ))
       (at_set s.views id j (joined v w) u t.1))
       (at_set (set s.views id (joined v w)) other j spent u here))
+
+  -- a seat hands all its parts to a new one
+  hands_over : (id : ℕ) (v : View) → Splits R id v (none_kept v) (all_given v)
+  hands_over id v s r at =
+      let own : ℕ → ℕ = moved_to (length s.views) id r.owner in
+      let F : (ℕ → ℕ) → ℕ → Part → Type 0 = λ o j. Fits seats r.trace o j in let mine = r.parts id v at in
+      reseated r (set s.views id spent ++ v ∷ []) own
+      (λ j u there. ⊎_elim
+      (λ old. ⊎_elim (λ t. subst (IsAt r own j) t.1 (tt, inr refl))
+      (λ t. let o = r.parts j u t.1 in (
+        each_map (F r.owner j) (F own j) u.parts
+            (λ p g. record {
+              near = g.near;
+              owned = from_else (length s.views) id r.owner p.number (λ e. t.0 (sym g.owned ∙ e)) ∙ g.owned;
+              trace_is = g.trace_is;
+            })
+            o.0,
+        o.1,
+      ))
+      (at_set s.views id j spent u old))
+      (λ new. subst (IsAt r own j) new.1 (
+        each_map (F r.owner id) (F own j) v.parts
+            (λ p g. record {
+              near = g.near;
+              owned = from_other (length s.views) id r.owner p.number g.owned
+                  ∙ (sym (length-set s.views id spent) ∙ sym new.0);
+              trace_is = g.trace_is;
+            })
+            mine.0,
+        mine.1,
+      ))
+      (snoc_at (set s.views id spent) v u j there))
+
+  -- a seat with no part takes those of another back
+  hands_back : (id other : ℕ) (w : View) → Joins R id spent other w (taken_back spent w) spent
+  hands_back id other w s r at apart there =
+      let own : ℕ → ℕ = moved_to id other r.owner in
+      let there' : get_elem? s.views other ≡ some w = sym (set_else s.views id other w apart) ∙ there in
+      let F : (ℕ → ℕ) → ℕ → Part → Type 0 = λ o j. Fits seats r.trace o j in let theirs = r.parts other w there' in
+      reseated r (set (set s.views id w) other spent) own
+      (λ j u here. ⊎_elim
+      (λ t. subst (IsAt r own j) t.1 (tt, inr refl))
+      (λ t. ⊎_elim
+      (λ z. subst (IsAt r own j) z.1 (
+        each_map (F r.owner other) (F own j) w.parts
+            (λ p g. record {
+              near = g.near;
+              owned = from_other id other r.owner p.number g.owned ∙ sym z.0;
+              trace_is = g.trace_is;
+            })
+            theirs.0,
+        theirs.1,
+      ))
+      (λ z. let o = r.parts j u z.1 in (
+        each_map (F r.owner j) (F own j) u.parts
+            (λ p g. record {
+              near = g.near;
+              owned = from_else id other r.owner p.number (λ e. t.0 (sym g.owned ∙ e)) ∙ g.owned;
+              trace_is = g.trace_is;
+            })
+            o.0,
+        o.1,
+      ))
+      (at_set s.views id j w u t.1))
+      (at_set (set s.views id w) other j spent u here))
+
+  pub over_at : (id : ℕ) (m : Sat B) → Splits R id m.0 (none_kept m.0) (all_given m.0)
+  over_at id m = hands_over id m.0
+
+  pub back_at : (id other : ℕ) (m : Sat B) (w : View) (i : ℕ) (x : Slot B) → m ≡ bare i x
+      → Joins R id m.0 other w (taken_back m.0 w) spent
+  back_at id other m w i x is = subst (λ (z : View). Joins R id z other w (taken_back z w) spent)
+      (sym (ap (λ (z : Sat B). z.0) is)) (hands_back id other w)
 
   pub deals_at : (id k n c : ℕ) (v : View) → c ≡ suc n → v ≡ view_of (fresh k c)
       → Splits R id v (but_first v) (first_alone v)

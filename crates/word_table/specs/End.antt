@@ -46,7 +46,7 @@ traces_of [] s = []
 traces_of (token ∷ tokens) s = if token.seat == s then token.trace else traces_of tokens s
 
 abbrev pub part_of : TokenView → Part
-part_of token = record { number = token.seat; trace = token.trace; hand = 0 }
+part_of token = record { number = token.seat; trace = token.trace }
 
 -- the slot is that of the body of one of so many tasks
 abbrev pub is_body : ℕ → ℕ → Bool

@@ -2,11 +2,14 @@ pub mod Begin
 pub mod End
 pub mod Exclusives
 pub mod Gathered
+pub mod Handing
 pub mod Kinds
 pub mod Layout
+pub mod Lending
 pub mod Outs
 pub mod Parts
 pub mod Plays
 pub mod Ruled
 pub mod Shown
+pub mod Taken
 pub mod Views

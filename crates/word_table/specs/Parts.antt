@@ -3,12 +3,10 @@ use Rattle.std.specs.Prelude.{ℕ, List}
 use Rattle.handoff_data.specs.declared.shape.Shape.{Shape}
 use Rattle.word_steps.specs.Records.{Rec}
 
--- a seat of the core: its number, its trace, newest first, and its hand, which is 0, or 1 more than the slot that it is
--- about to change
+-- a seat of the core: its number, and its trace, newest first
 pub record Part : Type 0 where
   pub number : ℕ
   pub trace : List Rec
-  pub hand : ℕ
 
 -- the shape, and what each task's body keeps for good
 pub record Known : Type 0 where

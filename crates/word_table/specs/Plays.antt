@@ -1,5 +1,5 @@
 -- What each step tells the seat.
-use Rattle.std.specs.Prelude.{◌≡◌, ◌≢◌, ℕ, suc, ◌+◌, ◌%◌, ◌^◌, Bool, Some, List, [], ◌∷◌, map, slice_index_or}
+use Rattle.std.specs.Prelude.{◌≡◌, ◌≢◌, ℕ, ◌+◌, ◌%◌, ◌^◌, Bool, Some, List, [], ◌∷◌, map, slice_index_or}
 use Rattle.atomic_table.specs.Table.{Me, Step, rest}
 use Rattle.handoff_data.specs.declared.shape.Shape.{Shape}
 use Rattle.word_rule.specs.Sorts.{Sort, lock_of, held_of, IsOf}
@@ -10,11 +10,11 @@ use Rattle.word_steps.specs.declared.val.Val.{Val}
 use Rattle.word_table.specs.Layout.{word_at, slot_at, slot_of, BODY_SLOT}
 use Rattle.word_table.specs.Parts.{Part, Known}
 use Rattle.word_table.specs.declared.slot.Slot.{Slot}
-use Rattle.word_table.specs.declared.slot.Slot.TheVariants.{Empty, Held, Body}
+use Rattle.word_table.specs.declared.slot.Slot.TheVariants.{Held, Body}
 use Rattle.word_table.specs.declared.view.View.{View}
 
-abbrev pub part : ℕ → List Rec → ℕ → Part
-part s trace h = record { number = s; trace = trace; hand = h }
+abbrev pub part : ℕ → List Rec → Part
+part s trace = record { number = s; trace = trace }
 
 -- a view of one part
 abbrev pub one : Known → Part → View
@@ -28,26 +28,37 @@ abbrev pub seat_in : List Part → ℕ
 seat_in [] = 0
 seat_in (p ∷ ps) = p.number
 
+abbrev pub no_shape : Shape
+no_shape = record { cpus = 0; caches = 0; tasks = 0; conds = 0; agents = 0 }
+
+-- the view of a seat that has no part
+abbrev pub spent : View
+spent = record { parts = []; known = record { shape = no_shape; lasting = [] } }
+
 abbrev pub Sat : Type 0 → Type 0
 Sat B = Me (Slot B) View
 
 module _ {B : Type 0} where
   -- the seat at rest: no slot in its hand
   abbrev pub sat : Known → ℕ → List Rec → Sat B
-  sat known s trace = (one known (part s trace 0), [])
+  sat known s trace = (one known (part s trace), [])
 
   -- with the slot i in its hand
   abbrev pub holding : Known → ℕ → List Rec → ℕ → Slot B → Sat B
-  holding known s trace i x = (one known (part s trace (suc i)), (i, x) ∷ [])
+  holding known s trace i x = (one known (part s trace), (i, x) ∷ [])
+
+  -- a seat of no part, with the slot i in its hand
+  abbrev pub bare : ℕ → Slot B → Sat B
+  bare i x = (spent, (i, x) ∷ [])
 
   abbrev pub push : Rec → Sat B → Sat B
   push r m = (record m.0 { parts = map (λ (p : Part). record p { trace = r ∷ p.trace }) m.0.parts }, m.1)
 
   abbrev pub lift : ℕ → Slot B → Sat B → Sat B
-  lift i x m = (record m.0 { parts = map (λ (p : Part). record p { hand = suc i }) m.0.parts }, (i, x) ∷ m.1)
+  lift i x m = (m.0, (i, x) ∷ m.1)
 
   abbrev pub lay : Sat B → Sat B
-  lay m = (record m.0 { parts = map (λ (p : Part). record p { hand = 0 }) m.0.parts }, rest m.1)
+  lay m = (m.0, rest m.1)
 
   -- of a kind of step on one word: its column, its record, and what it tells of the word found
   module _ (col : ℕ) (note : ℕ → List Rec → ℕ → ℕ → ℕ → Rec) (told : Shape → ℕ → List Rec → ℕ → ℕ → Type 0) where
@@ -91,14 +102,6 @@ module _ {B : Type 0} where
       (n : ℕ) (v w : Val) → st.word ≡ word_at n (lock_of sort) → held_of sort (trace_in m.0.parts) n ≡ Some v
       → m.1 ≡ (slot_at n (slot_of sort), Held w) ∷ rest m.1 → m' ≡ lay (push (Gave n v w) m)
 
-  -- the slot in the seat's hand is put down
-  abbrev pub lain : Step (Slot B) → Sat B → ℕ → Sat B → Type 0
-  lain st m x m' = m' ≡ lay m
-
-  -- the slot in the column k that goes with the word in the column col is taken up, empty
-  abbrev pub lifted : (col k : ℕ) → Step (Slot B) → Sat B → ℕ → Sat B → Type 0
-  lifted col k st m x m' = (n : ℕ) → st.word ≡ word_at n col → m' ≡ lift (slot_at n k) Empty m
-
   -- a body left its slot
   abbrev pub left : (B → List ℕ) → (B → Bool) → Step (Slot B) → Sat B → ℕ → Sat B → Type 0
   left lasting ended st m x m' =
@@ -113,6 +116,10 @@ module _ {B : Type 0} where
 -- the seat is at rest, and has this number
 abbrev pub IsRest : {B : Type 0} → Sat B → ℕ → Type 0
 IsRest m s = m ≡ sat m.0.known s (trace_in m.0.parts)
+
+-- the seat has this number, and the slot i in its hand, with x in it
+abbrev pub IsHolding : {B : Type 0} → Sat B → ℕ → ℕ → Slot B → Type 0
+IsHolding m s i x = m ≡ holding m.0.known s (trace_in m.0.parts) i x
 
 -- a new seat, with no part
 abbrev pub entered : {B : Type 0} → Step (Slot B) → Sat B → ℕ → Sat B → Type 0

@@ -1,5 +1,5 @@
 -- The rule of the table: what its words, values at home and views show is kept (`word_rule`).
-use Rattle.std.specs.Prelude.{◌≤◌, ◌≡◌, ◌≢◌, ◌⊎◌, ℕ, zero, suc, ◌+◌, ◌*◌, ◌<◌, Bool, true, false, Option, Some, None, List, [], ◌∷◌, ◌++◌, map, length, take, drop, slice_index_or}
+use Rattle.std.specs.Prelude.{◌≤◌, ◌≡◌, ◌⊎◌, ℕ, zero, suc, ◌+◌, ◌*◌, ◌<◌, Bool, true, false, Option, Some, None, List, [], ◌∷◌, ◌++◌, map, length, take, drop, slice_index_or}
 use Rattle.std.specs.Vec.{vec_capacity}
 use mathlib.Core.Option.{none, some}
 use mathlib.Core.Option as maybe
@@ -20,6 +20,7 @@ use Rattle.word_table.specs.Exclusives.{ExclusivesTold}
 use Rattle.word_table.specs.Layout.{SLOTS, BODY_SLOT, rows_of, slot_of, slot_at}
 use Rattle.word_table.specs.Outs.{has_out}
 use Rattle.word_table.specs.Parts.{Part, Known}
+use Rattle.word_table.specs.Plays.{spent}
 use Rattle.word_table.specs.declared.slot.Key.{Key}
 use Rattle.word_table.specs.declared.slot.Slot.{Slot}
 use Rattle.word_table.specs.declared.slot.Slot.TheVariants.{Empty, Held, Body, Room}
@@ -86,16 +87,15 @@ IsRoomed n (some (some (Room v))) = (v.items ≡ []) × (n ≤ vec_capacity v)
 -- The seats
 
 -- a part at the seat j of the table
-pub record Fits (seats : ℕ) (trace : ℕ → List Rec) (hand owner : ℕ → ℕ) (j : ℕ) (p : Part) : Type 0 where
+pub record Fits (seats : ℕ) (trace : ℕ → List Rec) (owner : ℕ → ℕ) (j : ℕ) (p : Part) : Type 0 where
   pub near : p.number < seats
   pub owned : owner p.number ≡ j
   pub trace_is : p.trace ≡ trace p.number
-  pub hand_is : p.hand ≡ hand p.number
 
--- the slot i, whose value the seat s has: it is empty, or in that seat's hand
-pub record SlotOut {B : Type 0} (homes : List (maybe.Option (Slot B))) (hand keeper : ℕ → ℕ) (i s : ℕ) : Type 0 where
+-- the slot i, which the seat s has, is out
+pub record SlotOut {B : Type 0} (homes : List (maybe.Option (Slot B))) (keeper : ℕ → ℕ) (i s : ℕ) : Type 0 where
   pub kept : keeper i ≡ s
-  pub lies : ((hand s ≡ suc i) × (get_elem? homes i ≡ some none)) ⊎ ((hand s ≢ suc i) × (get_elem? homes i ≡ some (some Empty)))
+  pub lies : get_elem? homes i ≡ some none
 
 module _ {B : Type 0} (lasting : B → List ℕ) where
   abbrev pub lastings : Key B → List (List ℕ)
@@ -111,9 +111,8 @@ module _ {B : Type 0} (lasting : B → List ℕ) where
 
   module _ (ended_of : B → Bool) where
     pub record Ruled (key : Key B) (s : State (Slot B) View) : Type 0 where
-      -- by the seat's number: what it did, what it has in its hand, and which seat of the table it is
+      -- by the seat's number: what it did, and which seat of the table it is
       pub trace : ℕ → List Rec
-      pub hand : ℕ → ℕ
       pub owner : ℕ → ℕ
       -- which seat has the slot, where one has
       pub keeper : ℕ → ℕ
@@ -125,10 +124,9 @@ module _ {B : Type 0} (lasting : B → List ℕ) where
       pub deep : length s.homes ≡ SLOTS * rows_of key.shape + 1
       pub room : IsRoomed key.shape.tasks (get_elem? s.homes (SLOTS * rows_of key.shape))
       pub parts :
-          (j : ℕ) (v : View) → get_elem? s.views j ≡ some v → Each (Fits (key.shape.cpus + key.shape.agents) trace hand owner j) v.parts
+          (j : ℕ) (v : View) → get_elem? s.views j ≡ some v → Each (Fits (key.shape.cpus + key.shape.agents) trace owner j) v.parts
           × ((v.known ≡ known_of key) ⊎ (v.parts ≡ []))
-      pub slots : (i q : ℕ) → q < key.shape.cpus + key.shape.agents → has_out i (trace q) ≡ true → SlotOut s.homes hand keeper i q
-      pub hands : (i q : ℕ) → q < key.shape.cpus + key.shape.agents → hand q ≡ suc i → has_out i (trace q) ≡ true
+      pub slots : (i q : ℕ) → q < key.shape.cpus + key.shape.agents → has_out i (trace q) ≡ true → SlotOut s.homes keeper i q
       pub bodies : (t : ℕ) (b : B) → get_elem? s.homes (slot_at t BODY_SLOT) ≡ some (some (Body b)) → IsBody key ended_of ended t b
       pub inv : Kept key.shape (words_of s.words) (homes_of s.homes ended) trace
       pub exclusives : ExclusivesTold trace (homes_of s.homes ended).wait
@@ -136,7 +134,7 @@ module _ {B : Type 0} (lasting : B → List ℕ) where
 -- parts with empty traces, numbered from k on
 abbrev pub fresh : ℕ → ℕ → List Part
 fresh k zero = []
-fresh k (suc n) = record { number = k; trace = []; hand = 0 } ∷ fresh (suc k) n
+fresh k (suc n) = record { number = k; trace = [] } ∷ fresh (suc k) n
 
 -- the first seat has the parts of all
 abbrev pub first_view : {B : Type 0} → (B → List ℕ) → Key B → View
@@ -151,3 +149,13 @@ first_alone v = record v { parts = take 1 v.parts }
 
 abbrev pub joined : View → View → View
 joined v w = record v { parts = w.parts ++ v.parts }
+
+-- a seat hands its parts to another, and takes them back
+abbrev pub none_kept : View → View
+none_kept v = spent
+
+abbrev pub all_given : View → View
+all_given v = v
+
+abbrev pub taken_back : View → View → View
+taken_back v w = w

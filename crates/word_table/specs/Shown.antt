@@ -1,9 +1,8 @@
 -- How a token is seen.
 use Rattle.std.specs.Prelude.{◌≡◌, List, [], ◌∷◌}
-use Rattle.handoff_data.specs.declared.shape.Shape.{Shape}
 use Rattle.word_steps.specs.Records.{Rec}
 use Rattle.word_table.specs.Parts.{Known}
-use Rattle.word_table.specs.Plays.{one, part, trace_in}
+use Rattle.word_table.specs.Plays.{one, part, trace_in, no_shape}
 use Rattle.word_table.specs.Views.{TokenView}
 use Rattle.word_table.specs.declared.token.Token.TheInside.{Inside}
 use Rattle.word_table.specs.declared.view.View.{View}
@@ -11,13 +10,6 @@ use Rattle.word_table.specs.declared.view.View.{View}
 abbrev pub trace_of : List View → List Rec
 trace_of [] = []
 trace_of (v ∷ vs) = trace_in v.parts
-
-abbrev pub no_shape : Shape
-no_shape = record { cpus = 0; caches = 0; tasks = 0; conds = 0; agents = 0 }
-
--- the view of a seat that was joined into another
-abbrev pub spent : View
-spent = record { parts = []; known = record { shape = no_shape; lasting = [] } }
 
 abbrev pub known_in : List View → Known
 known_in [] = record { shape = no_shape; lasting = [] }
@@ -32,6 +24,6 @@ token_view t = record {
   trace = trace_of t.badge.views;
 }
 
--- it is a seat of one part with an empty hand
+-- it is a seat of one part
 abbrev pub IsToken : Inside → Type 0
-IsToken t = t.badge.views ≡ one (known_in t.badge.views) (part t.seat (trace_of t.badge.views) 0) ∷ []
+IsToken t = t.badge.views ≡ one (known_in t.badge.views) (part t.seat (trace_of t.badge.views)) ∷ []

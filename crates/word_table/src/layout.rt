@@ -11,14 +11,14 @@ pub(crate) const SLOTS: usize = 6;
 /// The column of a body's slot.
 pub(crate) const BODY_SLOT: usize = 1;
 
-/// The column of a task's body, of its word as of its slot.
-pub(crate) const BODY: usize = 1;
+/// The column of a task's body.
+pub(crate) const BODY: usize = 9;
 /// The column of a task's state.
-pub(crate) const STATE: usize = 2;
+pub(crate) const STATE: usize = 10;
 /// The column of a processor's epoch, which is odd while it is active.
-pub(crate) const ACTIVE: usize = 22;
+pub(crate) const ACTIVE: usize = 30;
 /// The column of a condition.
-pub(crate) const COND: usize = 33;
+pub(crate) const COND: usize = 41;
 
 /// How many numbers have words and slots: as many as there are tasks, conditions or seats.
 pub(crate) fn rows_of(shape: &Shape) -> u32

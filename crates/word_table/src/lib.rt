@@ -16,6 +16,7 @@ mod rule;
 mod shape_tests;
 mod slot;
 mod steps;
+mod taken;
 #[cfg(test)]
 mod thread_tests;
 mod token;
@@ -31,5 +32,6 @@ pub use lock::{Lock, QueueLock, TaskLock, WaitLock, WorksLock};
 pub use resting::rest;
 pub use slot::Kept;
 pub use steps::{exchange, fetch_add, load, peek, store};
+pub use taken::{BodyOut, Taken};
 pub use token::Token;
 pub use words::Words;

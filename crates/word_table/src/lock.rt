@@ -25,7 +25,7 @@ impl Lock for TaskLock {
     ghost sort = { OfTask };
 
     fn column() -> usize {
-        0
+        8
     }
 
     fn slot() -> usize {
@@ -42,7 +42,7 @@ impl Lock for QueueLock {
     ghost sort = { OfQueue };
 
     fn column() -> usize {
-        16
+        24
     }
 
     fn slot() -> usize {
@@ -59,7 +59,7 @@ impl Lock for WorksLock {
     ghost sort = { OfWorks };
 
     fn column() -> usize {
-        17
+        25
     }
 
     fn slot() -> usize {
@@ -76,7 +76,7 @@ impl Lock for WaitLock {
     ghost sort = { OfWait };
 
     fn column() -> usize {
-        32
+        40
     }
 
     fn slot() -> usize {

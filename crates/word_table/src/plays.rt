@@ -1,10 +1,6 @@
 //! What each step tells.
-ghost use Rattle.word_rule.specs.Sorts.{lock_of};
-ghost use Rattle.word_steps.specs.Words.{BODY};
-ghost use Rattle.word_table.specs.Layout.{slot_of, BODY_SLOT};
-ghost use Rattle.word_table.specs.Plays.{loaded, added, stored, tried, took, lain, lifted, gave, left, came, entered};
-ghost use Rattle.word_table.specs.Ruled.{but_first, first_alone, joined};
-ghost use Rattle.word_table.specs.Shown.{spent};
+ghost use Rattle.word_table.specs.Plays.{loaded, added, stored, tried, took, gave, left, came, entered, spent};
+ghost use Rattle.word_table.specs.Ruled.{but_first, first_alone, joined, none_kept, all_given, taken_back};
 
 use crate::kind::Kind;
 use crate::lock::Lock;
@@ -53,22 +49,6 @@ impl<B, L: Lock> Play<Slot<B>, View> for Take<L> {
     ghost then = { took L.sort };
 }
 
-/// Puts the slot in the seat's hand down, which is empty.
-pub struct Lay;
-
-impl<B> Play<Slot<B>, View> for Lay {
-    ghost then = { lain };
-}
-
-/// Takes the slot of a lock up, which is empty.
-pub struct Lift<L> {
-    lock: PhantomData<L>,
-}
-
-impl<B, L: Lock> Play<Slot<B>, View> for Lift<L> {
-    ghost then = { lifted (lock_of L.sort) (slot_of L.sort) };
-}
-
 pub struct Give<L> {
     lock: PhantomData<L>,
 }
@@ -84,18 +64,29 @@ impl<B: Kept> Play<Slot<B>, View> for Leave {
     ghost then = { left B.lasting B.ended };
 }
 
-/// Takes a body's slot up, which is empty.
-pub struct LiftBody;
-
-impl<B> Play<Slot<B>, View> for LiftBody {
-    ghost then = { lifted BODY BODY_SLOT };
-}
-
 /// A body comes home.
 pub struct Come;
 
 impl<B: Kept> Play<Slot<B>, View> for Come {
     ghost then = { came B.ended };
+}
+
+/// A seat hands its parts to a new one, and keeps the slot in its hand.
+pub struct HandOver;
+
+impl Split<View> for HandOver {
+    ghost left = { none_kept };
+
+    ghost right = { all_given };
+}
+
+/// A seat with no part takes those of another back.
+pub struct TakeBack;
+
+impl Join<View> for TakeBack {
+    ghost both = { taken_back };
+
+    ghost spent = { spent };
 }
 
 /// Splits the first part off a seat's view.

@@ -23,7 +23,7 @@ impl Kept for () {
     ghost ended = { λ _. true };
 }
 
-/// A slot of the table. Between two calls each is at home, and one whose value is out is empty.
+/// A slot of the table. One whose lock is taken, and one of a body that is out, is in the hand of a seat of its own.
 #[derive(Drop)]
 pub enum Slot<B> {
     Empty,
@@ -33,6 +33,25 @@ pub enum Slot<B> {
     Body(B),
     /// Room for the bodies, which nobody takes before the end.
     Room(BodyRoom<B>),
+}
+
+impl<B> Slot<B> {
+    ghost use Rattle.std.specs.Prelude.{◌≡◌};
+    ghost use Rattle.std.specs.Borrow.{sem};
+    ghost use Rattle.word_table.specs.Lending.{IsHeld, LendsHeld};
+    ghost use Rattle.word_table.specs.declared.slot.Slot.TheVariants.{Held};
+
+    /// The value under a lock, where this is that.
+    pub fn held_mut(&mut self) -> &mut Val
+        requires held { IsHeld self.old }
+        ensures* writes_back { sem 𝓛 (LendsHeld B.row self.entry result) }
+        ensures value { self.old ≡ Held result.now }
+    {
+        match self {
+            Slot::Held(val) => val,
+            _ => unreachable!(),
+        }
+    }
 }
 
 /// Room for the bodies that the table gives back at its end, in a box: no slot is larger for it. Contracts see the

@@ -8,7 +8,6 @@ use std::alloc::Global;
 use std::sync::Wait;
 use std::test::Fail;
 use std::thread::{Threads, join};
-use word_steps::Val;
 
 #[derive(Drop)]
 struct Still;
@@ -25,11 +24,8 @@ fn turn<R: Wait>(rt: &R, words: &Words<Still>, token: &mut Token)
     requires cpus { 0 < words.now.shape.cpus }
     ensures { IsSame token.old token.new }
 {
-    let val = take::<Still, WorksLock, R>(rt, words, token, 0);
-    let Val::Works(works) = val else {
-        unreachable!()
-    };
-    give::<Still, WorksLock>(words, token, 0, Val::Works(works));
+    let taken = take::<Still, WorksLock, R>(rt, words, token, 0);
+    give::<Still, WorksLock>(words, token, 0, taken);
 }
 
 fn work<R: Wait>(rt: &R, words: &Words<Still>, mut token: Token) -> Token
@@ -63,7 +59,7 @@ fn run<R: Threads + Wait + Sync>(rt: &R, alloc: Global) -> Result<Option<u64>, N
         return Ok(None);
     };
     join(rt, || work(rt, words, first), || work(rt, words, second));
-    Ok(Some(peek(words, 0, 17)))
+    Ok(Some(peek(words, 0, 25)))
 }
 
 #[test]

@@ -1,4 +1,4 @@
-use Rattle.std.proofs.Common.{arith, ◌≡◌, ◌∙◌, ℕ, ◌∷◌, List, None, Some, subst, ap, refl, inl, inr}
+use Rattle.std.proofs.Common.{rules, arith, sym, ◌≡◌, ◌∙◌, ℕ, ◌∷◌, List, None, Some, subst, ap, refl, inl, inr}
 use Rattle.std.proofs.lemmas.Grind.{common_steps}
 use Rattle.std.specs.Prelude.{unwrap_or}
 use Rattle.core_data.specs.declared.values.TaskVal.{TaskVal}
@@ -9,6 +9,7 @@ use Rattle.run_queue.specs.Starts.{queued_new}
 use Rattle.run_queue.proofs.Guards.{gave_task, held_there}
 use Rattle.run_queue.proofs.Steps.{held_started, placed_current, placed_clear, started_rests}
 use Rattle.run_queue.proofs.starting.start.Given.{Over}
+use Rattle.word_rule.specs.May.{MayGiveTaskVal}
 use Rattle.word_steps.specs.Folds.{task_held, current_task, task_to_clear}
 use Rattle.run_queue.proofs.starting.start.Goals as goal
 use Rattle.run_queue.proofs.starting.start.Goals.{then-ne-via-then-ne, then-ne-via-else-ne+then-load_rq-ne0}
@@ -97,13 +98,18 @@ started_did g c =
     let v = c.lock_task-task.result.val in
     let q = c.queue_new.ensures.did.queue in
     let last = c.queue_new.new.pass.trace in
-    let task = c.lock_task-task.result.task in
     c.give-2.ensures.trace
-    ∙ ap (λ (z : TaskVal). Gave task (val.Task (unwrap_or (task_held last task) z)) (val.Task z) ∷ last) c.set_wake_cpu.ensures
+    ∙ (λ i. let k : ℕ = c.set_wake_cpu.ensures.task i in let z = c.set_wake_cpu.ensures.value i in
+    Gave k (val.Task (unwrap_or (task_held last k) z)) (val.Task z) ∷ last)
     ∙ gave_task t c.lock_task-task.result.task v (record v { wake_cpu = c.args.c }) c.queue_new.new.pass.trace
     (queued_new t c.args.c q (placed t c.place.result c.args.c (reads_of g c)))
     c.lock_task-task.ensures.task (c.queue_new.ensures.did.did ∙ ap (queued_new t c.args.c q) (placed_did g c))
     (still_held g c)
+
+pub give-requires-2-clause-may : goal.give-requires-2-clause-may
+give-requires-2-clause-may g c κs within =
+    subst (λ (z : ℕ × TaskVal). MayGiveTaskVal c.queue_new.new.pass.seat c.queue_new.new.pass.trace c.args.wk.now.shape z.0 z.1)
+    (λ i. (sym c.set_wake_cpu.ensures.task i, sym c.set_wake_cpu.ensures.value i)) (search rules)
 
 pub returns-clause-did : goal.returns-clause-did
 unfolding reads_of

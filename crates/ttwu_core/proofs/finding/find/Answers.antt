@@ -1,4 +1,4 @@
-use Rattle.std.proofs.Common.{◌≡◌, ◌∙◌, ℕ, ◌∷◌, List, Some, None, sym, subst, ap}
+use Rattle.std.proofs.Common.{◌≡◌, ◌∙◌, ℕ, ◌∷◌, List, Some, sym, subst, ap}
 use Rattle.handoff_data.specs.declared.shape.Shape.{Shape}
 use Rattle.run_queue.proofs.Guards.{gave_queue, queue_there, taken_current, taken_clear}
 use Rattle.ttwu_core.proofs.Steps.{give_looked_may}

@@ -1,4 +1,4 @@
-use Rattle.std.proofs.Common.{◌≡◌, ◌∙◌, ◌<◌, sym, subst}
+use Rattle.std.proofs.Common.{◌∙◌, ◌<◌, sym, subst}
 use Rattle.handoff_data.specs.declared.shape.Shape.{Shape}
 use Rattle.wait_queue.proofs.Enters.{prepared_may}
 use Rattle.wait_queue.proofs.entering.prepare.Goals as goal

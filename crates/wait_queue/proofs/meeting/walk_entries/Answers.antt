@@ -1,7 +1,7 @@
-use Rattle.std.proofs.Common.{◌≡◌, ◌∙◌, ℕ, ◌<◌, ◌≤◌, ◌+◌, ◌-◌, ◌∷◌, [], List, sym, ap, subst, length, Fits, w32, arith}
-use Rattle.std.specs.Prelude.{Some, IfSome, slice_get}
+use Rattle.std.proofs.Common.{◌≡◌, ◌∙◌, ℕ, ◌<◌, ◌+◌, ◌-◌, ◌∷◌, List, sym, ap, subst, length, arith}
+use Rattle.std.specs.Prelude.{IfSome, slice_get}
 use Rattle.core_data.specs.declared.values.WaitEntry.{WaitEntry}
-use Rattle.wait_queue.proofs.Meetings.{IsUnderway, underway_none, underway_more, underway_head, underway_length, underway_counts, one_counts, still_below, least_asked, walked_reached}
+use Rattle.wait_queue.proofs.Meetings.{underway_none, underway_more, underway_head, underway_length, underway_counts, one_counts, still_below, least_asked, walked_reached}
 use Rattle.wait_queue.proofs.meeting.walk_entries.Goals as goal
 use Rattle.wait_queue.specs.Walks.{IsTurned}
 

@@ -1,14 +1,9 @@
-use Rattle.std.proofs.Common.{rules}
+use Rattle.std.proofs.Common.{rules, ◌<◌}
+use Rattle.word_table.proofs.Seats.{over_at}
 use Rattle.word_table.proofs.carrying.take.Goals as goal
 
-pub into_badge-requires : goal.into_badge-requires
-into_badge-requires g c = let seat = c.take_value-slot.ensures.seat c.in-Held.val c.in-Held.is in search (rules, seat)
-
-pub invariant_of-token : goal.invariant_of-token
-invariant_of-token g c = let seat = c.take_value-slot.ensures.seat c.in-Held.val c.in-Held.is in search (rules, seat)
-
-pub returns-clause-same : goal.returns-clause-same
-returns-clause-same g c = let seat = c.take_value-slot.ensures.seat c.in-Held.val c.in-Held.is in search (rules, seat)
-
-pub returns-clause-trace : goal.returns-clause-trace
-returns-clause-trace g c = let seat = c.take_value-slot.ensures.seat c.in-Held.val c.in-Held.is in search (rules, seat)
+pub split_seat-own-requires : goal.split_seat-own-requires
+split_seat-own-requires g c =
+    let shared = c.words.inside.table.shared in let some : 0 < shared.table_id.words = search rules in
+    let seat = c.acquire.new.seat in
+    (search rules, some, over_at g.B.Kept.lasting g.B.Kept.ended shared.key seat.id seat.me)

@@ -11,7 +11,7 @@ loop-k-preserved g c =
     record {
       conds = one_plain (λ (i : ℕ). words_of words i COND) c.loop-k.conds.items c.push_reserved.new.self.items
           c.word.result k inv.conds c.push_reserved.ensures.items
-          (sym (read_at words (64 * k + 33) c.word.result 0 c.word.ensures));
+          (sym (read_at words (64 * k + 41) c.word.result 0 c.word.ensures));
       full = (let len = c.push_reserved.ensures.len in omega arith);
       room = (let more = c.push_reserved.ensures.capacity in omega arith);
     }

@@ -1,8 +1,7 @@
-use Rattle.std.proofs.Common.{rules, arith, ap, subst, refl, ◌∙◌, ℕ, ◌<◌, ◌*◌}
+use Rattle.std.proofs.Common.{rules, arith, ap, subst, ◌∙◌, ℕ, ◌<◌}
 use Rattle.word_rule.specs.Sorts.{lock_of}
 use Rattle.word_rule.specs.Told.{TakeTold}
 use Rattle.word_steps.specs.Records.{Took}
-use Rattle.word_steps.specs.Words.{STRIDE}
 use Rattle.word_table.specs.Layout.{rows_of, slot_of, slot_at}
 use Rattle.word_table.specs.Plays.{push, lift, trace_in, seat_in, Sat}
 use Rattle.word_table.specs.declared.slot.Slot.TheVariants.{Held}
