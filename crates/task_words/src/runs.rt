@@ -1,5 +1,5 @@
 //! Queue words and busy words, each with its next number. Calls that would pass the last number wait for good.
-ghost use Rattle.std.specs.Prelude.{◌≡◌, ℕ, ◌+◌, ◌/◌, ◌%◌, ◌^◌, ◌<◌, ◌∷◌, Some};
+ghost use Rattle.std.specs.Prelude.{true, false, ◌≡◌, ℕ, ◌+◌, ◌/◌, ◌%◌, ◌^◌, ◌<◌, ◌∷◌, Some};
 ghost use Rattle.core_kinds.specs.Running.{queue_entry, dequeue_entry, is_dead};
 ghost use Rattle.handoff_data.specs.declared.entry.Entry.TheVariants as entry;
 ghost use Rattle.task_words.specs.Queues.{MayQueueHere, MayMoveHere};
@@ -53,6 +53,46 @@ fn change_rq<B: Kept, K: Kind, R: Wait>(
     unreachable!()
 }
 
+// One try to change the queue word of t to queued, from what the seat has read of it; whether it succeeded.
+fn queue_once<B: Kept>(wk: &Wk<B>, token: &mut Token, t: TaskNo, seen: Rq) -> bool
+    requires of { IsTokenOf wk.now token.old }
+    requires row { t < wk.now.shape.tasks }
+    requires on { seen.on < 4 }
+    requires may { (x : ℕ) → x / 4 < 2 ^ 60 → MayQueueWord token.old.seat token.old.trace t x (next_rq x 1) }
+    ensures same { IsSameToken token.old token.new }
+    ensures hit { result ≡ true → token.new.trace ≡ Queued t (cpu_read_of token.old.trace t) seen.on seen.m ∷ token.old.trace }
+    ensures room { result ≡ true → seen.m < 2 ^ 60 }
+    ensures miss { result ≡ false → token.new.trace ≡ token.old.trace }
+{
+    if seen.m >= END {
+        return false;
+    }
+    let old = 4 * seen.m + seen.on as u64;
+    let new = 4 * (seen.m + 1) + 1;
+    exchange::<B, QueueTask>(&wk.words, token, t, old, new) == old
+}
+
+// Tries until it succeeds.
+#[cold]
+fn queue_again<B: Kept, R: Wait>(rt: &R, wk: &Wk<B>, token: &mut Token, t: TaskNo, seen: Rq)
+    requires of { IsTokenOf wk.now token.old }
+    requires row { t < wk.now.shape.tasks }
+    requires on { seen.on < 4 }
+    requires may { (x : ℕ) → x / 4 < 2 ^ 60 → MayQueueWord token.old.seat token.old.trace t x (next_rq x 1) }
+    ensures same { IsSameToken token.old token.new }
+    ensures trace { token.new.trace ≡ Queued t (cpu_read_of token.old.trace t) seen.on seen.m ∷ token.old.trace }
+    ensures room { seen.m < 2 ^ 60 }
+{
+    let backoff = Backoff::new();
+    for _ in rt.forever() {
+        if queue_once(wk, token, t, seen) {
+            return;
+        }
+        rest_on_rq(rt, wk, &backoff, t, seen);
+    }
+    unreachable!()
+}
+
 // One more change of the queue word of t, to queued, from what the seat has read of it. No other seat changes the word
 // meanwhile, as the rule has it, so the first try succeeds.
 fn queue_read<B: Kept, R: Wait>(rt: &R, wk: &Wk<B>, token: &mut Token, t: TaskNo, seen: Rq)
@@ -64,18 +104,9 @@ fn queue_read<B: Kept, R: Wait>(rt: &R, wk: &Wk<B>, token: &mut Token, t: TaskNo
     ensures trace { token.new.trace ≡ Queued t (cpu_read_of token.old.trace t) seen.on seen.m ∷ token.old.trace }
     ensures room { seen.m < 2 ^ 60 }
 {
-    let backoff = Backoff::new();
-    for _ in rt.forever() {
-        if seen.m < END {
-            let old = 4 * seen.m + seen.on as u64;
-            let new = 4 * (seen.m + 1) + 1;
-            if exchange::<B, QueueTask>(&wk.words, token, t, old, new) == old {
-                return;
-            }
-        }
-        rest_on_rq(rt, wk, &backoff, t, seen);
+    if !queue_once(wk, token, t, seen) {
+        queue_again(rt, wk, token, t, seen);
     }
-    unreachable!()
 }
 
 // What the journal gets of a task that is queued.

@@ -1,11 +1,11 @@
 -- Words that are read again and again.
-use Rattle.std.proofs.Common.{◌≡◌, ◌≢◌, ◌∙◌, ℕ, ◌∷◌, [], List, refl, ap}
-use Rattle.std.specs.Prelude.{true}
+use Rattle.std.proofs.Common.{◌≡◌, ◌≢◌, ◌∙◌, ℕ, ◌++◌, ◌∷◌, [], List, refl, sym, ap}
+use Rattle.std.specs.Prelude.{true, false}
 use Rattle.std.specs.List.{All}
 use Rattle.std.proofs.lemmas.List.Elements.{All-nil, All-cons}
 use Rattle.core_data.specs.declared.pos.Rq.{Rq}
 use Rattle.task_words.specs.Views.{PassView, IsSameSeat, IsSame}
-use Rattle.ttwu_core.specs.Claims.{busy_reads}
+use Rattle.ttwu_core.specs.Claims.{awaited_clear, busy_reads, IsAwaitedClear}
 use Rattle.ttwu_core.specs.Finds.{rq_reads}
 use Rattle.word_steps.specs.Records.{Rec, LoadedRq, LoadedBusy}
 
@@ -57,4 +57,17 @@ busy_on t n a b c x same did = record {
   same = same_again a b c x.same same;
   waits = n ∷ x.waits;
   did = did ∙ ap (λ (z : List Rec). LoadedBusy t true n ∷ z) x.did;
+}
+
+-- .. and once before the others
+busy_before : (t n : ℕ) (ns : List ℕ) (trace : List Rec)
+    → busy_reads t (ns ++ n ∷ []) trace ≡ busy_reads t ns (LoadedBusy t true n ∷ trace)
+busy_before t n [] trace = refl
+busy_before t n (k ∷ ns) trace = ap (λ (z : List Rec). LoadedBusy t true k ∷ z) (busy_before t n ns trace)
+
+pub awaited_before : (t n m : ℕ) (old first new : List Rec) → first ≡ LoadedBusy t true n ∷ old
+    → IsAwaitedClear t m first new → IsAwaitedClear t m old new
+awaited_before t n m old first new read x = record {
+  waits = x.waits ++ n ∷ [];
+  did = x.did ∙ ap (awaited_clear t m x.waits) read ∙ ap (λ (z : List Rec). LoadedBusy t false m ∷ z) (sym (busy_before t n x.waits old));
 }

@@ -15,8 +15,9 @@ use task_words::{
     Kept, Pass, Wk, load_busy, lock_queue, queue_task, rest_on_busy, store_running, store_waking,
 };
 
-// Reads the busy word of a task until it is clear. It answers the number of its changes.
-fn await_clear<B: Kept, R: Wait>(rt: &R, wk: &Wk<B>, pass: &mut Pass, t: TaskNo) -> u64
+// Reads the busy word of a task again and again until it is clear. It answers the number of its changes.
+#[cold]
+fn await_again<B: Kept, R: Wait>(rt: &R, wk: &Wk<B>, pass: &mut Pass, t: TaskNo) -> u64
     requires of { IsOf wk.now pass.old }
     requires task { t < wk.now.shape.tasks }
     ensures same { IsSame pass.old pass.new }
@@ -31,6 +32,20 @@ fn await_clear<B: Kept, R: Wait>(rt: &R, wk: &Wk<B>, pass: &mut Pass, t: TaskNo)
         rest_on_busy(rt, wk, &backoff, t, seen);
     }
     unreachable!()
+}
+
+// Reads the busy word of a task until it is clear, as it is as a rule at once. It answers the number of its changes.
+fn await_clear<B: Kept, R: Wait>(rt: &R, wk: &Wk<B>, pass: &mut Pass, t: TaskNo) -> u64
+    requires of { IsOf wk.now pass.old }
+    requires task { t < wk.now.shape.tasks }
+    ensures same { IsSame pass.old pass.new }
+    ensures did { IsAwaitedClear t result pass.old.trace pass.new.trace }
+{
+    let seen = load_busy(wk, pass, t);
+    if !seen.on {
+        return seen.n;
+    }
+    await_again(rt, wk, pass, t)
 }
 
 /// Claims a task that is off every queue after `m` changes, and waits until no processor is busy with it, as Linux's

@@ -1,5 +1,5 @@
 //! How slots come into a seat's hand, and go home.
-ghost use Rattle.std.specs.Prelude.{◌≡◌, ℕ, ◌<◌, ◌∷◌, IsSome, [], slice_index_or, unwrap_or};
+ghost use Rattle.std.specs.Prelude.{◌≡◌, ◌≢◌, ℕ, ◌<◌, ◌∷◌, IsSome, [], slice_index_or, unwrap_or};
 ghost use Rattle.word_rule.specs.May.{MayGive, MayTakeBody, MayReturnBody};
 ghost use Rattle.word_rule.specs.Sorts.{lock_of, count_of, held_of, IsOf};
 ghost use Rattle.word_rule.specs.Told.{TakeTold};
@@ -36,8 +36,30 @@ pub(crate) fn slot_under<L: Lock>(n: u32) -> usize
     SLOTS * n as usize + L::slot()
 }
 
-/// Takes a lock: one exchange that succeeds. The value's slot is in the seat's hand.
-pub(crate) fn acquire<B: Kept, L: Lock, R: Wait>(
+// Tries to take a lock once: one exchange. It answers the word found, which is 0 where the lock was free. The value's slot
+// is in the seat's hand then.
+fn attempt<B: Kept, L: Lock>(
+    words: &Words<B>,
+    seat: &mut Seat<Slot<B>, View>,
+    number: u32,
+    n: u32,
+) -> u64
+    requires id { seat.old.table_id ≡ words.now.name }
+    requires row { n < count_of L.sort words.now.shape }
+    requires rest { IsRest seat.old.me number }
+    ensures id { seat.new.table_id ≡ seat.old.table_id }
+    ensures took { result ≡ 0 → (v : Val) × IsOf L.sort v × TakeTold seat.old.me.0.known.shape number (trace_in seat.old.me.0.parts) L.sort n v × (seat.new.me ≡ lift (slot_at n (slot_of L.sort)) (Held v) (push (Took n v) seat.old.me)) }
+    ensures missed { result ≢ 0 → seat.new.me ≡ seat.old.me }
+{
+    words
+        .table
+        .shared
+        .compare_exchange::<Take<L>>(seat, word_of::<L>(n), 0, 1 + number as u64)
+}
+
+// Tries until the lock is free, which another seat had.
+#[cold]
+fn contend<B: Kept, L: Lock, R: Wait>(
     rt: &R,
     words: &Words<B>,
     seat: &mut Seat<Slot<B>, View>,
@@ -51,18 +73,33 @@ pub(crate) fn acquire<B: Kept, L: Lock, R: Wait>(
     ensures took { (v : Val) × IsOf L.sort v × TakeTold seat.old.me.0.known.shape number (trace_in seat.old.me.0.parts) L.sort n v × (seat.new.me ≡ lift (slot_at n (slot_of L.sort)) (Held v) (push (Took n v) seat.old.me)) }
 {
     let backoff = Backoff::new();
-    let word = word_of::<L>(n);
     for _ in rt.forever() {
-        let found = words
-            .table
-            .shared
-            .compare_exchange::<Take<L>>(seat, word, 0, 1 + number as u64);
+        let found = attempt::<B, L>(words, seat, number, n);
         if found == 0 {
             return;
         }
         rest(rt, words, &backoff, n, L::column(), found);
     }
     unreachable!()
+}
+
+/// Takes a lock, as a rule at the first try. The value's slot is in the seat's hand.
+pub(crate) fn acquire<B: Kept, L: Lock, R: Wait>(
+    rt: &R,
+    words: &Words<B>,
+    seat: &mut Seat<Slot<B>, View>,
+    number: u32,
+    n: u32,
+)
+    requires id { seat.old.table_id ≡ words.now.name }
+    requires row { n < count_of L.sort words.now.shape }
+    requires rest { IsRest seat.old.me number }
+    ensures id { seat.new.table_id ≡ seat.old.table_id }
+    ensures took { (v : Val) × IsOf L.sort v × TakeTold seat.old.me.0.known.shape number (trace_in seat.old.me.0.parts) L.sort n v × (seat.new.me ≡ lift (slot_at n (slot_of L.sort)) (Held v) (push (Took n v) seat.old.me)) }
+{
+    if attempt::<B, L>(words, seat, number, n) != 0 {
+        contend::<B, L, R>(rt, words, seat, number, n);
+    }
 }
 
 /// Gives a lock. Its value goes home as it lies in the seat's hand.

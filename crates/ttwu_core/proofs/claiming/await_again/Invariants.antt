@@ -1,5 +1,5 @@
 use Rattle.ttwu_core.proofs.Loops.{IsBusy}
-use Rattle.ttwu_core.proofs.claiming.await_clear.Given as goal
+use Rattle.ttwu_core.proofs.claiming.await_again.Given as goal
 
 abbrev pub invariant-loop : goal.invariant-loop
 invariant-loop g l = IsBusy l.t l.initial.pass l.pass
