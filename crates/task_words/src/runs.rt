@@ -23,8 +23,27 @@ use word_table::{Kept, Kind, Token, exchange, fetch_add, peek, rest};
 // A queue word and a busy word are changed while their number is below it.
 const END: u64 = 1 << 60;
 
-// One more change of the queue word of t, to `on`. It answers the word that it found.
-fn change_rq<B: Kept, K: Kind, R: Wait>(
+// One try to change the queue word of t to `on`, from the word found; whether it succeeded.
+fn rq_once<B: Kept, K: Kind>(wk: &Wk<B>, token: &mut Token, t: TaskNo, on: u64, found: u64) -> bool
+    requires of { IsTokenOf wk.now token.old }
+    requires row { t < K.bound wk.now.shape }
+    requires on { on < 4 }
+    requires may { (x : ℕ) → x / 4 < 2 ^ 60 → K.may wk.now.shape token.old.seat token.old.trace t x (next_rq x on) }
+    ensures same { IsSameToken token.old token.new }
+    ensures hit { result ≡ true → token.new.trace ≡ K.note token.old.seat token.old.trace t (next_rq found on) found ∷ token.old.trace }
+    ensures room { result ≡ true → found / 4 < 2 ^ 60 }
+    ensures miss { result ≡ false → token.new.trace ≡ token.old.trace }
+{
+    if found / 4 >= END {
+        return false;
+    }
+    let new = 4 * (found / 4 + 1) + on;
+    exchange::<B, K>(&wk.words, token, t, found, new) == found
+}
+
+// Tries until it succeeds. It answers the word that it found.
+#[cold]
+fn rq_again<B: Kept, K: Kind, R: Wait>(
     rt: &R,
     wk: &Wk<B>,
     token: &mut Token,
@@ -42,15 +61,35 @@ fn change_rq<B: Kept, K: Kind, R: Wait>(
     let backoff = Backoff::new();
     for _ in rt.forever() {
         let found = peek(&wk.words, t, K::column());
-        if found / 4 < END {
-            let new = 4 * (found / 4 + 1) + on;
-            if exchange::<B, K>(&wk.words, token, t, found, new) == found {
-                return found;
-            }
+        if rq_once::<B, K>(wk, token, t, on, found) {
+            return found;
         }
         rest(rt, &wk.words, &backoff, t, K::column(), found);
     }
     unreachable!()
+}
+
+// One more change of the queue word of t, to `on`. It answers the word that it found.
+fn change_rq<B: Kept, K: Kind, R: Wait>(
+    rt: &R,
+    wk: &Wk<B>,
+    token: &mut Token,
+    t: TaskNo,
+    on: u64,
+) -> u64
+    requires of { IsTokenOf wk.now token.old }
+    requires row { t < K.bound wk.now.shape }
+    requires on { on < 4 }
+    requires may { (x : ℕ) → x / 4 < 2 ^ 60 → K.may wk.now.shape token.old.seat token.old.trace t x (next_rq x on) }
+    ensures same { IsSameToken token.old token.new }
+    ensures trace { token.new.trace ≡ K.note token.old.seat token.old.trace t (next_rq result on) result ∷ token.old.trace }
+    ensures room { result / 4 < 2 ^ 60 }
+{
+    let found = peek(&wk.words, t, K::column());
+    if rq_once::<B, K>(wk, token, t, on, found) {
+        return found;
+    }
+    rq_again::<B, K, R>(rt, wk, token, t, on)
 }
 
 // One try to change the queue word of t to queued, from what the seat has read of it; whether it succeeded.
@@ -234,6 +273,45 @@ pub fn set_busy<B: Kept, R: Wait>(
     n
 }
 
+// One try to set the busy word of t, from the word found; whether it succeeded.
+fn busy_once<B: Kept>(wk: &Wk<B>, token: &mut Token, t: TaskNo, found: u64) -> bool
+    requires of { IsTokenOf wk.now token.old }
+    requires row { t < wk.now.shape.tasks }
+    requires may { (x : ℕ) → x / 2 < 2 ^ 60 → MaySetBusyWord token.old.seat token.old.trace t x (next_busy x) }
+    ensures same { IsSameToken token.old token.new }
+    ensures hit { result ≡ true → token.new.trace ≡ SetBusy t token.old.seat (found / 2) ∷ token.old.trace }
+    ensures room { result ≡ true → found / 2 < 2 ^ 60 }
+    ensures miss { result ≡ false → token.new.trace ≡ token.old.trace }
+{
+    let n = found / 2;
+    if n >= END {
+        return false;
+    }
+    exchange::<B, word_kinds::SetBusy>(&wk.words, token, t, found, 2 * (n + 1) + 1) == found
+}
+
+// Tries until it succeeds. It answers the number before.
+#[cold]
+fn busy_again<B: Kept, R: Wait>(rt: &R, wk: &Wk<B>, token: &mut Token, t: TaskNo) -> u64
+    requires of { IsTokenOf wk.now token.old }
+    requires row { t < wk.now.shape.tasks }
+    requires may { (x : ℕ) → x / 2 < 2 ^ 60 → MaySetBusyWord token.old.seat token.old.trace t x (next_busy x) }
+    ensures same { IsSameToken token.old token.new }
+    ensures trace { token.new.trace ≡ SetBusy t token.old.seat result ∷ token.old.trace }
+    ensures room { result < 2 ^ 60 }
+{
+    let backoff = Backoff::new();
+    let column = word_kinds::SetBusy::column();
+    for _ in rt.forever() {
+        let found = peek(&wk.words, t, column);
+        if busy_once(wk, token, t, found) {
+            return found / 2;
+        }
+        rest(rt, &wk.words, &backoff, t, column, found);
+    }
+    unreachable!()
+}
+
 // One more change of the busy word of t, which is set. It answers the number before.
 fn change_busy<B: Kept, R: Wait>(rt: &R, wk: &Wk<B>, token: &mut Token, t: TaskNo) -> u64
     requires of { IsTokenOf wk.now token.old }
@@ -243,26 +321,11 @@ fn change_busy<B: Kept, R: Wait>(rt: &R, wk: &Wk<B>, token: &mut Token, t: TaskN
     ensures trace { token.new.trace ≡ SetBusy t token.old.seat result ∷ token.old.trace }
     ensures room { result < 2 ^ 60 }
 {
-    let backoff = Backoff::new();
-    for _ in rt.forever() {
-        let found = peek(&wk.words, t, word_kinds::SetBusy::column());
-        let n = found / 2;
-        if n < END {
-            let new = 2 * (n + 1) + 1;
-            if exchange::<B, word_kinds::SetBusy>(&wk.words, token, t, found, new) == found {
-                return n;
-            }
-        }
-        rest(
-            rt,
-            &wk.words,
-            &backoff,
-            t,
-            word_kinds::SetBusy::column(),
-            found,
-        );
+    let found = peek(&wk.words, t, word_kinds::SetBusy::column());
+    if busy_once(wk, token, t, found) {
+        return found / 2;
     }
-    unreachable!()
+    busy_again(rt, wk, token, t)
 }
 
 /// Clears the busy word of the task that the seat has switched out, as Linux's `finish_task`. It answers the number of

@@ -1,5 +1,5 @@
 use Rattle.task_words.proofs.Tokens.{IsStill}
-use Rattle.task_words.proofs.runs.change_busy.Given as goal
+use Rattle.task_words.proofs.runs.rq_again.Given as goal
 
 abbrev pub invariant-loop : goal.invariant-loop
 invariant-loop g l = IsStill l.initial.token l.token
