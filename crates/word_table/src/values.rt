@@ -57,7 +57,7 @@ fn attempt<B: Kept, L: Lock>(
         .compare_exchange::<Take<L>>(seat, word_of::<L>(n), 0, 1 + number as u64)
 }
 
-// Tries until the lock is free, which another seat had.
+// Tries until the lock is free, which another seat had, and rests before each try: who has the lock needs its word.
 #[cold]
 fn contend<B: Kept, L: Lock, R: Wait>(
     rt: &R,
@@ -65,6 +65,7 @@ fn contend<B: Kept, L: Lock, R: Wait>(
     seat: &mut Seat<Slot<B>, View>,
     number: u32,
     n: u32,
+    found: u64,
 )
     requires id { seat.old.table_id ≡ words.now.name }
     requires row { n < count_of L.sort words.now.shape }
@@ -73,12 +74,16 @@ fn contend<B: Kept, L: Lock, R: Wait>(
     ensures took { (v : Val) × IsOf L.sort v × TakeTold seat.old.me.0.known.shape number (trace_in seat.old.me.0.parts) L.sort n v × (seat.new.me ≡ lift (slot_at n (slot_of L.sort)) (Held v) (push (Took n v) seat.old.me)) }
 {
     let backoff = Backoff::new();
+    let mut found = found;
     for _ in rt.forever() {
-        let found = attempt::<B, L>(words, seat, number, n);
-        if found == 0 {
-            return;
-        }
         rest(rt, words, &backoff, n, L::column(), found);
+        found = words.table.shared.peek(word_of::<L>(n));
+        if found == 0 {
+            found = attempt::<B, L>(words, seat, number, n);
+            if found == 0 {
+                return;
+            }
+        }
     }
     unreachable!()
 }
@@ -97,8 +102,9 @@ pub(crate) fn acquire<B: Kept, L: Lock, R: Wait>(
     ensures id { seat.new.table_id ≡ seat.old.table_id }
     ensures took { (v : Val) × IsOf L.sort v × TakeTold seat.old.me.0.known.shape number (trace_in seat.old.me.0.parts) L.sort n v × (seat.new.me ≡ lift (slot_at n (slot_of L.sort)) (Held v) (push (Took n v) seat.old.me)) }
 {
-    if attempt::<B, L>(words, seat, number, n) != 0 {
-        contend::<B, L, R>(rt, words, seat, number, n);
+    let found = attempt::<B, L>(words, seat, number, n);
+    if found != 0 {
+        contend::<B, L, R>(rt, words, seat, number, n, found);
     }
 }
 
