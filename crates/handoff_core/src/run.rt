@@ -3,12 +3,10 @@
 ghost use Rattle.std.specs.Prelude.{◌≡◌, ◌↔◌, ◌≤◌, Some, IsTrue, OnOk, IfOk, MatchOption, take, length, slice_get};
 ghost use Rattle.core_data.specs.Table.{Table, table};
 ghost use Rattle.core_invariant.specs.Invariant.{Holds};
-ghost use Rattle.handoff_core.specs.Runs.{Ran, EachMoves};
-ghost use Rattle.handoff_core.specs.Steps.{May, after, Step};
-ghost use Rattle.handoff_core.specs.declared.event.Event.{Event};
+ghost use Rattle.core_law.specs.Runs.{Ran, EachMoves};
+ghost use Rattle.core_law.specs.Steps.{May, after, Step};
+ghost use Rattle.core_law.specs.declared.event.Event.{Event};
 
-use crate::event::Event;
-use crate::step::StepKind;
 use core_data::{Core, copy_core};
 use core_gives::{give_queue, give_wait, may_give_queue, may_give_wait, may_give_works};
 use core_kinds::{
@@ -19,7 +17,8 @@ use core_kinds::{
     may_take_wait, may_take_works, move_task, own_state, queue_task, release, set_busy, store_cpu,
     take_queue, take_task, take_wait, take_works,
 };
-use handoff_data::{NoMemory, SeatNo};
+use core_law::{Event, StepKind};
+use handoff_data::NoMemory;
 
 /// Whether an event is possible.
 fn may_happen(core: &Core, event: &Event) -> bool
