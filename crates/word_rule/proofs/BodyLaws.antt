@@ -1,6 +1,6 @@
 -- Bodies taken out and put home keep the rule; and a new table keeps it.
-use Rattle.std.proofs.Common.{◌≡◌, ℕ, ◌<◌, ◌+◌, refl, ap, arith, List, [], ◌∷◌}
-use Rattle.std.specs.Prelude.{◌↔◌, Bool, true, false, nat_lt, if◌then◌else◌}
+use Rattle.std.proofs.Common.{◌≡◌, ℕ, ◌<◌, ◌+◌, refl, List, [], ◌∷◌}
+use Rattle.std.specs.Prelude.{◌↔◌, Bool, true, false}
 use Rattle.core_data.specs.Table.{put}
 use Rattle.core_law.proofs.Reached.{Holds-opening, reached_opening}
 use Rattle.handoff_data.specs.Mask.{HasCpu}

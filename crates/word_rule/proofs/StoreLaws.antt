@@ -5,7 +5,7 @@ use Rattle.std.specs.Prelude.{◌/◌, ◌%◌, ◌^◌, ◌⊎◌, true, Some, 
 use Rattle.std.proofs.lemmas.Bool.Decides.{nat_tests}
 use Rattle.core_data.specs.Queue.{Queue}
 use Rattle.core_data.specs.Table.{put, put_at}
-use Rattle.core_kinds.specs.Running.{MaySetBusy, MayClearBusy}
+use Rattle.core_kinds.specs.Running.{MaySetBusy}
 use Rattle.core_kinds.specs.Steps.{is_sleep, dead, running}
 use Rattle.core_kinds.specs.Waking.{MayStoreCpu}
 use Rattle.handoff_data.specs.declared.shape.Shape.{Shape}
@@ -269,22 +269,22 @@ module _ (shape : Shape) (words : ℕ → ℕ → ℕ) (homes : Homes) (traces :
   store_cpu_law task may = (
     kept_after shape words homes traces s kept (StoredCpu n y) (put_at words n CPU y) homes
         (store_cpu_event shape words homes traces s n y core) (record {
-      moving = moving_beside shape words homes traces s kept.moving n CPU y (StoredCpu n y) lock rq (λ h. refl);
-      current = current_quiet words traces s kept.current n CPU y (StoredCpu n y) rq (λ j. refl) refl;
-      numbers = numbers_beside words traces s kept.numbers n CPU y (StoredCpu n y) lock rq (λ h. refl);
-      matched = matched_beside words traces s kept.matched n CPU y (StoredCpu n y) lock
-          (grows_beside words traces s kept.matched n CPU y rq) refl;
-      queued = store_cpu_queued words traces s kept.queued shape homes n y core;
-      put_there = store_cpu_put words traces s kept.put_there shape homes kept.holds n y core;
-      ended = ended_still homes.ended traces s kept.ended (StoredCpu n y) (λ j. refl) refl;
-      counts = counts_put words n CPU y kept.counts (λ e. omega (arith, e));
-      states = states_put words n CPU y kept.states (λ e. absurd (omega (arith, e)));
-      standing = store_cpu_standing words traces s kept.standing shape homes kept.holds n y core;
-      runs = store_cpu_runs words traces s kept.runs shape homes kept.holds n y core;
-      off = off_beside words traces s kept.off n CPU y (StoredCpu n y) lock rq (renewed words traces s kept.off n) refl;
-      grown = grown_beside words traces s kept.grown n CPU y (StoredCpu n y) rq refl;
-      known = known_still traces s kept.known (StoredCpu n y) refl refl;
-    }),
+          moving = moving_beside shape words homes traces s kept.moving n CPU y (StoredCpu n y) lock rq (λ h. refl);
+          current = current_quiet words traces s kept.current n CPU y (StoredCpu n y) rq (λ j. refl) refl;
+          numbers = numbers_beside words traces s kept.numbers n CPU y (StoredCpu n y) lock rq (λ h. refl);
+          matched = matched_beside words traces s kept.matched n CPU y (StoredCpu n y) lock
+              (grows_beside words traces s kept.matched n CPU y rq) refl;
+          queued = store_cpu_queued words traces s kept.queued shape homes n y core;
+          put_there = store_cpu_put words traces s kept.put_there shape homes kept.holds n y core;
+          ended = ended_still homes.ended traces s kept.ended (StoredCpu n y) (λ j. refl) refl;
+          counts = counts_put words n CPU y kept.counts (λ e. omega (arith, e));
+          states = states_put words n CPU y kept.states (λ e. absurd (omega (arith, e)));
+          standing = store_cpu_standing words traces s kept.standing shape homes kept.holds n y core;
+          runs = store_cpu_runs words traces s kept.runs shape homes kept.holds n y core;
+          off = off_beside words traces s kept.off n CPU y (StoredCpu n y) lock rq (renewed words traces s kept.off n) refl;
+          grown = grown_beside words traces s kept.grown n CPU y (StoredCpu n y) rq refl;
+          known = known_still traces s kept.known (StoredCpu n y) refl refl;
+        }),
     tt,
   )
     where

@@ -21,7 +21,7 @@ use Rattle.word_steps.proofs.Stores.{store_cpu_shown, own_state_shown, claim_sho
 use Rattle.word_steps.proofs.Loads.{load_cpu_shown, load_state_shown, load_rq_shown, load_busy_shown, load_cond_shown}
 use Rattle.word_steps.proofs.Runs.{queue_task_shown, dequeue_task_shown, move_task_shown, set_busy_shown, clear_busy_shown, body_out_shown, body_home_shown}
 use Rattle.word_steps.proofs.OwnRead.{own_read}
-use Rattle.word_steps.specs.Decode.{Homes, core_of, core_after}
+use Rattle.word_steps.specs.Decode.{Homes, core_of}
 use Rattle.word_steps.specs.Events.{IsEvent}
 use Rattle.word_steps.specs.Folds.{task_held, queue_held, works_held, wait_held}
 use Rattle.word_steps.specs.Records.{Rec, Took, Gave, OutBody, HomeBody, Queued, Dequeued, Moved, SetBusy, ClearedBusy, StoredOwn, Claimed, Released, LoadedState, LoadedRq, LoadedBusy, LoadedCpu, StoredCpu, Bumped, LoadedCond}
