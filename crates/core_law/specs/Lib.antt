@@ -1,1 +1,4 @@
 pub mod Laws
+pub mod Reached
+pub mod Runs
+pub mod Steps
