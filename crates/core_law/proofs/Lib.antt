@@ -1,2 +1,5 @@
 pub mod Kept
 pub mod Laws
+pub mod SameWords
+pub mod StepLaws
+pub mod Stores

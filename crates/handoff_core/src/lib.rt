@@ -9,6 +9,7 @@ mod event;
 mod laws;
 mod run;
 mod step;
+mod step_laws;
 
 pub use core_data::{
     Act, ActiveRead, Asleep, Completing, CondWords, Core, CountRead, CpuWords, Due, Held, HeldList,
@@ -19,10 +20,14 @@ pub use core_data::{
 pub use event::Event;
 pub use laws::{
     each_step_keeps_the_invariant, no_lost_wake, one_run_at_a_time, opening_core_holds,
-    stands_once, wakes_queue_at_most_once,
+    sleepers_wait, sleeps_on_its_processor, stands_once, wakes_queue_at_most_once,
 };
 pub use run::{CoreRun, law_run, step_core};
 pub use step::StepKind;
+pub use step_laws::{
+    each_seat_stores_its_states, each_store_ends_reads, gives_keep, loads_tell,
+    no_step_wakes_the_dead, passes_are_kept, refusals_are_told, sleeps_are_kept, words_mean,
+};
 
 #[cfg(test)]
 mod tests;
