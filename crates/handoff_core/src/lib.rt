@@ -1,7 +1,7 @@
 //! The core of the hand-off: a machine of shared words, lock values and seats, in which each atomic step of a seat
 //! is one event. `step_core` says what an event leads to, `law_run` what a list of events leads to.
 //!
-//! A core begins as `Core::start` makes it. Which events are possible, and what they change, is said by `May` and
+//! A core begins as `start_core` makes it. Which events are possible, and what they change, is said by `May` and
 //! `after` of `specs/Steps.antt`, one line a kind of step.
 #![tactic(auto)]
 
@@ -24,10 +24,8 @@ pub use laws::{
 };
 pub use run::{CoreRun, law_run, step_core};
 pub use step::StepKind;
+pub use step_data::start_core;
 pub use step_laws::{
     each_seat_stores_its_states, each_store_ends_reads, gives_keep, loads_tell,
     no_step_wakes_the_dead, passes_are_kept, refusals_are_told, sleeps_are_kept, words_mean,
 };
-
-#[cfg(test)]
-mod tests;
