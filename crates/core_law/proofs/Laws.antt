@@ -8,7 +8,6 @@ use Rattle.core_invariant.specs.Invariant.{Holds}
 use Rattle.core_invariant.specs.Journals.{RulesKept}
 use Rattle.core_invariant.specs.Sleepers.{IsOwed, IsSafeSleeper, IsAwake}
 use Rattle.core_journals.specs.Places.{place_of, q_of}
-use Rattle.core_kinds.specs.Steps.{is_sleep, running, waking, dead}
 use Rattle.core_law.specs.Laws.{OneRunAtATime, StandsOnce, WakesQueueAtMostOnce, NoLostWake, IsOwedByASeat, SleepersWait, SleepsOnItsProcessor, journals_of}
 use Rattle.handoff_data.specs.declared.entry.Entry.{Entry}
 use Rattle.handoff_data.specs.declared.entry.Entry.TheVariants as entry

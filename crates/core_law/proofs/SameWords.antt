@@ -1,5 +1,5 @@
 -- Steps that store no word of a task leave those words as they are.
-use Rattle.std.proofs.Common.{◌≡◌, ℕ, List, Bool, true, false, Some, None, Option, refl}
+use Rattle.std.proofs.Common.{ℕ, List, Bool, true, false, Some, None, Option, refl}
 use Rattle.std.specs.Prelude.{◌&&◌}
 use Rattle.core_data.specs.Queue.{Queue}
 use Rattle.core_data.specs.Table.{Table, put, put_at}

@@ -1,5 +1,5 @@
 -- What steps keep for the laws on wakes, what loads tell, and what gives leave.
-use Rattle.std.proofs.Common.{◌≡◌, ◌≢◌, ℕ, ◌⊎◌, inl, inr, ◌+◌, ◌++◌, ◌∷◌, [], List, Bool, true, false, Some, None, Option, refl, sym, ap, ◌∙◌, subst, arith}
+use Rattle.std.proofs.Common.{◌≡◌, ℕ, ◌⊎◌, inl, inr, ◌+◌, ◌++◌, ◌∷◌, [], List, Bool, true, false, Some, None, Option, refl, sym, ap, ◌∙◌, subst, arith}
 use Rattle.std.specs.Prelude.{if◌then◌else◌, ◌==◌, ◌&&◌, IsSome, is_some, bit_and}
 use mathlib.Core.Bool.{not}
 use Rattle.std.proofs.lemmas.Bool.{cases_eq}
@@ -9,11 +9,11 @@ use Rattle.core_data.specs.Table.{Table, put, put_at}
 use Rattle.core_data.specs.declared.act.Act.TheVariants.{Matched, SawOff, SawClear, SawRest, SawRestOff, SawRestIdle, Passed, OwnStored}
 use Rattle.core_data.specs.declared.pos.TaskReads.{TaskReads}
 use Rattle.core_data.specs.declared.values.WaitEntry.{WaitEntry}
-use Rattle.core_gives.specs.Waits.{MayGiveWait, give_by, walked_if, is_walk, has_task, sleeper_of}
+use Rattle.core_gives.specs.Waits.{give_by, walked_if, is_walk, has_task, sleeper_of}
 use Rattle.core_invariant.proofs.Puts.{put_here}
 use Rattle.core_invariant.specs.Sleepers.{IsAwake}
-use Rattle.core_kinds.specs.Steps.{normal, waking, running, dead, fresh, is_match, is_sleep, stored_word, numbered_reads, kept_reads}
-use Rattle.core_kinds.specs.Waking.{own_state, ran_if, slept_if, noted_if, logged_if, seen_if, is_own_read, is_matched, is_refused, state_read, rq_read, busy_read, cpu_read, load_cond, test_by, tested_if}
+use Rattle.core_kinds.specs.Steps.{normal, running, fresh, is_match, is_sleep, stored_word, numbered_reads, kept_reads}
+use Rattle.core_kinds.specs.Waking.{ran_if, slept_if, noted_if, logged_if, seen_if, is_own_read, is_matched, is_refused, state_read, rq_read, busy_read, cpu_read, test_by, tested_if}
 use Rattle.core_law.specs.StepLaws.{SleepsAreKept, PassesAreKept, RefusalsAreTold, LoadsTell, GivesKeep, WordsMean}
 use Rattle.core_places.proofs.LastReads.{reads_here}
 use Rattle.handoff_data.specs.declared.entry.Entry.{Entry}

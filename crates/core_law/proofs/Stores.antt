@@ -1,8 +1,8 @@
 -- Steps that store a word of a task: who may, what happens to a dead task, and what the seat has read.
-use Rattle.std.proofs.Common.{◌≡◌, ◌≢◌, ℕ, ◌⊎◌, inl, inr, ◌+◌, Bool, true, false, Some, None, Option, refl, sym, ap, ◌∙◌, subst, arith}
+use Rattle.std.proofs.Common.{◌≡◌, ◌≢◌, ℕ, ◌⊎◌, inl, inr, ◌+◌, true, false, Some, None, refl, sym, ap, ◌∙◌, subst, arith}
 use Rattle.std.proofs.lemmas.Bool.{cases_eq}
 use Rattle.std.proofs.lemmas.Bool.Decides.{nat_tests}
-use Rattle.core_data.specs.Table.{Table, put, put_at}
+use Rattle.core_data.specs.Table.{Table, put_at}
 use Rattle.core_data.specs.declared.pos.TaskReads.{TaskReads}
 use Rattle.core_invariant.proofs.Puts.{put_there}
 use Rattle.core_invariant.specs.Invariant.{Holds}
@@ -87,7 +87,7 @@ pub ends-own_state : (core : Table) (s t : ℕ) (state : State) → EndsReads s 
 ends-own_state core s t state =
     ends core (own_state core s t state) s t
     (λ u other. own_state-keeps (λ next. HasSameWords core next u) core s t state (own_same core u s t)
-        (record { state = put_there core.state t state u other; on_rq = refl; changes = refl; on_cpu = refl; cpu = refl }))
+    (record { state = put_there core.state t state u other; on_rq = refl; changes = refl; on_cpu = refl; cpu = refl }))
     (own_state-keeps (λ next. IsUnread (next.reads s t)) core s t state (own_unread s t) (unread core.reads s t (kept_reads t (core.reads s t)) refl refl refl))
 
 -- ---- states

@@ -1,5 +1,5 @@
 -- The loads of a task's state, of its queue word and of its busy word keep what a seat may rely on.
-use Rattle.std.proofs.Common.{◌≡◌, ◌≢◌, ℕ, ◌<◌, ◌⊎◌, inl, inr, ◌++◌, ◌∷◌, [], length, Bool, true, false, Option, Some, None, refl, sym, ap, ◌∙◌, subst, arith}
+use Rattle.std.proofs.Common.{◌≡◌, ◌≢◌, ℕ, ◌<◌, ◌⊎◌, inl, inr, ◌++◌, ◌∷◌, [], Bool, true, false, Option, Some, None, refl, sym, ap, ◌∙◌, arith}
 use Rattle.std.specs.Prelude.{if◌then◌else◌, ◌==◌, ◌&&◌, nat_lt, is_some, bit_and}
 use mathlib.Core.Bool.{not}
 use Rattle.std.proofs.lemmas.Bool.{cases_eq}
@@ -23,7 +23,6 @@ use Rattle.core_places.proofs.Resting.{RestingTasks-state_read, RestingTasks-off
 use Rattle.core_places.proofs.Seen.{SeenStates-load}
 use Rattle.core_places.proofs.Told.{IsLeft, ReadsTold-forget, ReadsTold-load_busy, ReadsTold-load_rq, ReadsTold-log}
 use Rattle.handoff_data.specs.Positions.{IsSomewhere}
-use Rattle.handoff_data.specs.Rules.{IsQueued}
 use Rattle.handoff_data.specs.declared.entry.Entry.{Entry}
 use Rattle.handoff_data.specs.declared.entry.Entry.TheVariants as entry
 use Rattle.handoff_data.specs.declared.state.State.{State}

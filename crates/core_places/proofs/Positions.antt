@@ -1,5 +1,5 @@
 -- Each kind of step keeps what a seat may rely on.
-use Rattle.std.proofs.Common.{◌≡◌, ◌≢◌, ℕ, ◌+◌, ◌<◌, ◌⊎◌, inl, inr, ◌++◌, ◌∷◌, [], length, List, Bool, Some, None, refl, ap, ◌∙◌, arith}
+use Rattle.std.proofs.Common.{◌≡◌, ◌≢◌, ℕ, ◌+◌, ◌<◌, ◌⊎◌, inl, inr, ◌++◌, ◌∷◌, [], List, Bool, Some, None, refl, ap, ◌∙◌, arith}
 use Rattle.core_data.specs.Queue.{Queue}
 use Rattle.core_data.specs.Found.{no_reads}
 use Rattle.core_data.specs.Table.{Table, put, put_at}
@@ -93,7 +93,7 @@ told-logged core s t e r holds seat none same =
 -- .. and stores its queue word, with its number
 told-changed : (core : Table) (s t v : ℕ) (e : Entry) → Holds core → s < core.seats → (core.lock t ≡ Some s) ⊎ (core.on_rq t ≡ 1)
     → ReadsTold (history core.cpus core.tasks core.seats (put core.journal s (core.journal s ++ e ∷ []))) core.cpu (put core.on_rq t v) (put core.changes t (core.changes t + 1)) core.lock
-          (put_at core.reads s t (numbered_reads t (core.changes t + 1) (core.reads s t)))
+    (put_at core.reads s t (numbered_reads t (core.changes t + 1) (core.reads s t)))
 told-changed core s t v e holds seat by =
     let j = history core.cpus core.tasks core.seats core.journal in
     let k = history core.cpus core.tasks core.seats (put core.journal s (core.journal s ++ e ∷ [])) in

@@ -1,7 +1,6 @@
 -- What holds of tasks that were matched under their lock, whatever was stored since, step by step.
-use Rattle.std.proofs.Common.{◌≡◌, ◌≢◌, ℕ, ◌⊎◌, inl, inr, Bool, true, Option, Some, None, sym, ap, ◌∙◌, subst, arith}
+use Rattle.std.proofs.Common.{◌≡◌, ◌≢◌, ℕ, ◌⊎◌, inl, inr, Bool, Option, Some, None, sym, ap, ◌∙◌, arith}
 use Rattle.std.proofs.lemmas.Bool.{cases_eq}
-use Rattle.std.proofs.lemmas.Bool.Decides.{nat_tests}
 use Rattle.core_data.specs.Table.{put}
 use Rattle.core_invariant.proofs.Puts.{put_here, put_there}
 use Rattle.core_invariant.specs.Positions.{ReleasedTasks}

@@ -124,23 +124,23 @@ ReadsTold-take j cpu on_rq changes lock reads s t r p none fresh =
     ReadsTold-put j cpu on_rq changes (put lock t (Some s)) reads s t r
     (forgot j t (cpu t) (on_rq t) (changes t) (put lock t (Some s) t ≡ Some s) r none (λ n e. absurd (grind (arith, e, fresh))))
     (λ k u o. tells-on j j u (cpu u) (cpu u) (on_rq u) (on_rq u) (changes u) (changes u) (lock u ≡ Some k) (put lock t (Some s) u ≡ Some k) (reads k u)
-        (told_at j cpu on_rq changes lock reads p k u) (λ e a. a)
-        (λ h. (elim (lock_taken lock s t k u h) [ inl a ↦ a | inr a ↦ absurd (elim o [ inl b ↦ b a.0 | inr b ↦ b a.1 ]) ], refl, λ z. (z, refl))) (omega arith))
+    (told_at j cpu on_rq changes lock reads p k u) (λ e a. a)
+    (λ h. (elim (lock_taken lock s t k u h) [ inl a ↦ a | inr a ↦ absurd (elim o [ inl b ↦ b a.0 | inr b ↦ b a.1 ]) ], refl, λ z. (z, refl))) (omega arith))
 
 pub ReadsTold-give : (j : History) (cpu on_rq changes : ℕ → ℕ) (lock : ℕ → Option ℕ) (reads : ℕ → ℕ → TaskReads) (t : ℕ) → ReadsTold j cpu on_rq changes lock reads
     → ReadsTold j cpu on_rq changes (put lock t None) reads
 ReadsTold-give j cpu on_rq changes lock reads t p =
     of_tells j cpu on_rq changes (put lock t None) reads (λ k u.
-        tells-on j j u (cpu u) (cpu u) (on_rq u) (on_rq u) (changes u) (changes u) (lock u ≡ Some k) (put lock t None u ≡ Some k) (reads k u)
-        (told_at j cpu on_rq changes lock reads p k u) (λ e a. a) (λ h. (lock_given lock t k u h, refl, λ z. (z, refl))) (omega arith))
+    tells-on j j u (cpu u) (cpu u) (on_rq u) (on_rq u) (changes u) (changes u) (lock u ≡ Some k) (put lock t None u ≡ Some k) (reads k u)
+    (told_at j cpu on_rq changes lock reads p k u) (λ e a. a) (λ h. (lock_given lock t k u h, refl, λ z. (z, refl))) (omega arith))
 
 -- a journal has one entry more
 pub ReadsTold-log : (j k : History) (cpu on_rq changes : ℕ → ℕ) (lock : ℕ → Option ℕ) (reads : ℕ → ℕ → TaskReads) → Has j k → ReadsTold j cpu on_rq changes lock reads
     → ReadsTold k cpu on_rq changes lock reads
 ReadsTold-log j k cpu on_rq changes lock reads has p =
     of_tells k cpu on_rq changes lock reads (λ i u.
-        tells-on j k u (cpu u) (cpu u) (on_rq u) (on_rq u) (changes u) (changes u) (lock u ≡ Some i) (lock u ≡ Some i) (reads i u)
-        (told_at j cpu on_rq changes lock reads p i u) has (λ h. (h, refl, λ z. (z, refl))) (omega arith))
+    tells-on j k u (cpu u) (cpu u) (on_rq u) (on_rq u) (changes u) (changes u) (lock u ≡ Some i) (lock u ≡ Some i) (reads i u)
+    (told_at j cpu on_rq changes lock reads p i u) has (λ h. (h, refl, λ z. (z, refl))) (omega arith))
 
 -- what was read of `on_rq` is forgotten, and the number stays
 pub ReadsTold-forget : (j : History) (cpu on_rq changes : ℕ → ℕ) (lock : ℕ → Option ℕ) (reads : ℕ → ℕ → TaskReads) (s t : ℕ) (r : TaskReads) → ReadsTold j cpu on_rq changes lock reads
@@ -175,9 +175,9 @@ ReadsTold-change j k cpu on_rq changes lock reads s t v r p has by none number =
     let more = put changes t (changes t + 1) in
     ReadsTold-put k cpu next more lock reads s t r
     (forgot k t (cpu t) (next t) (more t) (lock t ≡ Some s) r none (λ n e. let is : Some n ≡ Some (changes t + 1) = sym e ∙ number in let same : n ≡ changes t + 1 = grind (arith, is) in
-        let here = put_here changes t (changes t + 1) t refl in omega (arith, same, here)))
+    let here = put_here changes t (changes t + 1) t refl in omega (arith, same, here)))
     (λ i u o. tells-on j k u (cpu u) (cpu u) (on_rq u) (next u) (changes u) (more u) (lock u ≡ Some i) (lock u ≡ Some i) (reads i u)
-        (told_at j cpu on_rq changes lock reads p i u) has (λ h. (h, refl, λ z. words i u o h z)) (grows u))
+    (told_at j cpu on_rq changes lock reads p i u) has (λ h. (h, refl, λ z. words i u o h z)) (grows u))
   where
     grows : (u : ℕ) → changes u ≤ put changes t (changes t + 1) u
     grows u = elim (cases_eq u t) [
@@ -203,8 +203,8 @@ ReadsTold-store_cpu j cpu on_rq changes lock reads between s t c r p locked none
     ReadsTold-put j next on_rq changes lock between s t r
     (forgot j t (next t) (on_rq t) (changes t) (lock t ≡ Some s) r none (λ n e. p.past s t n (sym same ∙ e)))
     (λ k u o. subst (λ (x : TaskReads). Tells j u (next u) (on_rq u) (changes u) (lock u ≡ Some k) x) (sym (other k u o))
-        (tells-on j j u (cpu u) (next u) (on_rq u) (on_rq u) (changes u) (changes u) (lock u ≡ Some k) (lock u ≡ Some k) (reads k u)
-        (told_at j cpu on_rq changes lock reads p k u) (λ e a. a) (λ h. (h, here k u o h, λ z. (z, refl))) (omega arith)))
+    (tells-on j j u (cpu u) (next u) (on_rq u) (on_rq u) (changes u) (changes u) (lock u ≡ Some k) (lock u ≡ Some k) (reads k u)
+    (told_at j cpu on_rq changes lock reads p k u) (λ e a. a) (λ h. (h, here k u o h, λ z. (z, refl))) (omega arith)))
   where
     here : (k u : ℕ) → (k ≢ s) ⊎ (u ≢ t) → lock u ≡ Some k → put cpu t c u ≡ cpu u
     here k u o h = elim (cases_eq u t) [

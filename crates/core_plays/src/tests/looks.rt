@@ -97,7 +97,8 @@ pub fn is_so(core: &Core, line: &[Word<'_>]) -> bool {
     };
     let pos = &words.pos;
     match (*verb, said) {
-        ("tested", [Number(t), Number(k), Number(v)]) => test_of(pos, *t, *k) == Some(u64::from(*v)),
+        ("tested", [Number(t), Number(k), Number(v)]) => test_of(pos, *t, *k)
+            == Some(u64::from(*v)),
         ("untested", [Number(t), Number(k)]) => test_of(pos, *t, *k).is_none(),
         ("asleep", [Number(t), Number(k)]) => sleeps_at(pos, *t, *k),
         ("awake", [Number(t), Number(k)]) => !sleeps_at(pos, *t, *k),
