@@ -1,20 +1,19 @@
 //! What holds of every core that a machine can come to, as laws: each function's contract is the sentence over all
 //! cores and all lists of events, and there is nothing to run.
 
-ghost use Rattle.core_data.specs.Opening.{IsStart};
 ghost use Rattle.core_data.specs.Table.{Table};
 ghost use Rattle.core_invariant.specs.Invariant.{Holds};
 ghost use Rattle.core_journals.specs.Places.{OneMoveOrNone};
 ghost use Rattle.core_law.specs.Laws.{OneRunAtATime, StandsOnce, WakesQueueAtMostOnce, NoLostWake, SleepersWait, SleepsOnItsProcessor, journals_of};
-ghost use Rattle.handoff_core.specs.Reached.{IsReached};
-ghost use Rattle.handoff_core.specs.Steps.{Step};
-ghost use Rattle.handoff_core.specs.declared.event.Event.{Event};
+ghost use Rattle.core_law.specs.Reached.{IsReached, IsOpening};
+ghost use Rattle.core_law.specs.Steps.{Step};
+ghost use Rattle.core_law.specs.declared.event.Event.{Event};
 ghost use Rattle.handoff_data.specs.Shape.{IsShape};
 ghost use Rattle.handoff_data.specs.declared.shape.Shape.{Shape};
 
-/// The opening core of every shape meets the invariant.
+/// An opening core of every shape meets the invariant, whichever bodies have ended.
 pub fn opening_core_holds()
-    ensures { (shape : Shape) (core : Table) → IsShape shape → IsStart shape core → Holds core }
+    ensures { (shape : Shape) (core : Table) → IsShape shape → IsOpening shape core → Holds core }
 {}
 
 /// Each possible event leads from a core that meets the invariant to one that does, and is one move of one task by

@@ -3,14 +3,13 @@
 ghost use Rattle.std.specs.Prelude.{◌≡◌, ◌↔◌, ◌≤◌, ℕ, Some, IsTrue, OnOk, IfOk, MatchOption, take, length, slice_get};
 ghost use Rattle.core_data.specs.Table.{Table, table};
 ghost use Rattle.core_invariant.specs.Invariant.{Holds};
-ghost use Rattle.handoff_core.specs.Runs.{Ran, EachMoves};
-ghost use Rattle.handoff_core.specs.Steps.{May, after, Step};
-ghost use Rattle.handoff_core.specs.declared.event.Event.{Event};
+ghost use Rattle.core_law.specs.Runs.{Ran, EachMoves};
+ghost use Rattle.core_law.specs.Steps.{May, after, Step};
+ghost use Rattle.core_law.specs.declared.event.Event.{Event};
 
-use crate::event::Event;
-use crate::step::StepKind;
 use core_data::Core;
-use handoff_data::{NoMemory, SeatNo};
+use core_law::{Event, StepKind};
+use handoff_data::NoMemory;
 use step_data::{copy_core, copy_wait, copy_works};
 use step_gives::{give_queue, give_wait, may_give_queue, may_give_wait, may_give_works};
 use step_kinds::{

@@ -4,8 +4,8 @@
 ghost use Rattle.core_data.specs.Table.{Table};
 ghost use Rattle.core_invariant.specs.Invariant.{Holds};
 ghost use Rattle.core_law.specs.StepLaws.{KeepsTheDead, StoresItsStates, EndsReads, SleepsAreKept, PassesAreKept, RefusalsAreTold, LoadsTell, GivesKeep, WordsMean};
-ghost use Rattle.handoff_core.specs.Steps.{Step};
-ghost use Rattle.handoff_core.specs.declared.event.Event.{Event};
+ghost use Rattle.core_law.specs.Steps.{Step};
+ghost use Rattle.core_law.specs.declared.event.Event.{Event};
 
 /// No step of another seat changes the state of a dead task: no wake-up is stored over a death.
 pub fn no_step_wakes_the_dead()

@@ -1,8 +1,8 @@
 use Rattle.std.proofs.Common.{arith, rules, ◌<◌, length}
 use Rattle.std.proofs.lemmas.Option.{slice_get_past}
 use Rattle.core_data.specs.Table.{table}
-use Rattle.handoff_core.specs.Steps.{May}
-use Rattle.handoff_core.proofs.Kept.{holds_of, kept_after_each, moves_taken}
+use Rattle.core_law.specs.Steps.{May}
+use Rattle.core_law.proofs.Reached.{holds_of, kept_after_each, moves_taken}
 use Rattle.handoff_core.proofs.RunLemmas.{ran_on}
 use Rattle.handoff_core.proofs.run.law_run.Goals as goal
 

@@ -1,6 +1,6 @@
 use Rattle.std.proofs.Common.{sym, subst}
 use Rattle.core_law.specs.StepLaws.{StoresItsStates}
-use Rattle.handoff_core.proofs.StepLaws.{Stores-after}
+use Rattle.core_law.proofs.EachStep.{Stores-after}
 use Rattle.handoff_core.proofs.step_laws.each_seat_stores_its_states.Goals as goal
 
 pub returns : goal.returns

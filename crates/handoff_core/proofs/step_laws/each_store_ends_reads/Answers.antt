@@ -1,6 +1,6 @@
 use Rattle.std.proofs.Common.{sym, subst}
 use Rattle.core_law.specs.StepLaws.{EndsReads}
-use Rattle.handoff_core.proofs.StepLaws.{Ends-after}
+use Rattle.core_law.proofs.EachStep.{Ends-after}
 use Rattle.handoff_core.proofs.step_laws.each_store_ends_reads.Goals as goal
 
 pub returns : goal.returns

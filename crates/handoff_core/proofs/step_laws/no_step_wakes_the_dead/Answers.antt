@@ -1,6 +1,6 @@
 use Rattle.std.proofs.Common.{sym, subst}
 use Rattle.core_law.specs.StepLaws.{KeepsTheDead}
-use Rattle.handoff_core.proofs.StepLaws.{Dead-after}
+use Rattle.core_law.proofs.EachStep.{Dead-after}
 use Rattle.handoff_core.proofs.step_laws.no_step_wakes_the_dead.Goals as goal
 
 pub returns : goal.returns

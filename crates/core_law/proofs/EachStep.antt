@@ -5,9 +5,9 @@ use Rattle.core_invariant.specs.Invariant.{Holds}
 use Rattle.core_law.proofs.SameWords.{same-take_task, same-give_task, same-take_queue, same-give_queue, same-take_wait, same-give_wait, same-take_works, same-give_works, same-body_out, same-body_home, same-load_state, same-load_rq, same-load_busy, same-load_cpu, same-bump, same-load_cond}
 use Rattle.core_law.proofs.Stores.{ends-queue_task, ends-dequeue_task, ends-move_task, ends-set_busy, ends-clear_busy, ends-own_state, ends-claim, ends-release, ends-store_cpu, stores-own_state, stores-claim, stores-release, dead-own_state, dead-claim, dead-release}
 use Rattle.core_law.specs.StepLaws.{KeepsTheDead, StoresItsStates, EndsReads}
-use Rattle.handoff_core.specs.Steps.{May, after}
-use Rattle.handoff_core.specs.declared.step.StepKind.{StepKind}
-use Rattle.handoff_core.specs.declared.step.StepKind.TheVariants.{TakeTask, GiveTask, TakeQueue, GiveQueue, TakeWait, GiveWait, TakeWorks, GiveWorks, BodyOut, BodyHome, StoreRqOn, StoreRqOff, StoreRqMoving, SetBusy, ClearBusy, OwnState, StoreWaking, StoreRunning, LoadState, LoadRq, LoadBusy, LoadCpu, StoreCpu, Bump, LoadCond}
+use Rattle.core_law.specs.Steps.{May, after}
+use Rattle.core_law.specs.declared.step.StepKind.{StepKind}
+use Rattle.core_law.specs.declared.step.StepKind.TheVariants.{TakeTask, GiveTask, TakeQueue, GiveQueue, TakeWait, GiveWait, TakeWorks, GiveWorks, BodyOut, BodyHome, StoreRqOn, StoreRqOff, StoreRqMoving, SetBusy, ClearBusy, OwnState, StoreWaking, StoreRunning, LoadState, LoadRq, LoadBusy, LoadCpu, StoreCpu, Bump, LoadCond}
 
 pub Ends-after : (core : Table) (s : ℕ) (step : StepKind) → May core s step → EndsReads s core (after core s step)
 Ends-after core s (TakeTask t) may = λ u. inl (same-take_task core s t u)
