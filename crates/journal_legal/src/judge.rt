@@ -70,14 +70,7 @@ impl Judge {
         ) {
             return Some(rule);
         }
-        if let Some(rule) = breaks_standing(
-            journals,
-            facts,
-            &self.members,
-            seat,
-            index,
-            entry,
-        ) {
+        if let Some(rule) = breaks_standing(journals, facts, &self.members, seat, index, entry) {
             return Some(rule);
         }
         note_taken(

@@ -123,14 +123,7 @@ fn takes_all_due(
 
 /// Whether the processor may go offline here. What was listed to it in earlier epochs was queued before it went
 /// offline then.
-fn may_leave(
-    journals: &Journals,
-    facts: &Facts,
-    seat: SeatNo,
-    index: u64,
-    c: CpuNo,
-    e: u64,
-) -> bool
+fn may_leave(journals: &Journals, facts: &Facts, seat: SeatNo, index: u64, c: CpuNo, e: u64) -> bool
     requires facts { KnowsFacts journals.now facts.now }
     requires earlier { KeptSoFar journals.now seat index }
     requires own { c ≡ seat }

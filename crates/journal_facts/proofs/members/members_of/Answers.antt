@@ -32,7 +32,7 @@ returns c =
         λ has. let b = (c.loop-journal.invariant f).0 (Contains-permutation new old f (IsPermutation-sym old new perm) has) in
             record { seat = b.seat; journal = b.journal; in_journals = b.at; has = b.has },
         λ m. Contains-permutation old new f perm ((c.loop-journal.invariant f).1 (
-              let inside : m.seat < length seats = slice_get_within _ _ _ m.in_journals in
-              record { seat = m.seat; below = omega arith; journal = m.journal; at = m.in_journals; has = m.has })),
+            let inside : m.seat < length seats = slice_get_within _ _ _ m.in_journals in
+            record { seat = m.seat; below = omega arith; journal = m.journal; at = m.in_journals; has = m.has })),
       );
     }

@@ -8,8 +8,8 @@ returns-else-count-eq0-clause-found c =
     let n = c.count_before-count.result in
     let bound = c.count_before-count.ensures.bound in
     rw c.as_slice-sorted.ensures.items (
-      last_found facts c.args.key n c.as_slice-sorted.ensures.sorted c.count_before-count.ensures.point _ (omega arith) bound
-      (same_default facts (n - 1) _ _ (omega (arith, bound)))
+    last_found facts c.args.key n c.as_slice-sorted.ensures.sorted c.count_before-count.ensures.point _ (omega arith) bound
+    (same_default facts (n - 1) _ _ (omega (arith, bound)))
     )
 
 pub returns-else-count-eq0-clause-greatest : goal.returns-else-count-eq0-clause-greatest
@@ -18,6 +18,6 @@ returns-else-count-eq0-clause-greatest c =
     let n = c.count_before-count.result in
     let bound = c.count_before-count.ensures.bound in
     rw c.as_slice-sorted.ensures.items (
-      greatest facts c.args.key n c.as_slice-sorted.ensures.sorted c.count_before-count.ensures.point _ (omega arith) bound
-      (same_default facts (n - 1) _ _ (omega (arith, bound)))
+    greatest facts c.args.key n c.as_slice-sorted.ensures.sorted c.count_before-count.ensures.point _ (omega arith) bound
+    (same_default facts (n - 1) _ _ (omega (arith, bound)))
     )
