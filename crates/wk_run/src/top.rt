@@ -23,7 +23,7 @@ use std::alloc::Global;
 ///
 /// It waits for nobody and returns. `words` are the words behind the program's name. Of several answers that would
 /// fit, the first of `Usage`, `ReadFault`, `BadScript` or `Illegal`, and `WriteFault` is given, and `NoMemory` in the
-/// place of any but `Usage`.
+/// place of any but `Usage`. What the source has left after `NoMemory` or `ReadFault` is not said.
 pub fn wakerun<S: Source, K: Sink>(
     alloc: Global,
     words: &[String],
