@@ -3,6 +3,7 @@ pub mod Closing
 pub mod Gives
 pub mod Guards
 pub mod Lending
+pub mod Needs
 pub mod Queues
 pub mod Shown
 pub mod States
