@@ -8,7 +8,7 @@ use Rattle.core_kinds.specs.Steps.{is_match, normal}
 use Rattle.handoff_data.specs.declared.state.State.{State}
 use Rattle.run_queue.specs.Queueing.{placed}
 use Rattle.run_queue.specs.Rests.{IsApart}
-use Rattle.word_steps.proofs.Frames.{untouched_still, untouched_again, untouched_next}
+use Rattle.task_words.proofs.Frames.{untouched_still, untouched_again, untouched_next}
 use Rattle.word_steps.specs.Folds.{put_column_if, has_passed}
 use Rattle.word_steps.specs.Records.{Rec, Took, Gave, Queued, Claimed, Released, LoadedState, LoadedRq, LoadedBusy, LoadedCpu, StoredCpu}
 use Rattle.word_steps.specs.declared.val.Val.TheVariants as val

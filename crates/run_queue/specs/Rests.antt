@@ -2,7 +2,7 @@
 use Rattle.std.specs.Prelude.{◌≡◌, ℕ, true, false, List, None}
 use Rattle.word_steps.specs.Folds.{task_held, queue_held, wait_held, current_task, task_to_clear, is_claimed, has_passed, has_retaken, owes_walk}
 use Rattle.word_steps.specs.Records.{Rec}
-use Rattle.word_steps.specs.Untouched.{Untouched}
+use Rattle.task_words.specs.Untouched.{Untouched}
 
 -- no wait queue, works or body was taken or given, and no condition raised; the current task has not left its queue; whom
 -- the seat had passed on a walk it has passed still

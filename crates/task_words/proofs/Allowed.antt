@@ -19,7 +19,8 @@ use Rattle.task_words.specs.Queues.{MayQueueHere, MayMoveHere}
 use Rattle.word_rule.proofs.Uses.{gives_same, gives_put, gives_woken, gives_moved, gives_picked, gives_back, gives_asleep, IsPushed}
 use Rattle.word_rule.proofs.Possible.{value_of}
 use Rattle.word_rule.specs.May.{MayGiveQueueVal, MayGiveTaskVal, MaySetBusyWord, MayQueueWord, MayMoveWord, MayOwnWord, next_busy, next_rq}
-use Rattle.word_rule.specs.Standing.{may_run, is_runnable}
+use Rattle.word_rule.specs.Standing.{may_run}
+use Rattle.word_rule.specs.Told.{TakenQueue}
 use Rattle.word_steps.specs.Folds.{put_both, has_put, current_task, stays_queued, queue_held, number_read, task_to_clear, task_held, ended_known}
 use Rattle.word_steps.specs.Records.{Rec, Took, Gave, OutBody, HomeBody, Queued, Dequeued, Moved, SetBusy, ClearedBusy, StoredOwn, Claimed, Released, LoadedState, LoadedRq, LoadedBusy, LoadedCpu, StoredCpu, Bumped, LoadedCond}
 use Rattle.word_steps.specs.declared.val.Val.TheVariants as val
@@ -180,6 +181,12 @@ module _ (shape : Shape) (s : ℕ) (trace : List Rec) where
       → IfSome o (λ t. t < shape.tasks)
   popped_task c now new None x is = tt
   popped_task c now new (Some t) x is = (first_may c t now new.waiting x is.0).0
+
+  pub popped_ready : (c : ℕ) (now new : Queue) (o : Option ℕ) → IsJustTaken shape s trace c now
+      → MatchOption o ((now.waiting ≡ []) × (new ≡ now)) (λ t. (now.waiting ≡ t ∷ new.waiting) × (new ≡ record now { waiting = new.waiting }))
+      → IfSome o (λ t. may_run s trace c t ≡ true)
+  popped_ready c now new None x is = tt
+  popped_ready c now new (Some t) x is = (first_may c t now new.waiting x is.0).1
 
 -- a number that was read, and isn't 0
 numbered : (o : Option ℕ) → 0 < unwrap_or o 0 → (m : ℕ) × (o ≡ Some (suc m))

@@ -2,7 +2,7 @@
 use Rattle.std.proofs.Common.{◌≡◌, ◌∙◌, ℕ, ◌∷◌, [], List, inl, inr, refl, sym, ap, subst}
 use Rattle.std.specs.Prelude.{◌==◌, ◌&&◌, Bool, true, false, Option, Some, None, is_some, if◌then◌else◌}
 use mathlib.Core.Bool.{not}
-use Rattle.std.proofs.lemmas.Bool.{cases_Bool}
+use Rattle.std.proofs.lemmas.Bool.{cases_Bool, false≢true}
 use Rattle.core_data.specs.Queue.{Queue}
 use Rattle.core_gives.specs.Queues.{is_some_of}
 use Rattle.handoff_data.specs.declared.shape.Shape.{Shape}
@@ -77,7 +77,7 @@ module _ (s : ℕ) (current : Option ℕ) (stays own : Bool) (were h k : ℕ →
   more_known (LoadedCond n v) c t more e = more e
 
 loud : {A : Type 0} (r : Rec) → is_quiet r ≡ false → is_quiet r ≡ true → A
-loud r quiet_not quiet_is = let no : false ≡ true = sym quiet_not ∙ quiet_is in absurd (grind (no))
+loud r isnt is = absurd (false≢true (sym isnt ∙ is))
 
 module _ (s : ℕ) where
   -- the one tells of queues what the other tells, and no less of who may run
@@ -189,10 +189,10 @@ module _ (s : ℕ) where
   pub finer_without : (such : Rec → Bool) → ((r : Rec) → such r ≡ true → is_quiet r ≡ true) → (c : ℕ) (a : List Rec) → IsFiner a (without such c a)
   finer_without such quiet c [] = finer_same []
   finer_without such quiet c (r ∷ rs) = elim (cases_Bool (takes_queue c r)) [
-    | inl yes ↦ subst (λ (b : Bool). IsFiner (r ∷ rs) (if b then r ∷ rs else (if such r then without such c rs else r ∷ without such c rs)))
-        (sym yes) (finer_same (r ∷ rs))
-    | inr no ↦ subst (λ (b : Bool). IsFiner (r ∷ rs) (if b then r ∷ rs else (if such r then without such c rs else r ∷ without such c rs)))
-        (sym no) (elim (cases_Bool (such r)) [
+    | inl takes ↦ subst (λ (b : Bool). IsFiner (r ∷ rs) (if b then r ∷ rs else (if such r then without such c rs else r ∷ without such c rs)))
+        (sym takes) (finer_same (r ∷ rs))
+    | inr other ↦ subst (λ (b : Bool). IsFiner (r ∷ rs) (if b then r ∷ rs else (if such r then without such c rs else r ∷ without such c rs)))
+        (sym other) (elim (cases_Bool (such r)) [
           | inl is ↦ subst (λ (b : Bool). IsFiner (r ∷ rs) (if b then without such c rs else r ∷ without such c rs)) (sym is)
               (finer_again (r ∷ rs) rs (without such c rs) (finer_skip r (quiet r is) rs) (finer_without such quiet c rs))
           | inr isnt ↦ subst (λ (b : Bool). IsFiner (r ∷ rs) (if b then without such c rs else r ∷ without such c rs)) (sym isnt)

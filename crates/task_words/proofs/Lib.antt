@@ -5,5 +5,6 @@ pub mod Finer
 pub mod Firsts
 pub mod Read
 pub mod Sleepers
+pub mod Frames
 pub mod Told
 pub mod Tokens

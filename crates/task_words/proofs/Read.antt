@@ -1,7 +1,7 @@
 -- What the loads of a state tell of who may run, since the lock of the seat's own queue was taken.
 use Rattle.std.proofs.Common.{◌≡◌, ◌∙◌, ℕ, ◌∷◌, [], List, inl, inr, refl, sym, ap, subst, arith}
 use Rattle.std.specs.Prelude.{◌==◌, ◌&&◌, Bool, true, false, Option, Some, None, is_some, if◌then◌else◌}
-use Rattle.std.proofs.lemmas.Bool.{cases_Bool}
+use Rattle.std.proofs.lemmas.Bool.{cases_Bool, false≢true}
 use Rattle.std.proofs.lemmas.Bool.Decides.{nat_tests}
 use Rattle.core_data.specs.Queue.{Queue}
 use Rattle.core_gives.specs.Queues.{is_some_of}
@@ -45,8 +45,8 @@ first_either true n v xs ys = refl
 first_either false n v xs ys = refl
 
 none_seen : {A : Type 0} (b : Bool) (o : Option State) (state : State) → b ≡ true → (if b then None else o) ≡ Some state → A
-none_seen true o state yes e = let no : false ≡ true = ap is_some e in absurd (grind (no))
-none_seen false o state yes e = absurd (grind (yes))
+none_seen true o state own e = absurd (false≢true (ap is_some e))
+none_seen false o state own e = absurd (false≢true own)
 
 module _ (s t : ℕ) (state : State) (runs : is_runnable state ≡ true) (v : Queue) (rs : List Rec) where
   abbrev IsReadIn : List Rec → Type 0
@@ -54,10 +54,10 @@ module _ (s t : ℕ) (state : State) (runs : is_runnable state ≡ true) (v : Qu
       → seen_state s trace ≡ Some state → may_run s trace s t ≡ true
 
   other_first : {A : Type 0} (xs : List Rec) → first_takes xs ≡ false → xs ≡ Took s (val.Queue v) ∷ rs → A
-  other_first xs isnt did = let no : false ≡ true = sym isnt ∙ ap first_takes did in absurd (grind (no))
+  other_first xs isnt did = absurd (false≢true (sym isnt ∙ ap first_takes did))
 
   seen_may : (trace : List Rec) → IsReadIn trace
-  seen_may [] did current stays seen = let no : false ≡ true = ap is_some seen in absurd (grind (no))
+  seen_may [] did current stays seen = absurd (false≢true (ap is_some seen))
   seen_may (LoadedState u mask st ∷ a) did current stays seen =
       subst (λ (b : Bool). (if is_some_of (current_task s a) u && (b && (is_some (queue_held a s) && is_runnable st)) then put_both (may_run s a) s u true else may_run s a) s t ≡ true)
       (sym stays)
@@ -91,9 +91,9 @@ module _ (s t : ℕ) (state : State) (runs : is_runnable state ≡ true) (v : Qu
       → (if b then put_both h s t true else h) c u ≡ true → k c u ≡ true
   added_known false c u h k more there e = more e
   added_known true c u h k more there e = elim (cases_Bool ((c == s) && (u == t))) [
-    | inl yes ↦ (let row : c ≡ s = grind (arith, nat_tests, yes) in let column : u ≡ t = grind (arith, nat_tests, yes) in
+    | inl same ↦ (let row : c ≡ s = grind (arith, nat_tests, same) in let column : u ≡ t = grind (arith, nat_tests, same) in
         subst (λ (z : ℕ × ℕ). k z.0 z.1 ≡ true) (λ i. (sym row i, sym column i)) there)
-    | inr no ↦ more (subst (λ (b : Bool). (if b then true else h c u) ≡ true) no e)
+    | inr apart ↦ more (subst (λ (b : Bool). (if b then true else h c u) ≡ true) apart e)
   ]
 
   -- .. so it is known as if it had been read as running at once

@@ -7,5 +7,6 @@ pub mod Needs
 pub mod Queues
 pub mod Shown
 pub mod States
+pub mod Untouched
 pub mod Views
 pub mod Waited

@@ -2,7 +2,7 @@
 use Rattle.std.specs.Prelude.{◌≡◌, ℕ, List}
 use Rattle.word_steps.specs.Folds.{task_held, queue_held, wait_held, current_task, task_to_clear, is_claimed, is_matched_by, is_moving, has_stored, number_read}
 use Rattle.word_steps.specs.Records.{Rec}
-use Rattle.word_steps.specs.Untouched.{Untouched}
+use Rattle.task_words.specs.Untouched.{Untouched}
 
 pub record IsLoaded (s : ℕ) (old new : List Rec) : Type 0 where
   pub untouched : Untouched old new

@@ -4,7 +4,6 @@ pub mod EndedKept
 pub mod FirstCore
 mod Flats
 pub mod FlatWords
-pub mod Frames
 pub mod Gives
 pub mod Keeps
 pub mod Loads

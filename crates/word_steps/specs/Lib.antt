@@ -5,5 +5,4 @@ pub mod Folds
 pub mod Lending
 pub mod Opening
 pub mod Records
-pub mod Untouched
 pub mod Words

@@ -1,8 +1,9 @@
 -- Steps that touch nothing of what `Untouched` names, one and several.
 use Rattle.std.proofs.Common.{◌≡◌, ◌∙◌, ℕ, ◌∷◌, List, refl, sym}
 use Rattle.std.specs.Prelude.{Bool, true, false}
+use Rattle.std.proofs.lemmas.Bool.{false≢true}
 use Rattle.word_steps.specs.Records.{Rec, Took, Gave, OutBody, HomeBody, Queued, Dequeued, Moved, SetBusy, ClearedBusy, StoredOwn, Claimed, Released, LoadedState, LoadedRq, LoadedBusy, LoadedCpu, StoredCpu, Bumped, LoadedCond}
-use Rattle.word_steps.specs.Untouched.{Untouched}
+use Rattle.task_words.specs.Untouched.{Untouched}
 use Rattle.word_steps.specs.declared.val.Val.TheVariants as val
 
 pub untouched_still : (a : List Rec) → Untouched a a
@@ -27,7 +28,7 @@ touches (Dequeued t c m) = true
 touches r = false
 
 loud : {A : Type 0} → true ≡ false → A
-loud e = absurd (grind (e))
+loud e = absurd (false≢true (sym e))
 
 module _ (a : List Rec) where
   -- any other step
