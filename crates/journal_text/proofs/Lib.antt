@@ -1,11 +1,16 @@
+pub mod Alike
 pub mod Bounds
 pub mod Digits
 pub mod EntryBack
 pub mod FieldLaws
+pub mod FreeBlanks
+pub mod FreeLines
 pub mod LineBack
+pub mod LineChange
 pub mod MaskBack
 pub mod Masks
 pub mod Parts
 pub mod Readback
+pub mod Runs
 pub mod TextBack
 pub mod Texts

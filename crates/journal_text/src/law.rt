@@ -2,6 +2,7 @@
 
 ghost use Rattle.std.specs.Prelude.{◌≡◌, ◌≤◌, ◌+◌, ℕ, List, Ok, length};
 ghost use Rattle.handoff_data.specs.History.{History};
+ghost use Rattle.journal_text.specs.Freedoms.{HasMoreBlanks, HasMoreLines, HasMoreReturns};
 ghost use Rattle.journal_text.specs.Readable.{AreReadable, text_of};
 ghost use Rattle.journal_text.specs.Spelling.{spelling};
 ghost use Rattle.journal_text.specs.Text.{byte_limit, entry_count, reading};
@@ -16,4 +17,19 @@ pub fn written_is_read()
 pub fn texts_are_bounded()
     ensures within { (bytes : List ℕ) (j : History) → reading bytes ≡ Ok j → length bytes ≤ byte_limit }
     ensures few { (bytes : List ℕ) (j : History) → reading bytes ≡ Ok j → length j.seats + entry_count j ≤ length bytes + 1 }
+{}
+
+/// A carriage return more at the end of a line changes nothing of what is read. A law: the call does nothing.
+pub fn returns_are_free()
+    ensures { (bytes bytes' : List ℕ) (j : History) → HasMoreReturns bytes bytes' → length bytes' ≤ byte_limit → reading bytes ≡ Ok j → reading bytes' ≡ Ok j }
+{}
+
+/// A line of blanks more changes nothing of what is read. A law: the call does nothing.
+pub fn blank_lines_are_free()
+    ensures { (bytes bytes' : List ℕ) (j : History) → HasMoreLines bytes bytes' → length bytes' ≤ byte_limit → reading bytes ≡ Ok j → reading bytes' ≡ Ok j }
+{}
+
+/// A blank more before a blank changes nothing of what is read. A law: the call does nothing.
+pub fn blanks_are_free()
+    ensures { (bytes bytes' : List ℕ) (j : History) → HasMoreBlanks bytes bytes' → length bytes' ≤ byte_limit → reading bytes ≡ Ok j → reading bytes' ≡ Ok j }
 {}
