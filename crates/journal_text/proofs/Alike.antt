@@ -1,9 +1,8 @@
 -- What stands behind a word is read alike where its fields are.
-use Rattle.std.proofs.Common.{◌≡◌, ◌==◌, ℕ, ◌+◌, ◌^◌, ◌<◌, Bool, true, false, ◌&&◌, List, [], ◌∷◌, Option, Some, None, length, ap, sym, ◌∙◌, refl, arith, subst, if◌then◌else◌, nat_lt, nat_le}
+use Rattle.std.proofs.Common.{◌≡◌, ◌==◌, ℕ, ◌+◌, ◌^◌, Bool, true, false, ◌&&◌, List, [], ◌∷◌, Option, Some, None, length, ap, sym, ◌∙◌, refl, arith, subst, if◌then◌else◌, nat_lt, nat_le}
 use Rattle.std.specs.Prelude.{codes}
 use Rattle.std.specs.Str.{bytes_eq}
 use Rattle.std.proofs.lemmas.Bool.Decides.{nat_tests}
-use Rattle.handoff_data.specs.declared.entry.Entry.{Entry}
 use Rattle.handoff_data.specs.declared.entry.Entry.TheVariants as entry
 use Rattle.handoff_data.specs.declared.mask.CpuMask.{CpuMask}
 use Rattle.journal_text.specs.declared.heading.Heading.{Heading}
@@ -16,7 +15,7 @@ use Rattle.journal_text.specs.Fields.{◌>>=◌, field_at, gap_len, number_of, u
 use Rattle.journal_text.specs.Headings.{number_after, heading_at, heading_after}
 use Rattle.journal_text.specs.Keywords.{keyword_of}
 use Rattle.journal_text.specs.Lines.{Progress, with_said, with_entry, closed, is_next, is_last, body_by, body_after, words_at, words_after}
-use Rattle.journal_text.proofs.TextBack.{Steps, bind_some}
+use Rattle.journal_text.proofs.TextBack.{bind_some}
 
 -- whatever the one word says, the other does too
 pub record AlikeWord (word word' : List ℕ) : Type 0 where
@@ -130,12 +129,13 @@ u64_follows rest rest' alike n more is =
     let next = field_alike rest rest' alike s.between.0 s.between.1 s.first in
     let both : Some (t.between, s.between.1) ≡ Some (n, more) = t.second in
     let nn : t.between ≡ n = ap (λ o. (number_or o).0) both in
-    let mm : s.between.1 ≡ more = ap (λ o. (number_or o).1) both in
-    (next.more',
+    let mm : s.between.1 ≡ more = ap (λ o. (number_or o).1) both in (
+      next.more',
       ap (λ o. o >>= λ word. number_of word.0 >>= λ n. Some (n, word.1)) next.is
-      ∙ ap (λ o. o >>= λ n. Some (n, next.more')) (next.words.number t.between t.first)
-      ∙ ap (λ (x : ℕ). Some (x, next.more')) nn,
-      subst (λ (x : List ℕ). Alike x next.more') mm next.rests)
+          ∙ ap (λ o. o >>= λ n. Some (n, next.more')) (next.words.number t.between t.first)
+          ∙ ap (λ (x : ℕ). Some (x, next.more')) nn,
+      subst (λ (x : List ℕ). Alike x next.more') mm next.rests,
+    )
 
 if_some : {A : Type 0} (b : Bool) (x y : A) → (if b then Some x else None) ≡ Some y → (b ≡ true) × (x ≡ y)
 if_some true x y is = (refl, some_same x y is)
@@ -151,12 +151,13 @@ u32_follows rest rest' alike n more is =
     let fits = if_some (nat_lt s.between.0 (2 ^ 32)) s.between (n, more) s.second in
     let next = u64_follows rest rest' alike s.between.0 s.between.1 s.first in
     let nn : s.between.0 ≡ n = ap (λ (v : ℕ × List ℕ). v.0) fits.1 in
-    let mm : s.between.1 ≡ more = ap (λ (v : ℕ × List ℕ). v.1) fits.1 in
-    (next.0,
+    let mm : s.between.1 ≡ more = ap (λ (v : ℕ × List ℕ). v.1) fits.1 in (
+      next.0,
       ap (λ o. o >>= λ n. if nat_lt n.0 (2 ^ 32) then Some n else None) next.1
-      ∙ ap (λ b. if b then Some (s.between.0, next.0) else None) fits.0
-      ∙ ap (λ (x : ℕ). Some (x, next.0)) nn,
-      subst (λ (x : List ℕ). Alike x next.0) mm next.2)
+          ∙ ap (λ b. if b then Some (s.between.0, next.0) else None) fits.0
+          ∙ ap (λ (x : ℕ). Some (x, next.0)) nn,
+      subst (λ (x : List ℕ). Alike x next.0) mm next.2,
+    )
 
 one_ends : Ends one_of
 unfolding one_of
@@ -173,38 +174,38 @@ unfolding three_of
 three_ends =
     bind_ends u32_at (λ t rest. u64_at rest >>= λ m. u32_at m.1 >>= λ c. ended (t, m.0, c.0) c.1) u32_follows
     (λ t. bind_ends u64_at (λ m rest. u32_at rest >>= λ c. ended (t, m, c.0) c.1) u64_follows
-      (λ m. bind_ends u32_at (λ c rest. ended (t, m, c) rest) u32_follows (λ c. ended_ends (t, m, c))))
+    (λ m. bind_ends u32_at (λ c rest. ended (t, m, c) rest) u32_follows (λ c. ended_ends (t, m, c))))
 
 list_ends : Ends list_of
 unfolding list_of
 list_ends =
     bind_ends u32_at (λ t rest. u64_at rest >>= λ m. u32_at m.1 >>= λ c. u64_at c.1 >>= λ e. ended (entry.List t m.0 c.0 e.0) e.1) u32_follows
     (λ t. bind_ends u64_at (λ m rest. u32_at rest >>= λ c. u64_at c.1 >>= λ e. ended (entry.List t m c.0 e.0) e.1) u64_follows
-      (λ m. bind_ends u32_at (λ c rest. u64_at rest >>= λ e. ended (entry.List t m c e.0) e.1) u32_follows
-        (λ c. bind_ends u64_at (λ e rest. ended (entry.List t m c e) rest) u64_follows (λ e. ended_ends (entry.List t m c e)))))
+    (λ m. bind_ends u32_at (λ c rest. u64_at rest >>= λ e. ended (entry.List t m c e.0) e.1) u32_follows
+    (λ c. bind_ends u64_at (λ e rest. ended (entry.List t m c e) rest) u64_follows (λ e. ended_ends (entry.List t m c e)))))
 
 enq_ends : Ends enq_of
 unfolding enq_of
 enq_ends =
     bind_ends u32_at (λ t rest. u64_at rest >>= λ m. u32_at m.1 >>= λ c. field_at c.1 >>= λ word. by_list_of word.0 >>= λ b. ended (entry.Enq t m.0 c.0 b) word.1) u32_follows
     (λ t. bind_ends u64_at (λ m rest. u32_at rest >>= λ c. field_at c.1 >>= λ word. by_list_of word.0 >>= λ b. ended (entry.Enq t m c.0 b) word.1) u64_follows
-      (λ m. bind_ends u32_at (λ c rest. field_at rest >>= λ word. by_list_of word.0 >>= λ b. ended (entry.Enq t m c b) word.1) u32_follows
-        (λ c. word_ends by_list_of (λ b rest. ended (entry.Enq t m c b) rest) (λ w w' alike. alike.by_list) (λ b. ended_ends (entry.Enq t m c b)))))
+    (λ m. bind_ends u32_at (λ c rest. field_at rest >>= λ word. by_list_of word.0 >>= λ b. ended (entry.Enq t m c b) word.1) u32_follows
+    (λ c. word_ends by_list_of (λ b rest. ended (entry.Enq t m c b) rest) (λ w w' alike. alike.by_list) (λ b. ended_ends (entry.Enq t m c b)))))
 
 set_mask_ends : Ends set_mask_of
 unfolding set_mask_of
 set_mask_ends =
     bind_ends u32_at (λ t rest. u64_at rest >>= λ r. field_at r.1 >>= λ word. mask_of word.0 >>= λ mask. ended (entry.Mask t r.0 mask) word.1) u32_follows
     (λ t. bind_ends u64_at (λ r rest. field_at rest >>= λ word. mask_of word.0 >>= λ mask. ended (entry.Mask t r mask) word.1) u64_follows
-      (λ r. word_ends mask_of (λ mask rest. ended (entry.Mask t r mask) rest) (λ w w' alike. alike.mask) (λ mask. ended_ends (entry.Mask t r mask))))
+    (λ r. word_ends mask_of (λ mask rest. ended (entry.Mask t r mask) rest) (λ w w' alike. alike.mask) (λ mask. ended_ends (entry.Mask t r mask))))
 
 stood_ends : Ends stood_of
 unfolding stood_of
 stood_ends =
     bind_ends u32_at (λ t rest. u64_at rest >>= λ r. u64_at r.1 >>= λ m. field_at m.1 >>= λ word. at_of word.0 >>= λ at. ended (entry.Stood t r.0 m.0 at) word.1) u32_follows
     (λ t. bind_ends u64_at (λ r rest. u64_at rest >>= λ m. field_at m.1 >>= λ word. at_of word.0 >>= λ at. ended (entry.Stood t r m.0 at) word.1) u64_follows
-      (λ r. bind_ends u64_at (λ m rest. field_at rest >>= λ word. at_of word.0 >>= λ at. ended (entry.Stood t r m at) word.1) u64_follows
-        (λ m. word_ends at_of (λ at rest. ended (entry.Stood t r m at) rest) (λ w w' alike. alike.at) (λ at. ended_ends (entry.Stood t r m at)))))
+    (λ r. bind_ends u64_at (λ m rest. field_at rest >>= λ word. at_of word.0 >>= λ at. ended (entry.Stood t r m at) word.1) u64_follows
+    (λ m. word_ends at_of (λ at rest. ended (entry.Stood t r m at) rest) (λ w w' alike. alike.at) (λ at. ended_ends (entry.Stood t r m at)))))
 
 refused_ends : Ends refused_of
 unfolding refused_of

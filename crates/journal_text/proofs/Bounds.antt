@@ -1,5 +1,5 @@
 -- What a text says is bounded by its bytes.
-use Rattle.std.proofs.Common.{◌≡◌, ◌==◌, ℕ, ◌+◌, ◌-◌, ◌<◌, ◌≤◌, ◌⊎◌, Bool, true, false, nat_lt, nat_le, List, [], ◌∷◌, ◌++◌, Option, Some, None, Result, Ok, Err, length, ap, sym, ◌∙◌, refl, arith, if◌then◌else◌, length-append, take, inl, inr, drop}
+use Rattle.std.proofs.Common.{◌≡◌, ◌==◌, ℕ, ◌+◌, ◌-◌, ◌<◌, ◌≤◌, Bool, true, false, nat_lt, nat_le, List, [], ◌∷◌, Option, Some, None, Result, Ok, Err, length, ap, ◌∙◌, refl, arith, if◌then◌else◌, length-append, take, inl, inr, drop}
 use Rattle.std.specs.List.{slice_split, onto_first}
 use Rattle.std.proofs.lemmas.Bool.Decides.{nat_tests}
 use Rattle.std.proofs.lemmas.Bool.{cases_Bool}
@@ -16,7 +16,7 @@ use Rattle.journal_text.specs.Entries.{entry_after}
 use Rattle.journal_text.specs.Fields.{◌>>=◌, gap_len, word_len, one_of}
 use Rattle.journal_text.specs.Headings.{heading_after}
 use Rattle.journal_text.specs.Keywords.{keyword_of}
-use Rattle.journal_text.specs.Lines.{Progress, line_after, content_after, content_len, words_after, words_at, body_after, body_by, with_said, with_entry, closed, is_next, is_last}
+use Rattle.journal_text.specs.Lines.{Progress, line_after, content_len, words_after, words_at, body_after, body_by, with_said, with_entry, closed, is_next, is_last}
 use Rattle.journal_text.specs.Text.{is_feed, byte_limit, blank_progress, entries_in, entry_count, history_at, history_of, last_of, lines_from, parts_from, reading, then_on}
 
 -- ---- answers, taken apart

@@ -1,5 +1,5 @@
 -- More blanks before a blank change nothing.
-use Rattle.std.proofs.Common.{◌≡◌, ◌==◌, ℕ, suc, ◌+◌, ◌<◌, ◌≤◌, Bool, true, false, List, [], ◌∷◌, ◌++◌, Option, Some, None, Ok, length, take, drop, ap, sym, ◌∙◌, refl, arith, subst, if◌then◌else◌, inl, inr, length-append}
+use Rattle.std.proofs.Common.{◌≡◌, ◌==◌, ℕ, suc, ◌<◌, ◌≤◌, Bool, true, false, List, [], ◌∷◌, ◌++◌, Some, None, Ok, length, take, drop, ap, sym, ◌∙◌, refl, arith, subst, if◌then◌else◌, inl, inr}
 use Rattle.std.specs.List.{slice_split}
 use Rattle.std.proofs.lemmas.Bool.Decides.{nat_tests}
 use Rattle.std.proofs.lemmas.Bool.{cases_Bool, cases_eq}
@@ -14,11 +14,11 @@ use Rattle.journal_text.proofs.LineChange.{TakesPlaceOf, change_read, split_behi
 
 -- ---- gaps and words, a byte at a time
 
-gap_blank : (b : ℕ) (s : List ℕ) → is_blank b ≡ true → gap_len (b ∷ s) ≡ suc (gap_len s)
+pub gap_blank : (b : ℕ) (s : List ℕ) → is_blank b ≡ true → gap_len (b ∷ s) ≡ suc (gap_len s)
 unfolding gap_len
 gap_blank b s e = rw e (omega arith)
 
-gap_other : (b : ℕ) (s : List ℕ) → is_blank b ≡ false → gap_len (b ∷ s) ≡ 0
+pub gap_other : (b : ℕ) (s : List ℕ) → is_blank b ≡ false → gap_len (b ∷ s) ≡ 0
 unfolding gap_len
 gap_other b s e = rw e refl
 
@@ -108,10 +108,10 @@ record BothAlike (s s' : List ℕ) : Type 0 where
 same_test : (m n : ℕ) → m ≡ n → (m == n) ≡ true
 same_test m n e = grind (arith, nat_tests)
 
-other_test : (m n : ℕ) → (m ≡ n → ⊥) → (m == n) ≡ false
+pub other_test : (m n : ℕ) → (m ≡ n → ⊥) → (m == n) ≡ false
 other_test m n e = grind (arith, nat_tests)
 
-suc_test : (m n : ℕ) → (suc m == suc n) ≡ (m == n)
+pub suc_test : (m n : ℕ) → (suc m == suc n) ≡ (m == n)
 suc_test m n =
     elim (cases_eq m n) [
       | inl same ↦ same_test (suc m) (suc n) (omega arith) ∙ sym (same_test m n same)

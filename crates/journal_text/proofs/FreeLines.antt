@@ -1,15 +1,15 @@
 -- Carriage returns at the ends of lines, and blank lines, change nothing.
-use Rattle.std.proofs.Common.{◌≡◌, ℕ, ◌+◌, ◌-◌, ◌<◌, ◌≤◌, Bool, true, false, List, [], ◌∷◌, ◌++◌, Option, Some, None, Ok, length, take, drop, if◌then◌else◌, ◌==◌, ap, sym, ◌∙◌, refl, arith, subst, inl, inr, length-append}
+use Rattle.std.proofs.Common.{◌≡◌, ℕ, ◌+◌, ◌≤◌, true, false, List, [], ◌∷◌, ◌++◌, Option, Some, None, Ok, length, take, drop, if◌then◌else◌, ◌==◌, ap, sym, ◌∙◌, refl, arith, subst, inl, inr}
 use Rattle.std.specs.List.{slice_split, AllByRecursion}
 use Rattle.std.proofs.lemmas.Bool.Decides.{nat_tests}
-use Rattle.std.proofs.lemmas.List.{append_assoc, append-nil}
+use Rattle.std.proofs.lemmas.List.{append-nil}
 use Rattle.handoff_data.specs.History.{History}
 use Rattle.journal_text.specs.Fields.{◌>>=◌, is_blank, gap_len, word_len}
 use Rattle.journal_text.specs.Freedoms.{EndsLine, HasMoreReturns, HasMoreLines}
 use Rattle.journal_text.specs.Lines.{Progress, content_len, line_after, content_after, words_after}
 use Rattle.journal_text.specs.Text.{is_feed, byte_limit, blank_progress, reading}
 use Rattle.journal_text.proofs.TextBack.{run, run-append}
-use Rattle.journal_text.proofs.Runs.{Says, read_made, made_read}
+use Rattle.journal_text.proofs.Runs.{read_made, made_read}
 use Rattle.journal_text.proofs.LineChange.{NoFeed, NoReturn, AreReturns, TakesPlaceOf, change_read, split_feed, split_behind, strip, strip-returns, strip-behind, line_is_content}
 
 -- the carriage returns that end a line, and the lines behind it

@@ -5,10 +5,12 @@ pub mod EntryBack
 pub mod FieldLaws
 pub mod FreeBlanks
 pub mod FreeLines
+pub mod FreeNumbers
 pub mod LineBack
 pub mod LineChange
 pub mod MaskBack
 pub mod Masks
+pub mod OneFreedom
 pub mod Parts
 pub mod Readback
 pub mod Runs

@@ -1,5 +1,5 @@
 -- A text with one line changed says what it said, where the line does.
-use Rattle.std.proofs.Common.{◌≡◌, ℕ, suc, ◌+◌, ◌-◌, ◌<◌, ◌≤◌, Bool, true, false, List, [], ◌∷◌, ◌++◌, Option, Some, None, Ok, length, take, if◌then◌else◌, ap, sym, ◌∙◌, refl, arith, subst, inl, inr, length-append, reverse, ◌⊎◌}
+use Rattle.std.proofs.Common.{◌≡◌, ℕ, suc, ◌+◌, ◌-◌, ◌<◌, ◌≤◌, false, List, [], ◌∷◌, ◌++◌, Some, Ok, length, take, if◌then◌else◌, ap, sym, ◌∙◌, refl, arith, inl, inr, length-append, reverse, ◌⊎◌}
 use Rattle.std.specs.List.{slice_split, onto_first, prefix_len, suffix_len, AllByRecursion}
 use Rattle.std.proofs.lemmas.Bool.{cases_Bool}
 use Rattle.std.proofs.lemmas.List.{append_assoc, append-nil, reverse-append, length-reverse}
@@ -10,8 +10,8 @@ use Rattle.handoff_data.specs.History.{History}
 use Rattle.journal_text.specs.Fields.{◌>>=◌}
 use Rattle.journal_text.specs.Lines.{Progress, line_after, content_after, content_len, is_return}
 use Rattle.journal_text.specs.Text.{is_feed, byte_limit, blank_progress, reading}
-use Rattle.journal_text.proofs.TextBack.{run, Steps, bind_some, run-append}
-use Rattle.journal_text.proofs.Runs.{Says, read_made, made_read}
+use Rattle.journal_text.proofs.TextBack.{run, bind_some}
+use Rattle.journal_text.proofs.Runs.{read_made, made_read}
 
 -- no byte is a line feed
 abbrev pub NoFeed : List ℕ → Type 0

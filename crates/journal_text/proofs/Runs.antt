@@ -1,8 +1,7 @@
 -- A text is read where it is within the limit and its lines make a whole.
-use Rattle.std.proofs.Common.{◌≡◌, ◌==◌, ℕ, ◌+◌, ◌-◌, ◌<◌, ◌≤◌, Bool, true, false, nat_lt, nat_le, List, [], ◌∷◌, ◌++◌, Option, Some, None, Result, Ok, Err, length, ap, sym, ◌∙◌, refl, arith, if◌then◌else◌}
+use Rattle.std.proofs.Common.{◌≡◌, ◌==◌, ℕ, ◌+◌, ◌-◌, ◌<◌, ◌≤◌, Bool, true, false, nat_lt, nat_le, List, [], ◌∷◌, Some, Ok, Err, length, ap, sym, ◌∙◌, refl, arith, if◌then◌else◌}
 use Rattle.std.specs.List.{slice_split}
 use Rattle.std.proofs.lemmas.Bool.Decides.{nat_tests}
-use Rattle.std.proofs.lemmas.Bool.{cases_Bool}
 use Rattle.std.proofs.lemmas.List.Splits.{length-slice_split}
 use Rattle.handoff_data.specs.History.{History}
 use Rattle.journal_text.specs.declared.heading.Stage.{Stage}
@@ -10,8 +9,8 @@ use Rattle.journal_text.specs.declared.heading.Stage.TheVariants as stage
 use Rattle.journal_text.specs.Fields.{◌>>=◌, gap_len}
 use Rattle.journal_text.specs.Lines.{Progress, line_after, content_len}
 use Rattle.journal_text.specs.Text.{is_feed, byte_limit, blank_progress, history_at, history_of, last_of, lines_from, parts_from, reading, then_on}
-use Rattle.journal_text.proofs.Bounds.{Goes, then_ok, total, total_split, reading_bounded}
-use Rattle.journal_text.proofs.TextBack.{run, Steps, bind_some}
+use Rattle.journal_text.proofs.Bounds.{then_ok, total, total_split}
+use Rattle.journal_text.proofs.TextBack.{run, bind_some}
 
 -- these lines make the journals
 pub record Says (p : Progress) (lines : List (List ℕ)) (j : History) : Type 0 where

@@ -1,8 +1,10 @@
 -- The reader's freedoms: in what texts of journals may differ and still say the same. Each is one small change at one
 -- place of a text.
-use Rattle.std.specs.Prelude.{◌≡◌, ◌⊎◌, ◌<◌, ℕ, true, List, [], ◌∷◌, ◌++◌, length}
+use Rattle.std.specs.Prelude.{◌≡◌, ◌⊎◌, ◌<◌, ◌≤◌, ℕ, true, List, Ok, [], ◌∷◌, ◌++◌, length}
 use Rattle.std.specs.List.{AllByRecursion, flat_map}
+use Rattle.handoff_data.specs.History.{History}
 use Rattle.journal_text.specs.Fields.{is_blank, is_digit}
+use Rattle.journal_text.specs.Text.{byte_limit, reading}
 
 -- the text goes on with carriage returns, if any, and then a line feed, or its end
 abbrev pub EndsLine : List ℕ → Type 0
@@ -87,3 +89,9 @@ abbrev pub DiffersByOneFreedom : List ℕ → List ℕ → Type 0
 DiffersByOneFreedom bytes bytes' =
     HasMoreBlanks bytes bytes' ⊎ (HasMoreReturns bytes bytes' ⊎ (HasMoreLines bytes bytes'
     ⊎ (HasMoreZeros bytes bytes' ⊎ HasOtherOrder bytes bytes')))
+
+-- where two texts differ so, the second says what the first says, if it is within the limit
+abbrev pub ChangesNothing : (List ℕ → List ℕ → Type 0) → Type 0
+ChangesNothing Differs =
+    (bytes bytes' : List ℕ) (j : History) → Differs bytes bytes' → length bytes' ≤ byte_limit
+    → reading bytes ≡ Ok j → reading bytes' ≡ Ok j
