@@ -1,17 +1,18 @@
 //! Events and runs of events.
 
-ghost use Rattle.std.specs.Prelude.{◌≡◌, ◌↔◌, ◌≤◌, Some, IsTrue, OnOk, IfOk, MatchOption, take, length, slice_get};
+ghost use Rattle.std.specs.Prelude.{◌≡◌, ◌↔◌, ◌≤◌, ℕ, Some, IsTrue, OnOk, IfOk, MatchOption, take, length, slice_get};
 ghost use Rattle.core_data.specs.Table.{Table, table};
 ghost use Rattle.core_invariant.specs.Invariant.{Holds};
-ghost use Rattle.handoff_core.specs.Runs.{Ran, EachMoves};
-ghost use Rattle.handoff_core.specs.Steps.{May, after, Step};
-ghost use Rattle.handoff_core.specs.declared.event.Event.{Event};
+ghost use Rattle.core_law.specs.Runs.{Ran, EachMoves};
+ghost use Rattle.core_law.specs.Steps.{May, after, Step};
+ghost use Rattle.core_law.specs.declared.event.Event.{Event};
 
-use crate::event::Event;
-use crate::step::StepKind;
-use core_data::{Core, copy_core};
-use core_gives::{give_queue, give_wait, may_give_queue, may_give_wait, may_give_works};
-use core_kinds::{
+use core_data::Core;
+use core_law::{Event, StepKind};
+use handoff_data::NoMemory;
+use step_data::{copy_core, copy_wait, copy_works};
+use step_gives::{give_queue, give_wait, may_give_queue, may_give_wait, may_give_works};
+use step_kinds::{
     body_home, body_out, bump, claim, clear_busy, dequeue_task, give_task, give_works, load_busy,
     load_cond, load_cpu, load_rq, load_state, may_body_home, may_body_out, may_bump, may_claim,
     may_clear_busy, may_dequeue, may_give_task, may_load, may_load_state, may_move, may_own_state,
@@ -19,7 +20,6 @@ use core_kinds::{
     may_take_wait, may_take_works, move_task, own_state, queue_task, release, set_busy, store_cpu,
     take_queue, take_task, take_wait, take_works,
 };
-use handoff_data::{NoMemory, SeatNo};
 
 /// Whether an event is possible.
 fn may_happen(core: &Core, event: &Event) -> bool
@@ -79,18 +79,18 @@ fn happen(core: &mut Core, event: &Event) -> Result<(), NoMemory>
         }
         StepKind::TakeQueue { c } => take_queue(core, s, *c),
         StepKind::GiveQueue { c, val } => {
-            let val = val.clone()?;
+            let val = val.copy()?;
             give_queue(core, s, *c, val);
             Ok(())
         }
         StepKind::TakeWait { k } => take_wait(core, s, *k),
         StepKind::GiveWait { k, val } => {
-            let val = val.clone()?;
+            let val = copy_wait(val)?;
             give_wait(core, s, *k, val)
         }
         StepKind::TakeWorks { c } => take_works(core, s, *c),
         StepKind::GiveWorks { c, val } => {
-            let val = val.clone()?;
+            let val = copy_works(val)?;
             give_works(core, s, *c, val);
             Ok(())
         }
@@ -133,18 +133,19 @@ pub fn step_core(core: &Core, event: &Event) -> Result<Option<Core>, NoMemory>
 }
 
 /// What a run of events came to: the core after those that were taken, and how many these are.
-#[derive(Debug, Drop)]
+#[derive(Drop)]
 pub struct CoreRun {
     pub core: Core,
     pub taken: usize,
 }
 
-/// Takes events up to the first impossible one.
+/// Takes events up to the first impossible one. The invariant, where it holds of the core, holds after each event taken.
 pub fn law_run(mut core: Core, events: &[Event]) -> Result<CoreRun, NoMemory>
     ensures ran { IfOk result (λ run. Ran (table core) (take run.taken events.now) (table run.core)) }
     ensures within { IfOk result (λ run. run.taken ≤ length events.now) }
     ensures stops { IfOk result (λ run. (e : Event) → slice_get events.now run.taken ≡ Some e → May (table run.core) e.seat e.step → ⊥) }
     ensures kept { IfOk result (λ run. Holds (table core) → Holds (table run.core)) }
+    ensures kept_after_each { IfOk result (λ run. Holds (table core) → (n : ℕ) → n ≤ run.taken → (mid : Table) × Ran (table core) (take n events.now) mid × Holds mid) }
     ensures moves { IfOk result (λ run. Holds (table core) → EachMoves (table core) (take run.taken events.now)) }
 {
     let mut taken = 0;
