@@ -1,6 +1,6 @@
 -- Each event keeps the invariant, and is one move of one task or none; so the invariant holds of each core that is
 -- reached, and a core is reached by one event more.
-use Rattle.std.proofs.Common.{◌≡◌, ◌≢◌, ℕ, take, sym, ap, List, [], ◌∷◌, ◌++◌, subst, refl, arith}
+use Rattle.std.proofs.Common.{◌≡◌, ◌≢◌, ◌≤◌, ℕ, zero, suc, take, sym, ap, List, [], ◌∷◌, ◌++◌, subst, refl, arith}
 use Rattle.core_data.specs.Opening.{IsStart, first_task}
 use Rattle.core_data.specs.Table.{Table}
 use Rattle.std.specs.Prelude.{Bool}
@@ -153,3 +153,19 @@ holds_of core events next ran holds = Holds-ran core events next holds ran
 pub moves_taken : (core : Table) (events : List Event) (taken index : ℕ) (next : Table) → taken ≡ index → Ran core (take index events) next → Holds core → EachMoves core (take taken events)
 moves_taken core events taken index next same ran holds =
     subst (λ (n : ℕ). EachMoves core (take n events)) (sym same) (Moves-ran core (take index events) next holds ran)
+
+-- the invariant holds after each of the events taken
+prefix : (core : Table) (events : List Event) (taken n : ℕ) (next : Table) → n ≤ taken → Ran core (take taken events) next → Holds core → (mid : Table) × Ran core (take n events) mid × Holds mid
+prefix core [] taken zero next within ran holds = (core, refl, holds)
+prefix core [] taken (suc n) next within ran holds = (core, refl, holds)
+prefix core (e ∷ events) taken zero next within ran holds = (core, refl, holds)
+prefix core (e ∷ events) zero (suc n) next within ran holds = absurd (omega (arith, within))
+prefix core (e ∷ events) (suc taken) (suc n) next within ran holds =
+    let less : n ≤ taken = omega (arith, within) in
+    let r = prefix (after core e.seat e.step) events taken n next less ran.1 (Holds-after core e.seat e.step holds ran.0) in
+    (r.0, (ran.0, r.1), r.2)
+
+pub kept_after_each : (core : Table) (events : List Event) (taken index : ℕ) (next : Table) → taken ≡ index → Ran core (take index events) next → Holds core
+    → (n : ℕ) → n ≤ taken → (mid : Table) × Ran core (take n events) mid × Holds mid
+kept_after_each core events taken index next same ran holds n within =
+    let less : n ≤ index = omega (arith, within, same) in prefix core events index n next less ran holds

@@ -7,6 +7,7 @@
 
 mod laws;
 mod run;
+mod step_laws;
 
 pub use core_data::{
     Act, ActiveRead, Asleep, Completing, CondWords, Core, CountRead, CpuWords, Due, Held, HeldList,
@@ -17,7 +18,11 @@ pub use core_data::{
 pub use core_law::{Event, StepKind};
 pub use laws::{
     each_step_keeps_the_invariant, no_lost_wake, one_run_at_a_time, opening_core_holds,
-    stands_once, wakes_queue_at_most_once,
+    sleepers_wait, sleeps_on_its_processor, stands_once, wakes_queue_at_most_once,
 };
 pub use run::{CoreRun, law_run, step_core};
 pub use step_data::start_core;
+pub use step_laws::{
+    each_seat_stores_its_states, each_store_ends_reads, gives_keep, loads_tell,
+    no_step_wakes_the_dead, passes_are_kept, refusals_are_told, sleeps_are_kept, words_mean,
+};
