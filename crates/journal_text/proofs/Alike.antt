@@ -237,7 +237,8 @@ entry_ends keyword.End = λ rest rest' alike y is. is
 said_ends : (k : Keyword) (p : Progress) → Ends (λ rest. with_said p (entry_after k rest))
 said_ends k p = map_ends (entry_after k) (λ e. Some (with_entry p e)) (entry_ends k)
 
-seat_by : (said said' : Option ℕ) (p q : Progress) → ((i : ℕ) → said ≡ Some i → said' ≡ Some i) → (if is_next said p then Some (closed p) else None) ≡ Some q → (if is_next said' p then Some (closed p) else None) ≡ Some q
+seat_by : (said said' : Option ℕ) (p q : Progress) → ((i : ℕ) → said ≡ Some i → said' ≡ Some i)
+    → (if is_next said p then Some (closed p) else None) ≡ Some q → (if is_next said' p then Some (closed p) else None) ≡ Some q
 seat_by None said' p q says is = absurd cc
 seat_by (Some i) said' p q says is = ap (λ o. if is_next o p then Some (closed p) else None) (says i refl) ∙ is
 
@@ -294,7 +295,8 @@ heading_ends stage.Cpus h word =
 heading_ends stage.Tasks h word =
     map_ends (number_after (codes "tasks") word) (λ n. if nat_le n 200 then Some (record h { stage = stage.Seats; tasks = n }) else None) (after_ends (codes "tasks") word)
 heading_ends stage.Seats h word =
-    map_ends (number_after (codes "seats") word) (λ n. if nat_le h.cpus n && nat_le n (h.cpus + 4) && nat_le n 20 then Some (record h { stage = stage.FirstSeat; seats = n }) else None) (after_ends (codes "seats") word)
+    map_ends (number_after (codes "seats") word)
+    (λ n. if nat_le h.cpus n && nat_le n (h.cpus + 4) && nat_le n 20 then Some (record h { stage = stage.FirstSeat; seats = n }) else None) (after_ends (codes "seats") word)
 heading_ends stage.FirstSeat h word = map_ends (number_after (codes "seat") word) (λ n. if n == 0 then Some (record h { stage = stage.Entries }) else None) (after_ends (codes "seat") word)
 heading_ends stage.Entries h word = λ rest rest' alike x is. is
 heading_ends stage.Done h word = λ rest rest' alike x is. is

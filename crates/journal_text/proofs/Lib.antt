@@ -13,6 +13,7 @@ pub mod Masks
 pub mod OneFreedom
 pub mod Parts
 pub mod Readback
+pub mod Refusals
 pub mod Runs
 pub mod TextBack
 pub mod Texts

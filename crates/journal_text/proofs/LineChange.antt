@@ -141,7 +141,10 @@ prefix-front [] b (inl other) = rw other refl
 prefix-front [] b (inr less) = absurd (omega arith)
 prefix-front (x ∷ xs) b how =
     elim (cases_Bool (is_return x)) [
-      | inl passes ↦ rw passes (ap (λ n. 1 + n) (prefix-front xs b (elim how [ inl other ↦ inl other | inr less ↦ inr (let l : suc (1 + prefix_len is_return xs) ≤ suc (length xs) = rw passes at less in omega arith) ])))
+      | inl passes ↦ rw passes (ap (λ n. 1 + n) (prefix-front xs b (elim how [
+        | inl other ↦ inl other
+        | inr less ↦ inr (let l : suc (1 + prefix_len is_return xs) ≤ suc (length xs) = rw passes at less in omega arith)
+      ])))
       | inr fails ↦ rw fails refl
     ]
 

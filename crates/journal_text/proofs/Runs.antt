@@ -37,7 +37,9 @@ bind_none : (text : List ℕ) (n : ℕ) → length text ≡ 0 → text ≡ []
 bind_none [] n none = refl
 bind_none (b ∷ text) n none = absurd (omega arith)
 
-last_by : (empty full : Bool) (line room : ℕ) (p : Progress) (text : List ℕ) (j : History) → (length text == 0) ≡ empty → (if empty then history_of p line else if full then Err line else then_on line (line_after p text) (λ q. history_of q (line + 1))) ≡ Ok j → Says p (text ∷ []) j
+last_by : (empty full : Bool) (line room : ℕ) (p : Progress) (text : List ℕ) (j : History) → (length text == 0) ≡ empty
+    → (if empty then history_of p line else if full then Err line else then_on line (line_after p text) (λ q. history_of q (line + 1))) ≡ Ok j
+    → Says p (text ∷ []) j
 last_by true full line room p text j none is =
     let no_byte : length text ≡ 0 = grind (arith, nat_tests, none) in
     record {
@@ -76,7 +78,9 @@ read_made bytes j is = parts_made (slice_split is_feed bytes) 1 byte_limit blank
 
 -- ---- what is made is read, within the limit
 
-last_back : (empty full : Bool) (line room : ℕ) (p : Progress) (text : List ℕ) (j : History) → (length text == 0) ≡ empty → nat_lt room (length text) ≡ full → length text ≤ room → Says p (text ∷ []) j → (if empty then history_of p line else if full then Err line else then_on line (line_after p text) (λ q. history_of q (line + 1))) ≡ Ok j
+last_back : (empty full : Bool) (line room : ℕ) (p : Progress) (text : List ℕ) (j : History) → (length text == 0) ≡ empty
+    → nat_lt room (length text) ≡ full → length text ≤ room → Says p (text ∷ []) j
+    → (if empty then history_of p line else if full then Err line else then_on line (line_after p text) (λ q. history_of q (line + 1))) ≡ Ok j
 last_back true full line room p text j none less fits says =
     let no_byte : length text ≡ 0 = grind (arith, nat_tests, none) in
     let made : Some p ≡ Some says.last = sym (ap (λ t. line_after p t >>= λ q. run q []) (bind_none text 0 no_byte) ∙ ap (λ o. o >>= λ q. run q []) (empty_line p)) ∙ says.made in
@@ -99,7 +103,8 @@ more_back false line room p text next texts j full fits others says =
     ap (λ o. then_on line o (λ q. lines_from (line + 1) (room - (length text + 1)) q next texts)) s.first
     ∙ others s.between (record { last = says.last; made = s.second; whole = says.whole })
 
-lines_back : (texts : List (List ℕ)) (line room : ℕ) (p : Progress) (text : List ℕ) (j : History) → length text + total texts ≤ room → Says p (text ∷ texts) j → lines_from line room p text texts ≡ Ok j
+lines_back : (texts : List (List ℕ)) (line room : ℕ) (p : Progress) (text : List ℕ) (j : History) → length text + total texts ≤ room
+    → Says p (text ∷ texts) j → lines_from line room p text texts ≡ Ok j
 unfolding last_of
 lines_back [] line room p text j fits says =
     last_back (length text == 0) (nat_lt room (length text)) line room p text j refl refl (omega (arith, fits)) says

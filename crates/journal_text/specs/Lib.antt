@@ -5,5 +5,6 @@ pub mod Headings
 pub mod Keywords
 pub mod Lines
 pub mod Readable
+pub mod Refusals
 pub mod Spelling
 pub mod Text

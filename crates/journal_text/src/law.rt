@@ -4,6 +4,7 @@ ghost use Rattle.std.specs.Prelude.{◌≡◌, ◌≤◌, ◌+◌, ℕ, List, Ok
 ghost use Rattle.handoff_data.specs.History.{History};
 ghost use Rattle.journal_text.specs.Freedoms.{ChangesNothing, DiffersByOneFreedom, HasMoreBlanks, HasMoreLines, HasMoreReturns, HasMoreZeros, HasOtherOrder};
 ghost use Rattle.journal_text.specs.Readable.{AreReadable, text_of};
+ghost use Rattle.journal_text.specs.Refusals.{RefusedLinesAreFinal};
 ghost use Rattle.journal_text.specs.Spelling.{spelling};
 ghost use Rattle.journal_text.specs.Text.{byte_limit, entry_count, reading};
 
@@ -47,4 +48,10 @@ pub fn mask_order_is_free()
 /// One of these freedoms, whichever it is, changes nothing of what is read. A law: the call does nothing.
 pub fn freedoms_change_nothing()
     ensures { ChangesNothing DiffersByOneFreedom }
+{}
+
+/// Where a text is refused on a line that a line feed ends, no text is read that begins with the lines up to that
+/// one. A law: the call does nothing.
+pub fn refused_lines_are_final()
+    ensures { RefusedLinesAreFinal }
 {}
