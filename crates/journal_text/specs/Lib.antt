@@ -1,5 +1,6 @@
 pub mod Entries
 pub mod Fields
+pub mod Freedoms
 pub mod Headings
 pub mod Keywords
 pub mod Lines

@@ -16,6 +16,7 @@ use Rattle.word_rule.specs.Kept.{Kept}
 use Rattle.word_rule.specs.Standing.{may_run}
 use Rattle.word_steps.proofs.CurrentKept.{current_still}
 use Rattle.word_steps.proofs.EndedKept.{ended_still}
+use Rattle.word_steps.proofs.ExclusivesKept.{exclusives_still}
 use Rattle.word_steps.proofs.Events.{load_state_event, load_rq_event, load_busy_event, load_cpu_event, load_cond_event}
 use Rattle.word_steps.proofs.MatchedKept.{matched_still, load_state_matched}
 use Rattle.word_steps.proofs.MovingSteps.{moving_still}
@@ -25,6 +26,7 @@ use Rattle.word_steps.proofs.Puts.{word_same}
 use Rattle.word_steps.proofs.QueuedKept.{queued_still, load_rq_queued}
 use Rattle.word_steps.specs.Decode.{Homes, core_of, core_after}
 use Rattle.word_steps.specs.Events.{IsEvent}
+use Rattle.word_steps.specs.Exclusives.{ExclusivesHold}
 use Rattle.word_steps.specs.Folds.{task_held, is_matched_by}
 use Rattle.word_steps.specs.Records.{Rec, LoadedState, LoadedRq, LoadedBusy, LoadedCpu, LoadedCond}
 use Rattle.word_steps.specs.Words.{STATE, RQ, BUSY, CPU, COND, is_set}
@@ -46,10 +48,11 @@ module _ (shape : Shape) (words : ℕ → ℕ → ℕ) (homes : Homes) (traces :
 
   -- one that tells nothing new of what stands beside the invariant
   quiet_load : (c : ℕ) (r : Rec) → y ≡ words n c → IsQuiet r (traces s) → IsSteady r (traces s) → IsOutside r (traces s)
-      → may_run s (r ∷ traces s) ≡ may_run s (traces s) → IsEvent shape words homes traces s r words homes
+      → may_run s (r ∷ traces s) ≡ may_run s (traces s) → ExclusivesHold words homes.wait (put traces s (r ∷ traces s))
+      → IsEvent shape words homes traces s r words homes
       → Kept shape (put_at words n c y) homes (put traces s (r ∷ traces s))
-  quiet_load c r same quiet steady outside runs event =
-      as_found c r same (still_kept shape words homes homes traces s kept r quiet steady runs event
+  quiet_load c r same quiet steady outside runs exclusives event =
+      as_found c r same (still_kept shape words homes homes traces s kept r quiet steady runs exclusives event
       (ended_still homes.ended traces s kept.ended r steady.current outside.ended)
       (known_still traces s kept.known r outside.body outside.ended))
 
@@ -75,6 +78,7 @@ module _ (shape : Shape) (words : ℕ → ℕ → ℕ) (homes : Homes) (traces :
         matched = load_state_matched words traces s kept.matched shape homes n mask
             (record { 0 = words n STATE }) holds;
         queued = queued_still words traces s kept.queued (state_note mask) (λ c t e. e);
+        exclusives = exclusives_still words homes.wait traces s kept.exclusives (state_note mask) (λ t k e. e) refl refl;
         put_there = put_still words traces s kept.put_there (state_note mask) refl;
         ended = ended_still homes.ended traces s kept.ended (state_note mask) (λ j. refl) refl;
         counts = kept.counts;
@@ -108,6 +112,7 @@ module _ (shape : Shape) (words : ℕ → ℕ → ℕ) (homes : Homes) (traces :
         numbers = load_rq_numbers words traces s kept.numbers n (words n RQ % 4);
         matched = matched_still words traces s kept.matched rq_note refl;
         queued = load_rq_queued words traces s kept.queued n (words n RQ / 4);
+        exclusives = exclusives_still words homes.wait traces s kept.exclusives rq_note (λ t k e. e) refl refl;
         put_there = put_still words traces s kept.put_there rq_note refl;
         ended = ended_still homes.ended traces s kept.ended rq_note (λ j. refl) refl;
         counts = kept.counts;
@@ -155,6 +160,7 @@ module _ (shape : Shape) (words : ℕ → ℕ → ℕ) (homes : Homes) (traces :
           off = λ t e. e;
         })
         (record { current = λ j. refl; stays = refl }) (record { ended = refl; body = refl }) refl
+        (exclusives_still words homes.wait traces s kept.exclusives (LoadedBusy n (is_set (words n BUSY)) (words n BUSY / 2)) (λ t k e. e) refl refl)
         (load_busy_event shape words homes traces s n (record { seat = seat; task = task })),
     tt,
   )
@@ -180,6 +186,7 @@ module _ (shape : Shape) (words : ℕ → ℕ → ℕ) (homes : Homes) (traces :
           off = λ t e. e;
         })
         (record { current = λ j. refl; stays = refl }) (record { ended = refl; body = refl }) refl
+        (exclusives_still words homes.wait traces s kept.exclusives (LoadedCpu n (words n CPU)) (λ t k e. e) refl refl)
         (load_cpu_event shape words homes traces s n (record { seat = seat; task = task })),
     kept.holds.shapes.cpu n task,
   )
@@ -204,6 +211,7 @@ module _ (shape : Shape) (words : ℕ → ℕ → ℕ) (homes : Homes) (traces :
           off = λ t e. e;
         })
         (record { current = λ j. refl; stays = refl }) (record { ended = refl; body = refl }) refl
+        (exclusives_still words homes.wait traces s kept.exclusives (LoadedCond n (words n COND)) (λ t k e. e) refl refl)
         (load_cond_event shape words homes traces s n (record { seat = seat; condition = condition })),
     tt,
   )
