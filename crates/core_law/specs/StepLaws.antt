@@ -49,6 +49,11 @@ pub record IsUnread (reads : TaskReads) : Type 0 where
 abbrev pub EndsReads : ℕ → Table → Table → Type 0
 EndsReads seat core next = (t : ℕ) → HasSameWords core next t ⊎ IsUnread (next.reads seat t)
 
+-- What a seat has as tests changes only by its own steps, and only as to its current task: a sleeper's test stays.
+abbrev pub KeepsTests : ℕ → Table → Table → Type 0
+KeepsTests seat core next =
+    (x t k : ℕ) → (next.test x t k ≡ core.test x t k) ⊎ ((x ≡ seat) × (next.current seat ≡ Some t))
+
 -- What a sleeper stored and tested, and where it was put to sleep, is kept for the laws on wakes.
 pub record SleepsAreKept (core : Table) : Type 0 where
   pub slept : (s t : ℕ) (state : State) → is_sleep state ≡ true → (own_state core s t state).slept s t ≡ true

@@ -3,7 +3,7 @@
 
 ghost use Rattle.core_data.specs.Table.{Table};
 ghost use Rattle.core_invariant.specs.Invariant.{Holds};
-ghost use Rattle.core_law.specs.StepLaws.{KeepsTheDead, StoresItsStates, EndsReads, SleepsAreKept, PassesAreKept, RefusalsAreTold, LoadsTell, GivesKeep, StepsAsk, WordsMean};
+ghost use Rattle.core_law.specs.StepLaws.{KeepsTests, KeepsTheDead, StoresItsStates, EndsReads, SleepsAreKept, PassesAreKept, RefusalsAreTold, LoadsTell, GivesKeep, StepsAsk, WordsMean};
 ghost use Rattle.core_law.specs.Steps.{Step};
 ghost use Rattle.core_law.specs.declared.event.Event.{Event};
 
@@ -21,6 +21,11 @@ pub fn each_seat_stores_its_states()
 /// A seat that changes a word of a task has no read of its state, queue word and busy word any more.
 pub fn each_store_ends_reads()
     ensures { (core : Table) (event : Event) (next : Table) → Step core event next → EndsReads event.seat core next }
+{}
+
+/// What a seat has as tests changes only by its own steps, and only as to its current task: a sleeper's test stays.
+pub fn each_test_stays()
+    ensures { (core : Table) (event : Event) (next : Table) → Step core event next → KeepsTests event.seat core next }
 {}
 
 /// What a sleeper stored and tested, and where it was put to sleep, is kept for the laws on wakes.
