@@ -74,16 +74,16 @@ gives_cur shape s v rs told t n next = record {
 
 module _ (shape : Shape) (s : ℕ) (c : ℕ) where
   -- what may be given after the steps without loads may be given after all
-  loaded_gives : (given : Queue) (trace did : List Rec) → since trace c ≡ did → MayGiveQueueVal s did shape c given
+  loaded_gives : (given : Queue) (trace did : List Rec) → since trace ≡ did → MayGiveQueueVal s did shape c given
       → MayGiveQueueVal s trace shape c given
   loaded_gives given trace did is may =
       finer_gives s shape trace did c given
-      (subst (IsFiner s trace) is (finer_without s is_load loads_quiet c trace)) may
+      (subst (IsFiner s trace) is (finer_without s is_load loads_quiet trace)) may
 
   pub as_taken_gives : (trace : List Rec) (given : Queue) → IsAsTaken shape s trace c given → MayGiveQueueVal s trace shape c given
   as_taken_gives trace given x =
       finer_gives s shape trace (Took c (val.Queue given) ∷ x.rs) c given
-      (subst (IsFiner s trace) x.did (finer_without s is_quiet (λ r q. q) c trace)) (gives_same shape s c given x.rs x.told)
+      (subst (IsFiner s trace) x.did (finer_without s is_quiet (λ r q. q) trace)) (gives_same shape s c given x.rs x.told)
 
   pub put_gives : (trace : List Rec) (given : Queue) → IsPut shape s trace c given → MayGiveQueueVal s trace shape c given
   put_gives trace given x =
@@ -171,7 +171,7 @@ module _ (shape : Shape) (s : ℕ) (trace : List Rec) where
   )
     where
       loaded_finer : (x : IsJustTaken shape s trace c now) → IsFiner s trace (Took c (val.Queue now) ∷ x.rs)
-      loaded_finer x = subst (IsFiner s trace) x.did (finer_without s is_load loads_quiet c trace)
+      loaded_finer x = subst (IsFiner s trace) x.did (finer_without s is_load loads_quiet trace)
 
       one : times_in now.waiting t ≡ times_in rest t + 1
       one = let all = ap (λ (xs : List ℕ). times_in xs t) first in let more = times_in-cons t rest t in grind (arith, nat_tests, all, more)
@@ -222,7 +222,7 @@ pub cur_may : (shape : Shape) (s : ℕ) (trace : List Rec) (now : Queue) (t x : 
     → current_task s trace ≡ None → task_to_clear s trace ≡ None → x / 2 < 2 ^ 60 → MaySetBusyWord s trace t x (next_busy x)
 cur_may shape s trace now t x h is none clear room =
     let fine : IsFiner s trace (Took s (val.Queue now) ∷ h.rs) =
-    subst (IsFiner s trace) h.did (finer_without s is_quiet (λ r q. q) s trace) in record {
+    subst (IsFiner s trace) h.did (finer_without s is_quiet (λ r q. q) trace) in record {
       after = refl;
       room = room;
       taken = now;

@@ -186,17 +186,17 @@ module _ (s : ℕ) where
   finer_skip (Bumped k v) q a = loud (Bumped k v) refl q
 
   -- a trace tells no less than it does without its quiet steps since a queue's lock was taken
-  pub finer_without : (such : Rec → Bool) → ((r : Rec) → such r ≡ true → is_quiet r ≡ true) → (c : ℕ) (a : List Rec) → IsFiner a (without such c a)
-  finer_without such quiet c [] = finer_same []
-  finer_without such quiet c (r ∷ rs) = elim (cases_Bool (takes_queue c r)) [
-    | inl takes ↦ subst (λ (b : Bool). IsFiner (r ∷ rs) (if b then r ∷ rs else (if such r then without such c rs else r ∷ without such c rs)))
+  pub finer_without : (such : Rec → Bool) → ((r : Rec) → such r ≡ true → is_quiet r ≡ true) → (a : List Rec) → IsFiner a (without such a)
+  finer_without such quiet [] = finer_same []
+  finer_without such quiet (r ∷ rs) = elim (cases_Bool (takes_queue r)) [
+    | inl takes ↦ subst (λ (b : Bool). IsFiner (r ∷ rs) (if b then r ∷ rs else (if such r then without such rs else r ∷ without such rs)))
         (sym takes) (finer_same (r ∷ rs))
-    | inr other ↦ subst (λ (b : Bool). IsFiner (r ∷ rs) (if b then r ∷ rs else (if such r then without such c rs else r ∷ without such c rs)))
+    | inr other ↦ subst (λ (b : Bool). IsFiner (r ∷ rs) (if b then r ∷ rs else (if such r then without such rs else r ∷ without such rs)))
         (sym other) (elim (cases_Bool (such r)) [
-          | inl is ↦ subst (λ (b : Bool). IsFiner (r ∷ rs) (if b then without such c rs else r ∷ without such c rs)) (sym is)
-              (finer_again (r ∷ rs) rs (without such c rs) (finer_skip r (quiet r is) rs) (finer_without such quiet c rs))
-          | inr isnt ↦ subst (λ (b : Bool). IsFiner (r ∷ rs) (if b then without such c rs else r ∷ without such c rs)) (sym isnt)
-              (finer_next r rs (without such c rs) (finer_without such quiet c rs))
+          | inl is ↦ subst (λ (b : Bool). IsFiner (r ∷ rs) (if b then without such rs else r ∷ without such rs)) (sym is)
+              (finer_again (r ∷ rs) rs (without such rs) (finer_skip r (quiet r is) rs) (finer_without such quiet rs))
+          | inr isnt ↦ subst (λ (b : Bool). IsFiner (r ∷ rs) (if b then without such rs else r ∷ without such rs)) (sym isnt)
+              (finer_next r rs (without such rs) (finer_without such quiet rs))
         ])
   ]
 

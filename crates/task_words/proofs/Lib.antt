@@ -6,5 +6,4 @@ pub mod Firsts
 pub mod Read
 pub mod Sleepers
 pub mod Frames
-pub mod Told
 pub mod Tokens

@@ -39,18 +39,13 @@ abbrev first_taken : List Rec → ℕ
 first_taken (Took n (val.Queue v) ∷ rs) = n
 first_taken rs = 0
 
-first_either : (b : Bool) (n : ℕ) (v : Queue) (xs ys : List Rec)
-    → first_taken (if b then Took n (val.Queue v) ∷ xs else Took n (val.Queue v) ∷ ys) ≡ n
-first_either true n v xs ys = refl
-first_either false n v xs ys = refl
-
 none_seen : {A : Type 0} (b : Bool) (o : Option State) (state : State) → b ≡ true → (if b then None else o) ≡ Some state → A
 none_seen true o state own e = absurd (false≢true (ap is_some e))
 none_seen false o state own e = absurd (false≢true own)
 
 module _ (s t : ℕ) (state : State) (runs : is_runnable state ≡ true) (v : Queue) (rs : List Rec) where
   abbrev IsReadIn : List Rec → Type 0
-  IsReadIn trace = since trace s ≡ Took s (val.Queue v) ∷ rs → current_task s trace ≡ Some t → stays_queued trace ≡ true
+  IsReadIn trace = since trace ≡ Took s (val.Queue v) ∷ rs → current_task s trace ≡ Some t → stays_queued trace ≡ true
       → seen_state s trace ≡ Some state → may_run s trace s t ≡ true
 
   other_first : {A : Type 0} (xs : List Rec) → first_takes xs ≡ false → xs ≡ Took s (val.Queue v) ∷ rs → A
@@ -68,24 +63,24 @@ module _ (s t : ℕ) (state : State) (runs : is_runnable state ≡ true) (v : Qu
   seen_may (LoadedCpu u c ∷ a) did current stays seen = seen_may a did current stays seen
   seen_may (LoadedCond k n ∷ a) did current stays seen = seen_may a did current stays seen
   seen_may (Took n (val.Queue w) ∷ a) did current stays seen =
-      let same : n ≡ s = sym (first_either (n == s) n w a (since a s)) ∙ ap first_taken did in
+      let same : n ≡ s = ap first_taken did in
       none_seen (s == n) (seen_state s a) state (grind (arith, nat_tests, same)) seen
-  seen_may (Took n (val.Task w) ∷ a) did current stays seen = other_first (Took n (val.Task w) ∷ since a s) refl did
-  seen_may (Took n (val.Works w) ∷ a) did current stays seen = other_first (Took n (val.Works w) ∷ since a s) refl did
-  seen_may (Took n (val.Wait w) ∷ a) did current stays seen = other_first (Took n (val.Wait w) ∷ since a s) refl did
-  seen_may (Gave n x y ∷ a) did current stays seen = other_first (Gave n x y ∷ since a s) refl did
-  seen_may (OutBody u b ∷ a) did current stays seen = other_first (OutBody u b ∷ since a s) refl did
-  seen_may (HomeBody u b ∷ a) did current stays seen = other_first (HomeBody u b ∷ since a s) refl did
-  seen_may (Queued u c on m ∷ a) did current stays seen = other_first (Queued u c on m ∷ since a s) refl did
-  seen_may (Dequeued u c m ∷ a) did current stays seen = other_first (Dequeued u c m ∷ since a s) refl did
-  seen_may (Moved u c m ∷ a) did current stays seen = other_first (Moved u c m ∷ since a s) refl did
-  seen_may (SetBusy u c n ∷ a) did current stays seen = other_first (SetBusy u c n ∷ since a s) refl did
-  seen_may (ClearedBusy u n ∷ a) did current stays seen = other_first (ClearedBusy u n ∷ since a s) refl did
-  seen_may (StoredOwn u st ∷ a) did current stays seen = other_first (StoredOwn u st ∷ since a s) refl did
-  seen_may (Claimed u m ∷ a) did current stays seen = other_first (Claimed u m ∷ since a s) refl did
-  seen_may (Released u ∷ a) did current stays seen = other_first (Released u ∷ since a s) refl did
-  seen_may (StoredCpu u c ∷ a) did current stays seen = other_first (StoredCpu u c ∷ since a s) refl did
-  seen_may (Bumped k n ∷ a) did current stays seen = other_first (Bumped k n ∷ since a s) refl did
+  seen_may (Took n (val.Task w) ∷ a) did current stays seen = other_first (Took n (val.Task w) ∷ since a) refl did
+  seen_may (Took n (val.Works w) ∷ a) did current stays seen = other_first (Took n (val.Works w) ∷ since a) refl did
+  seen_may (Took n (val.Wait w) ∷ a) did current stays seen = other_first (Took n (val.Wait w) ∷ since a) refl did
+  seen_may (Gave n x y ∷ a) did current stays seen = other_first (Gave n x y ∷ since a) refl did
+  seen_may (OutBody u b ∷ a) did current stays seen = other_first (OutBody u b ∷ since a) refl did
+  seen_may (HomeBody u b ∷ a) did current stays seen = other_first (HomeBody u b ∷ since a) refl did
+  seen_may (Queued u c on m ∷ a) did current stays seen = other_first (Queued u c on m ∷ since a) refl did
+  seen_may (Dequeued u c m ∷ a) did current stays seen = other_first (Dequeued u c m ∷ since a) refl did
+  seen_may (Moved u c m ∷ a) did current stays seen = other_first (Moved u c m ∷ since a) refl did
+  seen_may (SetBusy u c n ∷ a) did current stays seen = other_first (SetBusy u c n ∷ since a) refl did
+  seen_may (ClearedBusy u n ∷ a) did current stays seen = other_first (ClearedBusy u n ∷ since a) refl did
+  seen_may (StoredOwn u st ∷ a) did current stays seen = other_first (StoredOwn u st ∷ since a) refl did
+  seen_may (Claimed u m ∷ a) did current stays seen = other_first (Claimed u m ∷ since a) refl did
+  seen_may (Released u ∷ a) did current stays seen = other_first (Released u ∷ since a) refl did
+  seen_may (StoredCpu u c ∷ a) did current stays seen = other_first (StoredCpu u c ∷ since a) refl did
+  seen_may (Bumped k n ∷ a) did current stays seen = other_first (Bumped k n ∷ since a) refl did
 
   added_known : (b : Bool) (c u : ℕ) (h k : ℕ → ℕ → Bool) → (h c u ≡ true → k c u ≡ true) → k s t ≡ true
       → (if b then put_both h s t true else h) c u ≡ true → k c u ≡ true
@@ -97,11 +92,11 @@ module _ (s t : ℕ) (state : State) (runs : is_runnable state ≡ true) (v : Qu
   ]
 
   -- .. so it is known as if it had been read as running at once
-  pub read_finer : (trace : List Rec) → since trace s ≡ Took s (val.Queue v) ∷ rs → current_task s rs ≡ Some t
+  pub read_finer : (trace : List Rec) → since trace ≡ Took s (val.Queue v) ∷ rs → current_task s rs ≡ Some t
       → stays_queued rs ≡ true → seen_state s trace ≡ Some state
       → IsFiner s trace (LoadedState t None (record { 0 = 0 }) ∷ Took s (val.Queue v) ∷ rs)
   read_finer trace did current stays seen =
-      let x : IsFiner s trace (Took s (val.Queue v) ∷ rs) = subst (IsFiner s trace) did (finer_without s is_load loads_quiet s trace) in
+      let x : IsFiner s trace (Took s (val.Queue v) ∷ rs) = subst (IsFiner s trace) did (finer_without s is_load loads_quiet trace) in
       let there = seen_may trace did (x.current ∙ current) (x.stays ∙ stays) seen in record {
         queues = x.queues;
         stands = x.stands;

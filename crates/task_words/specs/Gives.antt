@@ -1,6 +1,6 @@
 -- What a seat has done with a queue since it took the queue's lock, but for loads: each shape of it allows the give. v is
 -- the queue as it was taken, and rs the trace before.
-use Rattle.std.specs.Prelude.{◌≡◌, ℕ, ◌<◌, ◌==◌, ◌++◌, ◌∷◌, [], ◌⊎◌, Bool, true, false, List, Some, None, if◌then◌else◌}
+use Rattle.std.specs.Prelude.{◌≡◌, ℕ, ◌<◌, ◌++◌, ◌∷◌, [], ◌⊎◌, Bool, true, false, List, Some, None, if◌then◌else◌}
 use Rattle.std.specs.List.{filter}
 use Rattle.core_data.specs.Queue.{Queue, times_in, is_other}
 use Rattle.core_data.specs.declared.values.TaskVal.{TaskVal}
@@ -30,32 +30,32 @@ abbrev pub is_quiet : Rec → Bool
 is_quiet (Released t) = true
 is_quiet r = is_load r
 
-abbrev pub takes_queue : ℕ → Rec → Bool
-takes_queue c (Took n (val.Queue v)) = n == c
-takes_queue c r = false
+abbrev pub takes_queue : Rec → Bool
+takes_queue (Took n (val.Queue v)) = true
+takes_queue r = false
 
--- the trace without such steps since the lock of the queue c was taken
-abbrev pub without : (Rec → Bool) → ℕ → List Rec → List Rec
-without such c [] = []
-without such c (r ∷ rs) = if takes_queue c r then r ∷ rs else (if such r then without such c rs else r ∷ without such c rs)
+-- the trace without such steps since the newest lock of a queue was taken
+abbrev pub without : (Rec → Bool) → List Rec → List Rec
+without such [] = []
+without such (r ∷ rs) = if takes_queue r then r ∷ rs else (if such r then without such rs else r ∷ without such rs)
 
-abbrev pub since : List Rec → ℕ → List Rec
-since trace c = without is_load c trace
+abbrev pub since : List Rec → List Rec
+since trace = without is_load trace
 
-abbrev pub quiet_since : List Rec → ℕ → List Rec
-quiet_since trace c = without is_quiet c trace
+abbrev pub quiet_since : List Rec → List Rec
+quiet_since trace = without is_quiet trace
 
 module _ (shape : Shape) (s : ℕ) (trace : List Rec) (c : ℕ) where
   -- it is as it was taken
   pub record IsAsTaken (given : Queue) : Type 0 where
     pub rs : List Rec
-    pub did : quiet_since trace c ≡ Took c (val.Queue given) ∷ rs
+    pub did : quiet_since trace ≡ Took c (val.Queue given) ∷ rs
     pub told : TakenQueue shape s rs c given
 
   -- nothing was done since it was taken
   pub record IsJustTaken (given : Queue) : Type 0 where
     pub rs : List Rec
-    pub did : since trace c ≡ Took c (val.Queue given) ∷ rs
+    pub did : since trace ≡ Took c (val.Queue given) ∷ rs
     pub told : TakenQueue shape s rs c given
 
   -- t was queued on it, as new or half way from another queue, and put at the back: its state stays
@@ -65,7 +65,7 @@ module _ (shape : Shape) (s : ℕ) (trace : List Rec) (c : ℕ) where
     pub m : ℕ
     pub v : Queue
     pub rs : List Rec
-    pub did : since trace c ≡ Queued t c on m ∷ Took c (val.Queue v) ∷ rs
+    pub did : since trace ≡ Queued t c on m ∷ Took c (val.Queue v) ∷ rs
     pub told : TakenQueue shape s rs c v
     pub ready : (m ≡ 0) ⊎ (on ≡ 2)
     pub put : given ≡ record v { waiting = v.waiting ++ t ∷ [] }
@@ -77,7 +77,7 @@ module _ (shape : Shape) (s : ℕ) (trace : List Rec) (c : ℕ) where
     pub m : ℕ
     pub v : Queue
     pub rs : List Rec
-    pub did : since trace c ≡ Released t ∷ Queued t c on m ∷ Took c (val.Queue v) ∷ rs
+    pub did : since trace ≡ Released t ∷ Queued t c on m ∷ Took c (val.Queue v) ∷ rs
     pub told : TakenQueue shape s rs c v
     pub put : given ≡ record v { waiting = v.waiting ++ t ∷ [] }
 
@@ -85,7 +85,7 @@ module _ (shape : Shape) (s : ℕ) (trace : List Rec) (c : ℕ) where
   pub record IsMovedOff (t : ℕ) (now : Queue) : Type 0 where
     pub m : ℕ
     pub rs : List Rec
-    pub did : since trace c ≡ Moved t c m ∷ Took c (val.Queue now) ∷ rs
+    pub did : since trace ≡ Moved t c m ∷ Took c (val.Queue now) ∷ rs
     pub told : TakenQueue shape s rs c now
     pub waiting : times_in now.waiting t ≡ 1
 
@@ -103,7 +103,7 @@ module _ (shape : Shape) (s : ℕ) (trace : List Rec) where
     pub n : ℕ
     pub v : Queue
     pub rs : List Rec
-    pub did : since trace s ≡ SetBusy t s n ∷ Took s (val.Queue v) ∷ rs
+    pub did : since trace ≡ SetBusy t s n ∷ Took s (val.Queue v) ∷ rs
     pub told : TakenQueue shape s rs s v
     pub clear : task_to_clear s rs ≡ None
     pub none : v.cur ≡ None
@@ -115,7 +115,7 @@ module _ (shape : Shape) (s : ℕ) (trace : List Rec) where
     pub t : ℕ
     pub n : ℕ
     pub rs : List Rec
-    pub did : since trace s ≡ SetBusy t s n ∷ Took s (val.Queue given) ∷ rs
+    pub did : since trace ≡ SetBusy t s n ∷ Took s (val.Queue given) ∷ rs
     pub told : TakenQueue shape s rs s given
     pub next : given.cur ≡ Some t
 
@@ -125,7 +125,7 @@ module _ (shape : Shape) (s : ℕ) (trace : List Rec) where
     pub state : State
     pub v : Queue
     pub rs : List Rec
-    pub did : since trace s ≡ Took s (val.Queue v) ∷ rs
+    pub did : since trace ≡ Took s (val.Queue v) ∷ rs
     pub seen : seen_state s trace ≡ Some state
     pub runs : is_runnable state ≡ true
     pub told : TakenQueue shape s rs s v
@@ -140,7 +140,7 @@ module _ (shape : Shape) (s : ℕ) (trace : List Rec) where
     pub m : ℕ
     pub v : Queue
     pub rs : List Rec
-    pub did : since trace s ≡ Dequeued t s m ∷ Took s (val.Queue v) ∷ rs
+    pub did : since trace ≡ Dequeued t s m ∷ Took s (val.Queue v) ∷ rs
     pub told : TakenQueue shape s rs s v
     pub current : current_task s rs ≡ Some t
     pub home : body_held rs ≡ None
@@ -151,13 +151,13 @@ module _ (shape : Shape) (s : ℕ) (trace : List Rec) where
     pub rs : List Rec
     pub on : ℕ
     pub m : ℕ
-    pub did : since trace c ≡ Queued t c on m ∷ Took c (val.Queue now) ∷ rs
+    pub did : since trace ≡ Queued t c on m ∷ Took c (val.Queue now) ∷ rs
     pub told : TakenQueue shape s rs c now
     pub off : IsOff rs t
 
   pub record IsCurrentHere (c t : ℕ) (now : Queue) : Type 0 where
     pub rs : List Rec
-    pub did : quiet_since trace c ≡ Took c (val.Queue now) ∷ rs
+    pub did : quiet_since trace ≡ Took c (val.Queue now) ∷ rs
     pub own : s ≡ c
     pub told : TakenQueue shape s rs c now
     pub current : current_task s rs ≡ Some t
