@@ -11,7 +11,10 @@ use Rattle.handoff_data.specs.declared.shape.Shape.{Shape}
 use Rattle.handoff_data.specs.declared.state.State.{State}
 use Rattle.word_rule.proofs.BodiesKept.{known_start, body_out_known, body_home_known}
 use Rattle.word_rule.proofs.GrownKept.{grown_start}
+use Rattle.word_rule.proofs.MasksKept.{masks_start}
 use Rattle.word_rule.proofs.OffKept.{off_start}
+use Rattle.word_rule.proofs.OwnKept.{own_start}
+use Rattle.word_rule.proofs.WaysKept.{ways_start}
 use Rattle.word_rule.proofs.PossibleGives.{take_body_possible, return_body_possible}
 use Rattle.word_rule.proofs.Quiet.{still_kept}
 use Rattle.word_rule.proofs.RunsKept.{runs_start}
@@ -41,8 +44,8 @@ module _ (shape : Shape) (words : ℕ → ℕ → ℕ) (homes : Homes) (traces :
   take_body_law kept seat task may =
       let core = take_body_possible shape words homes traces s kept seat t task may in (
         core.home,
-        still_kept shape words homes (record homes { body = put homes.body t false }) traces s kept
-            (OutBody t (homes.ended t))
+        still_kept shape words homes (record homes { body = put homes.body t false }) traces s kept refl
+            (OutBody t (homes.ended t)) refl (λ u w. w)
             (record {
               moving = λ h. refl;
               numbers = λ h. refl;
@@ -50,7 +53,7 @@ module _ (shape : Shape) (words : ℕ → ℕ → ℕ) (homes : Homes) (traces :
               queued = λ c u e. e;
               put_there = refl;
               standing = refl;
-              off = λ u e. e;
+              off = λ u e. e; held = refl;
             })
             (record { current = λ j. refl; stays = refl }) refl
             (body_out_keeps shape words homes traces s t (homes.ended t) kept.holds core)
@@ -68,8 +71,8 @@ module _ (shape : Shape) (words : ℕ → ℕ → ℕ) (homes : Homes) (traces :
       let core = return_body_possible shape words homes traces s kept seat t ended task may in (
         kept.holds.busy.bodies.out_away s t may.out,
         still_kept shape words homes
-            (record homes { body = put homes.body t true; ended = put homes.ended t ended }) traces s kept
-            (HomeBody t ended)
+            (record homes { body = put homes.body t true; ended = put homes.ended t ended }) traces s kept refl
+            (HomeBody t ended) refl (λ u w. w)
             (record {
               moving = λ h. refl;
               numbers = λ h. refl;
@@ -77,7 +80,7 @@ module _ (shape : Shape) (words : ℕ → ℕ → ℕ) (homes : Homes) (traces :
               queued = λ c u e. e;
               put_there = refl;
               standing = refl;
-              off = λ u e. e;
+              off = λ u e. e; held = refl;
             })
             (record { current = λ j. refl; stays = refl }) refl
             (body_home_keeps shape words homes traces s t ended kept.holds core)
@@ -130,4 +133,7 @@ start_law shape mask ended is_shape all =
       off = off_start (first_words shape);
       grown = grown_start (first_words shape);
       known = known_start;
+      own = own_start (first_words shape);
+      ways = ways_start (first_words shape);
+      masks = masks_start shape mask (record (first_homes shape mask) { ended = ended }) refl is_shape.some_cpu all;
     }

@@ -10,12 +10,15 @@ use Rattle.handoff_data.specs.declared.state.State.{State}
 use Rattle.word_rule.proofs.BodiesKept.{known_still}
 use Rattle.word_rule.proofs.GrownKept.{grown_still, load_rq_grown}
 use Rattle.word_rule.proofs.OffKept.{off_still, load_rq_off}
-use Rattle.word_rule.proofs.OwnKept.{stays_dead}
+use Rattle.word_rule.proofs.OwnKept.{own_still, stays_dead}
+use Rattle.word_rule.proofs.MasksKept.{masks_still}
+use Rattle.word_rule.proofs.WaysKept.{ways_still, load_rq_ways}
 use Rattle.word_rule.proofs.Quiet.{IsQuiet, IsSteady, IsOutside, still_kept}
 use Rattle.word_rule.proofs.RunsKept.{runs_still, load_state_runs}
 use Rattle.word_rule.proofs.StandingKept.{standing_still}
 use Rattle.word_rule.specs.Kept.{Kept}
-use Rattle.word_rule.specs.Own.{StateTold}
+use Rattle.word_rule.specs.Own.{StateTold, last_own}
+use Rattle.word_rule.specs.Ways.{IsOnWay}
 use Rattle.word_rule.specs.Standing.{may_run}
 use Rattle.word_steps.proofs.CurrentKept.{current_still}
 use Rattle.word_steps.proofs.EndedKept.{ended_still}
@@ -41,11 +44,12 @@ module _ (shape : Shape) (words : ℕ → ℕ → ℕ) (homes : Homes) (traces :
       (sym (ap (put_at words n c) same ∙ word_same words n c)) after
 
   -- one that tells nothing new of what stands beside the invariant
-  quiet_load : (c : ℕ) (r : Rec) → y ≡ words n c → IsQuiet r (traces s) → IsSteady r (traces s) → IsOutside r (traces s)
+  quiet_load : (c : ℕ) (r : Rec) → last_own (r ∷ traces s) ≡ last_own (traces s)
+      → ((t : ℕ) → IsOnWay (r ∷ traces s) t → IsOnWay (traces s) t) → y ≡ words n c → IsQuiet r (traces s) → IsSteady r (traces s) → IsOutside r (traces s)
       → may_run s (r ∷ traces s) ≡ may_run s (traces s) → Holds (core_after shape words homes traces s r)
       → Kept shape (put_at words n c y) homes (put traces s (r ∷ traces s))
-  quiet_load c r same quiet steady outside runs holds =
-      as_found c r same (still_kept shape words homes homes traces s kept r quiet steady runs holds
+  quiet_load c r last way same quiet steady outside runs holds =
+      as_found c r same (still_kept shape words homes homes traces s kept refl r last way quiet steady runs holds
       (ended_still homes.ended traces s kept.ended r steady.current outside.ended)
       (known_still traces s kept.known r outside.body outside.ended))
 
@@ -75,6 +79,9 @@ module _ (shape : Shape) (words : ℕ → ℕ → ℕ) (homes : Homes) (traces :
         off = off_still words traces s kept.off (state_note mask) (λ t e. e) refl;
         grown = grown_still words traces s kept.grown (state_note mask) refl;
         known = known_still traces s kept.known (state_note mask) refl refl;
+        own = own_still words traces s kept.own (state_note mask) (λ t e. e) (λ e. e) refl;
+        ways = ways_still words traces s kept.ways (state_note mask) (λ t w. w) refl;
+        masks = masks_still homes traces s kept.masks homes (state_note mask) refl refl;
       }
 
   -- what is known of the state that is there
@@ -113,6 +120,9 @@ module _ (shape : Shape) (words : ℕ → ℕ → ℕ) (homes : Homes) (traces :
         off = load_rq_off words traces s kept.off n (words n RQ % 4);
         grown = load_rq_grown words traces s kept.grown n (words n RQ % 4);
         known = known_still traces s kept.known rq_note refl refl;
+        own = own_still words traces s kept.own rq_note (λ t e. e) (λ e. e) refl;
+        ways = load_rq_ways words traces s kept.ways n (words n RQ % 4);
+        masks = masks_still homes traces s kept.masks homes rq_note refl refl;
       }
 
   -- a task that matched since the seat took its lock was queued before
@@ -129,7 +139,7 @@ module _ (shape : Shape) (words : ℕ → ℕ → ℕ) (homes : Homes) (traces :
       → Kept shape (put_at words n BUSY y) homes
       (put traces s (LoadedBusy n (is_set (words n BUSY)) (words n BUSY / 2) ∷ traces s)) × Unit {0}
   load_busy_law task same = (
-    quiet_load BUSY (LoadedBusy n (is_set (words n BUSY)) (words n BUSY / 2)) same
+    quiet_load BUSY (LoadedBusy n (is_set (words n BUSY)) (words n BUSY / 2)) refl (λ t w. w) same
         (record {
           moving = λ h. refl;
           numbers = λ h. refl;
@@ -137,7 +147,7 @@ module _ (shape : Shape) (words : ℕ → ℕ → ℕ) (homes : Homes) (traces :
           queued = λ c t e. e;
           put_there = refl;
           standing = refl;
-          off = λ t e. e;
+          off = λ t e. e; held = refl;
         })
         (record { current = λ j. refl; stays = refl }) (record { ended = refl; body = refl }) refl
         (load_busy_keeps shape words homes traces s n kept.holds (record { seat = seat; task = task })),
@@ -148,7 +158,7 @@ module _ (shape : Shape) (words : ℕ → ℕ → ℕ) (homes : Homes) (traces :
       → Kept shape (put_at words n CPU y) homes
       (put traces s (LoadedCpu n (words n CPU) ∷ traces s)) × (words n CPU < shape.cpus)
   load_cpu_law task same = (
-    quiet_load CPU (LoadedCpu n (words n CPU)) same
+    quiet_load CPU (LoadedCpu n (words n CPU)) refl (λ t w. w) same
         (record {
           moving = λ h. refl;
           numbers = λ h. refl;
@@ -156,7 +166,7 @@ module _ (shape : Shape) (words : ℕ → ℕ → ℕ) (homes : Homes) (traces :
           queued = λ c t e. e;
           put_there = refl;
           standing = refl;
-          off = λ t e. e;
+          off = λ t e. e; held = refl;
         })
         (record { current = λ j. refl; stays = refl }) (record { ended = refl; body = refl }) refl
         (load_cpu_keeps shape words homes traces s n kept.holds (record { seat = seat; task = task })),
@@ -166,7 +176,7 @@ module _ (shape : Shape) (words : ℕ → ℕ → ℕ) (homes : Homes) (traces :
   pub load_cond_law : n < shape.conds → y ≡ words n COND
       → Kept shape (put_at words n COND y) homes (put traces s (LoadedCond n (words n COND) ∷ traces s)) × Unit {0}
   load_cond_law condition same = (
-    quiet_load COND (LoadedCond n (words n COND)) same
+    quiet_load COND (LoadedCond n (words n COND)) refl (λ t w. w) same
         (record {
           moving = λ h. refl;
           numbers = λ h. refl;
@@ -174,7 +184,7 @@ module _ (shape : Shape) (words : ℕ → ℕ → ℕ) (homes : Homes) (traces :
           queued = λ c t e. e;
           put_there = refl;
           standing = refl;
-          off = λ t e. e;
+          off = λ t e. e; held = refl;
         })
         (record { current = λ j. refl; stays = refl }) (record { ended = refl; body = refl }) refl
         (load_cond_keeps shape words homes traces s n kept.holds (record { seat = seat; condition = condition })),

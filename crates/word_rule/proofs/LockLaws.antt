@@ -14,6 +14,11 @@ use Rattle.handoff_data.specs.declared.shape.Shape.{Shape}
 use Rattle.word_rule.proofs.BodiesKept.{known_still}
 use Rattle.word_rule.proofs.GiveQueue.{give_queue_may}
 use Rattle.word_rule.proofs.GrownKept.{grown_beside, take_task_grown}
+use Rattle.word_rule.proofs.MasksKept.{masks_still, take_task_masks, give_task_masks}
+use Rattle.word_rule.proofs.OwnKept.{own_beside, give_queue_own}
+use Rattle.word_rule.proofs.WaysKept.{ways_beside, take_task_ways, give_task_ways}
+use Rattle.word_rule.specs.Own.{last_own}
+use Rattle.word_rule.specs.Ways.{IsOnWay}
 use Rattle.word_rule.proofs.OffKept.{off_beside, take_task_off, give_task_off}
 use Rattle.word_rule.proofs.Possible.{value_of}
 use Rattle.word_rule.proofs.PossibleGives.{give_task_possible, give_works_possible, give_wait_possible}
@@ -35,7 +40,7 @@ use Rattle.word_steps.proofs.NumbersKept.{numbers_beside, take_task_numbers, giv
 use Rattle.word_steps.proofs.PutKept.{put_beside, take_queue_put, give_queue_put}
 use Rattle.word_steps.proofs.QueuedKept.{take_task_queued, take_queue_queued, give_task_queued, give_queue_queued}
 use Rattle.word_steps.specs.Decode.{Homes, core_of, core_after}
-use Rattle.word_steps.specs.Folds.{task_held, queue_held, works_held, wait_held}
+use Rattle.word_steps.specs.Folds.{task_held, queue_held, works_held, wait_held, number_read}
 use Rattle.word_steps.specs.Records.{Rec, Took, Gave}
 use Rattle.word_steps.specs.Words.{LOCK, STATE, QUEUE_LOCK, WORKS_LOCK, WAIT_LOCK, holder}
 use Rattle.word_steps.specs.declared.val.Val.{Val}
@@ -82,6 +87,9 @@ module _ (shape : Shape) (words : ℕ → ℕ → ℕ) (homes : Homes) (traces :
         off = take_task_off words traces s kept.off n v;
         grown = take_task_grown words traces s kept.grown n (suc s) v;
         known = known_still traces s kept.known (Took n (val.Task v)) refl refl;
+        own = own_beside words traces s kept.own n LOCK (suc s) (Took n (val.Task v)) (λ e. omega (arith, e)) (λ t e. e) (λ e. e) refl;
+        ways = take_task_ways words traces s kept.ways n (suc s) v;
+        masks = take_task_masks homes traces s kept.masks n v home;
       }
 
   take_queue_kept : (v : Queue) → homes.queue n ≡ Some v → n < shape.cpus → words n QUEUE_LOCK ≡ 0
@@ -112,12 +120,15 @@ module _ (shape : Shape) (words : ℕ → ℕ → ℕ) (homes : Homes) (traces :
         grown = grown_beside words traces s kept.grown n QUEUE_LOCK (suc s) (Took n (val.Queue v))
             (λ e. omega (arith, e)) refl;
         known = known_still traces s kept.known (Took n (val.Queue v)) refl refl;
+        own = own_beside words traces s kept.own n QUEUE_LOCK (suc s) (Took n (val.Queue v)) (λ e. omega (arith, e)) (λ t e. e) (λ e. e) refl;
+        ways = ways_beside words traces s kept.ways n QUEUE_LOCK (suc s) (Took n (val.Queue v)) (λ e. omega (arith, e)) (λ t w. w) refl;
+        masks = masks_still homes traces s kept.masks (record homes { queue = put homes.queue n None }) (Took n (val.Queue v)) refl refl;
       }
 
-  give_task_kept : (taken given : TaskVal) → MayGiveTask (core_of shape words homes traces) s n given false false
+  give_task_kept : (taken given : TaskVal) → task_held (traces s) n ≡ Some taken → MayGiveTask (core_of shape words homes traces) s n given false false
       → Kept shape (put_at words n LOCK 0) (record homes { task = put homes.task n (Some given) })
       (put traces s (Gave n (val.Task taken) (val.Task given) ∷ traces s))
-  give_task_kept taken given may =
+  give_task_kept taken given held may =
       record {
         holds = give_task_keeps shape words homes traces s n taken given kept.holds may;
         moving = give_task_moves shape words homes traces s kept.moving n taken given false false may;
@@ -139,6 +150,9 @@ module _ (shape : Shape) (words : ℕ → ℕ → ℕ) (homes : Homes) (traces :
         grown = grown_beside words traces s kept.grown n LOCK 0 (Gave n (val.Task taken) (val.Task given))
             (λ e. omega (arith, e)) refl;
         known = known_still traces s kept.known (Gave n (val.Task taken) (val.Task given)) refl refl;
+        own = own_beside words traces s kept.own n LOCK 0 (Gave n (val.Task taken) (val.Task given)) (λ e. omega (arith, e)) (λ t e. e) (λ e. e) refl;
+        ways = give_task_ways words traces s kept.ways n 0 taken given;
+        masks = give_task_masks homes traces s kept.masks n taken given held (may.kept taken held);
       }
 
   give_queue_kept : (taken given : Queue) → MayGiveQueue (core_of shape words homes traces) s n given
@@ -167,25 +181,31 @@ module _ (shape : Shape) (words : ℕ → ℕ → ℕ) (homes : Homes) (traces :
         grown = grown_beside words traces s kept.grown n QUEUE_LOCK 0 (Gave n (val.Queue taken) (val.Queue given))
             (λ e. omega (arith, e)) refl;
         known = known_still traces s kept.known (Gave n (val.Queue taken) (val.Queue given)) refl refl;
+        own = give_queue_own words traces s kept.own n 0 taken given;
+        ways = ways_beside words traces s kept.ways n QUEUE_LOCK 0 (Gave n (val.Queue taken) (val.Queue given)) (λ e. omega (arith, e)) (λ t w. w) refl;
+        masks = masks_still homes traces s kept.masks (record homes { queue = put homes.queue n (Some given) }) (Gave n (val.Queue taken) (val.Queue given)) refl refl;
       }
 
   -- the locks of works and of wait queues tell nothing of what stands beside the invariant
-  quiet_lock : (c x : ℕ) (homes' : Homes) (r : Rec) → homes'.ended ≡ homes.ended → IsBeside c → STATE ≢ c
+  quiet_lock : (c x : ℕ) (homes' : Homes) (r : Rec) → homes'.ended ≡ homes.ended → homes'.task ≡ homes.task
+      → last_own (r ∷ traces s) ≡ last_own (traces s) → ((t : ℕ) → IsOnWay (r ∷ traces s) t → IsOnWay (traces s) t) → IsBeside c → STATE ≢ c
       → IsQuiet r (traces s) → IsSteady r (traces s) → IsOutside r (traces s)
       → may_run s (r ∷ traces s) ≡ may_run s (traces s)
       → Holds (core_after shape (put_at words n c x) homes' traces s r)
       → Kept shape (put_at words n c x) homes' (put traces s (r ∷ traces s))
-  quiet_lock c x homes' r same at state quiet steady outside runs holds =
-      quiet_beside shape words homes homes' traces s kept same n c x r at
+  quiet_lock c x homes' r same tasks last way at state quiet steady outside runs holds =
+      quiet_beside shape words homes homes' traces s kept same tasks n c x r at
       (λ e. absurd (state (sym e))) quiet steady outside holds
       (runs_beside words traces s kept.runs n c x r at.queue at.cpu at.rq state runs (steady.current s))
+      (own_beside words traces s kept.own n c x r state (λ t e. sym (steady.current s) ∙ e) (λ e. sym steady.stays ∙ e) last)
+      (ways_beside words traces s kept.ways n c x r at.rq way (quiet.numbers (number_read (traces s))))
 
   take_works_kept : (v : List WorkItem) → homes.works n ≡ Some v → n < shape.cpus → words n WORKS_LOCK ≡ 0
       → Kept shape (put_at words n WORKS_LOCK (suc s)) (record homes { works = put homes.works n None })
       (put traces s (Took n (val.Works v) ∷ traces s))
   take_works_kept v home near free =
       quiet_lock WORKS_LOCK (suc s) (record homes { works = put homes.works n None })
-      (Took n (val.Works v)) refl works_beside (λ e. omega (arith, e))
+      (Took n (val.Works v)) refl refl refl (λ t w. w) works_beside (λ e. omega (arith, e))
       (record {
         moving = λ h. refl;
         numbers = λ h. refl;
@@ -193,7 +213,7 @@ module _ (shape : Shape) (words : ℕ → ℕ → ℕ) (homes : Homes) (traces :
         queued = λ c t e. e;
         put_there = refl;
         standing = refl;
-        off = λ t e. e;
+        off = λ t e. e; held = refl;
       })
       (record { current = λ j. refl; stays = refl }) (record { ended = refl; body = refl }) refl
       (take_works_keeps shape words homes traces s n v home kept.holds
@@ -204,7 +224,7 @@ module _ (shape : Shape) (words : ℕ → ℕ → ℕ) (homes : Homes) (traces :
       (put traces s (Took n (val.Wait v) ∷ traces s))
   take_wait_kept v home near free =
       quiet_lock WAIT_LOCK (suc s) (record homes { wait = put homes.wait n None })
-      (Took n (val.Wait v)) refl wait_beside (λ e. omega (arith, e))
+      (Took n (val.Wait v)) refl refl refl (λ t w. w) wait_beside (λ e. omega (arith, e))
       (record {
         moving = λ h. refl;
         numbers = λ h. refl;
@@ -212,7 +232,7 @@ module _ (shape : Shape) (words : ℕ → ℕ → ℕ) (homes : Homes) (traces :
         queued = λ c t e. e;
         put_there = refl;
         standing = refl;
-        off = λ t e. e;
+        off = λ t e. e; held = refl;
       })
       (record { current = λ j. refl; stays = refl }) (record { ended = refl; body = refl }) refl
       (take_wait_keeps shape words homes traces s n v home kept.holds
@@ -223,7 +243,7 @@ module _ (shape : Shape) (words : ℕ → ℕ → ℕ) (homes : Homes) (traces :
       (put traces s (Gave n (val.Works taken) (val.Works given) ∷ traces s))
   give_works_kept taken given may =
       quiet_lock WORKS_LOCK 0 (record homes { works = put homes.works n (Some given) })
-      (Gave n (val.Works taken) (val.Works given)) refl works_beside (λ e. omega (arith, e))
+      (Gave n (val.Works taken) (val.Works given)) refl refl refl (λ t w. w) works_beside (λ e. omega (arith, e))
       (record {
         moving = λ h. refl;
         numbers = λ h. refl;
@@ -231,7 +251,7 @@ module _ (shape : Shape) (words : ℕ → ℕ → ℕ) (homes : Homes) (traces :
         queued = λ c t e. e;
         put_there = refl;
         standing = refl;
-        off = λ t e. e;
+        off = λ t e. e; held = refl;
       })
       (record { current = λ j. refl; stays = refl }) (record { ended = refl; body = refl }) refl
       (give_works_keeps shape words homes traces s n taken given kept.holds may)
@@ -242,7 +262,7 @@ module _ (shape : Shape) (words : ℕ → ℕ → ℕ) (homes : Homes) (traces :
       (put traces s (Gave n (val.Wait taken) (val.Wait given) ∷ traces s))
   give_wait_kept taken given out may =
       quiet_lock WAIT_LOCK 0 (record homes { wait = put homes.wait n (Some given) })
-      (Gave n (val.Wait taken) (val.Wait given)) refl wait_beside (λ e. omega (arith, e))
+      (Gave n (val.Wait taken) (val.Wait given)) refl refl refl (λ t w. w) wait_beside (λ e. omega (arith, e))
       (record {
         moving = λ h. refl;
         numbers = λ h. refl;
@@ -250,7 +270,7 @@ module _ (shape : Shape) (words : ℕ → ℕ → ℕ) (homes : Homes) (traces :
         queued = λ c t e. e;
         put_there = refl;
         standing = refl;
-        off = λ t e. e;
+        off = λ t e. e; held = refl;
       })
       (record { current = λ j. refl; stays = refl }) (record { ended = refl; body = refl }) refl
       (give_wait_keeps shape words homes traces s n taken given out kept.holds may)
@@ -335,7 +355,7 @@ give_law OfTask shape words homes traces s n taken (val.Task v) kept seat near h
     (λ (z : Val). Kept shape (put_at words n LOCK 0) (with_home n (val.Task v) homes)
     (put traces s (Gave n z (val.Task v) ∷ traces s)))
     (one_value val.Task (task_held (traces s) n) may.taken taken may.held held)
-    (give_task_kept shape words homes traces s n kept seat may.taken v
+    (give_task_kept shape words homes traces s n kept seat may.taken v may.held
     (give_task_possible shape words homes traces s kept seat n v near may))
 give_law OfQueue shape words homes traces s n taken (val.Queue v) kept seat near held may =
     subst

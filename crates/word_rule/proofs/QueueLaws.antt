@@ -7,6 +7,9 @@ use Rattle.core_kinds.specs.Running.{MayQueue, MayDequeue, MayMove}
 use Rattle.handoff_data.specs.declared.shape.Shape.{Shape}
 use Rattle.word_rule.proofs.BodiesKept.{known_still}
 use Rattle.word_rule.proofs.GrownKept.{next_grown}
+use Rattle.word_rule.proofs.MasksKept.{masks_still}
+use Rattle.word_rule.proofs.OwnKept.{own_beside, dequeue_task_own}
+use Rattle.word_rule.proofs.WaysKept.{queue_task_ways, dequeue_task_ways, move_task_ways}
 use Rattle.word_rule.proofs.OffKept.{queue_task_off, dequeue_task_off, move_task_off}
 use Rattle.word_rule.proofs.Possible.{queue_number, queue_on, queue_possible, dequeue_possible, move_possible}
 use Rattle.word_rule.proofs.RunsKept.{queue_task_runs, dequeue_task_runs, move_task_runs}
@@ -87,6 +90,9 @@ module _ (shape : Shape) (words : ℕ → ℕ → ℕ) (homes : Homes) (traces :
             off = queue_task_off words traces s kept.off shape homes kept.holds c n on m y core;
             grown = next_grown words traces s kept.grown n y (Queued n c on m) next refl;
             known = known_still traces s kept.known (Queued n c on m) refl refl;
+            own = own_beside words traces s kept.own n RQ y (Queued n c on m) (λ e. omega (arith, e)) (λ t e. e) (λ e. e) refl;
+            ways = queue_task_ways words traces s kept.ways shape homes kept.moving kept.holds c n on y next core;
+            masks = masks_still homes traces s kept.masks homes (Queued n c on m) refl refl;
           }
 
   pub dequeue_law : n < shape.tasks → MayDequeueWord s (traces s) n (words n RQ) y
@@ -117,6 +123,9 @@ module _ (shape : Shape) (words : ℕ → ℕ → ℕ) (homes : Homes) (traces :
             off = dequeue_task_off words traces s kept.off shape homes kept.holds s n m y core;
             grown = next_grown words traces s kept.grown n y (Dequeued n s m) next refl;
             known = known_still traces s kept.known (Dequeued n s m) refl refl;
+            own = dequeue_task_own words traces s kept.own s n m y;
+            ways = dequeue_task_ways words traces s kept.ways shape homes kept.moving kept.holds s n y next core;
+            masks = masks_still homes traces s kept.masks homes (Dequeued n s m) refl refl;
           }
 
   pub move_law : n < shape.tasks → MayMoveWord s (traces s) n (words n RQ) y
@@ -151,4 +160,7 @@ module _ (shape : Shape) (words : ℕ → ℕ → ℕ) (homes : Homes) (traces :
             off = move_task_off words traces s kept.off shape homes kept.holds c n m y q core;
             grown = next_grown words traces s kept.grown n y (Moved n c m) next refl;
             known = known_still traces s kept.known (Moved n c m) refl refl;
+            own = own_beside words traces s kept.own n RQ y (Moved n c m) (λ e. omega (arith, e)) (λ t e. e) (λ e. e) refl;
+            ways = move_task_ways words traces s kept.ways shape homes kept.moving kept.holds c n y q next core;
+            masks = masks_still homes traces s kept.masks homes (Moved n c m) refl refl;
           }

@@ -1,16 +1,21 @@
 -- Steps that change little of what stands beside the invariant: what else they have to show to keep the rule.
-use Rattle.std.proofs.Common.{◌≡◌, ◌≢◌, ℕ, ◌<◌, List, ◌∷◌, sym, subst, arith}
+use Rattle.std.proofs.Common.{◌≡◌, ◌≢◌, ℕ, ◌<◌, List, ◌∷◌, sym, subst, ◌∙◌, arith}
 use Rattle.std.specs.Prelude.{◌^◌, Bool, true, Option}
 use Rattle.core_data.specs.Table.{put, put_at}
 use Rattle.core_invariant.specs.Invariant.{Holds}
 use Rattle.handoff_data.specs.declared.shape.Shape.{Shape}
 use Rattle.word_rule.proofs.BodiesKept.{known_still}
 use Rattle.word_rule.proofs.GrownKept.{grown_beside, grown_still}
+use Rattle.word_rule.proofs.MasksKept.{masks_still}
 use Rattle.word_rule.proofs.OffKept.{off_beside, off_still}
+use Rattle.word_rule.proofs.OwnKept.{own_still}
 use Rattle.word_rule.proofs.RunsKept.{runs_still}
 use Rattle.word_rule.proofs.StandingKept.{standing_beside, standing_still}
+use Rattle.word_rule.proofs.WaysKept.{ways_still}
 use Rattle.word_rule.specs.Bodies.{BodiesKnown}
 use Rattle.word_rule.specs.Kept.{Kept}
+use Rattle.word_rule.specs.Own.{OwnHolds, last_own}
+use Rattle.word_rule.specs.Ways.{WaysHold, IsOnWay}
 use Rattle.word_rule.specs.Standing.{RunsHold, standing, may_run}
 use Rattle.word_steps.proofs.CurrentKept.{current_quiet, current_still}
 use Rattle.word_steps.proofs.EndedKept.{ended_still, counts_put}
@@ -22,7 +27,7 @@ use Rattle.word_steps.proofs.PutKept.{put_beside, put_still}
 use Rattle.word_steps.proofs.QueuedKept.{queued_beside, queued_still}
 use Rattle.word_steps.specs.Beside.{CurrentHolds, EndedHolds}
 use Rattle.word_steps.specs.Decode.{Homes, core_after}
-use Rattle.word_steps.specs.Folds.{moving_after, current_task, stays_queued, number_after, number_read, is_matched_by, saw_queued, has_put, ended_known, body_held, saw_off}
+use Rattle.word_steps.specs.Folds.{moving_after, current_task, stays_queued, number_after, number_read, is_matched_by, saw_queued, has_put, ended_known, body_held, task_held, saw_off}
 use Rattle.word_steps.specs.Records.{Rec}
 use Rattle.word_steps.specs.Words.{LOCK, QUEUE_LOCK, RQ, CPU, COUNT, STATE, BUSY, COND, WORKS_LOCK, WAIT_LOCK}
 
@@ -35,6 +40,7 @@ pub record IsQuiet (r : Rec) (trace : List Rec) : Type 0 where
   pub put_there : has_put (r ∷ trace) ≡ has_put trace
   pub standing : standing (r ∷ trace) ≡ standing trace
   pub off : (t : ℕ) → saw_off (r ∷ trace) t ≡ true → saw_off trace t ≡ true
+  pub held : task_held (r ∷ trace) ≡ task_held trace
 
 -- .. of the current task
 pub record IsSteady (r : Rec) (trace : List Rec) : Type 0 where
@@ -101,15 +107,17 @@ wait_beside = record {
 
 module _ (shape : Shape) (words : ℕ → ℕ → ℕ) (homes homes' : Homes) (traces : ℕ → List Rec) (s : ℕ) where
   -- a step on a word of such a column
-  pub beside_kept : Kept shape words homes traces → (n c x : ℕ) (r : Rec) → IsBeside c → (c ≡ STATE → x < 2 ^ 16)
+  pub beside_kept : Kept shape words homes traces → homes'.task ≡ homes.task → (n c x : ℕ) (r : Rec) → IsBeside c → (c ≡ STATE → x < 2 ^ 16)
       → IsQuiet r (traces s)
       → Holds (core_after shape (put_at words n c x) homes' traces s r)
       → CurrentHolds (put_at words n c x) (put traces s (r ∷ traces s))
       → EndedHolds homes'.ended (put traces s (r ∷ traces s))
       → RunsHold (put_at words n c x) (put traces s (r ∷ traces s))
       → BodiesKnown (put traces s (r ∷ traces s))
+      → OwnHolds (put_at words n c x) (put traces s (r ∷ traces s))
+      → WaysHold (put_at words n c x) (put traces s (r ∷ traces s))
       → Kept shape (put_at words n c x) homes' (put traces s (r ∷ traces s))
-  beside_kept kept n c x r at small quiet holds current ended runs known =
+  beside_kept kept tasks n c x r at small quiet holds current ended runs known own ways =
       let numbers = quiet.numbers (number_read (traces s)) in
       let grows = grows_beside words traces s kept.matched n c x at.rq in
       record {
@@ -128,31 +136,39 @@ module _ (shape : Shape) (words : ℕ → ℕ → ℕ) (homes homes' : Homes) (t
         off = off_beside words traces s kept.off n c x r at.lock at.rq quiet.off numbers;
         grown = grown_beside words traces s kept.grown n c x r at.rq numbers;
         known = known;
+        own = own;
+        ways = ways;
+        masks = masks_still homes traces s kept.masks homes' r tasks quiet.held;
       }
 
   -- .. that changes neither the current task nor a body
-  pub quiet_beside : Kept shape words homes traces → homes'.ended ≡ homes.ended → (n c x : ℕ) (r : Rec) → IsBeside c
+  pub quiet_beside : Kept shape words homes traces → homes'.ended ≡ homes.ended → homes'.task ≡ homes.task → (n c x : ℕ) (r : Rec) → IsBeside c
       → (c ≡ STATE → x < 2 ^ 16) → IsQuiet r (traces s) → IsSteady r (traces s) → IsOutside r (traces s)
       → Holds (core_after shape (put_at words n c x) homes' traces s r)
       → RunsHold (put_at words n c x) (put traces s (r ∷ traces s))
+      → OwnHolds (put_at words n c x) (put traces s (r ∷ traces s))
+      → WaysHold (put_at words n c x) (put traces s (r ∷ traces s))
       → Kept shape (put_at words n c x) homes' (put traces s (r ∷ traces s))
-  quiet_beside kept same n c x r at small quiet steady outside holds runs =
+  quiet_beside kept same tasks n c x r at small quiet steady outside holds runs own ways =
       let before : EndedHolds homes'.ended traces
       = subst (λ (f : ℕ → Bool). EndedHolds f traces) (sym same) kept.ended in
-      beside_kept kept n c x r at small quiet holds
+      beside_kept kept tasks n c x r at small quiet holds
       (current_quiet words traces s kept.current n c x r at.rq steady.current steady.stays)
       (ended_still homes'.ended traces s before r steady.current outside.ended)
       runs
       (known_still traces s kept.known r outside.body outside.ended)
+      own ways
 
   -- a step that changes no word, and not the current task
-  pub still_kept : Kept shape words homes traces → (r : Rec) → IsQuiet r (traces s) → IsSteady r (traces s)
+  pub still_kept : Kept shape words homes traces → homes'.task ≡ homes.task → (r : Rec)
+      → last_own (r ∷ traces s) ≡ last_own (traces s)
+      → ((t : ℕ) → IsOnWay (r ∷ traces s) t → IsOnWay (traces s) t) → IsQuiet r (traces s) → IsSteady r (traces s)
       → may_run s (r ∷ traces s) ≡ may_run s (traces s)
       → Holds (core_after shape words homes' traces s r)
       → EndedHolds homes'.ended (put traces s (r ∷ traces s))
       → BodiesKnown (put traces s (r ∷ traces s))
       → Kept shape words homes' (put traces s (r ∷ traces s))
-  still_kept kept r quiet steady same holds ended known =
+  still_kept kept tasks r last way quiet steady same holds ended known =
       record {
         holds = holds;
         moving = moving_still shape words homes traces s kept.moving r quiet.moving;
@@ -169,4 +185,7 @@ module _ (shape : Shape) (words : ℕ → ℕ → ℕ) (homes homes' : Homes) (t
         off = off_still words traces s kept.off r quiet.off (quiet.numbers (number_read (traces s)));
         grown = grown_still words traces s kept.grown r (quiet.numbers (number_read (traces s)));
         known = known;
+        own = own_still words traces s kept.own r (λ t e. sym (steady.current s) ∙ e) (λ e. sym steady.stays ∙ e) last;
+        ways = ways_still words traces s kept.ways r way (quiet.numbers (number_read (traces s)));
+        masks = masks_still homes traces s kept.masks homes' r tasks quiet.held;
       }

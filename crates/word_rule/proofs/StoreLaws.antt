@@ -13,7 +13,12 @@ use Rattle.handoff_data.specs.declared.shape.Shape.{Shape}
 use Rattle.handoff_data.specs.declared.state.State.{State}
 use Rattle.word_rule.proofs.BodiesKept.{known_still, set_busy_known}
 use Rattle.word_rule.proofs.GrownKept.{grown_beside}
+use Rattle.word_rule.proofs.MasksKept.{masks_still}
 use Rattle.word_rule.proofs.OffKept.{off_beside, renewed}
+use Rattle.word_rule.proofs.OwnKept.{own_beside, set_busy_own, own_state_own, claim_own, release_own}
+use Rattle.word_rule.proofs.WaysKept.{ways_beside, claim_ways}
+use Rattle.word_rule.specs.Own.{OwnHolds}
+use Rattle.word_rule.specs.Ways.{WaysHold}
 use Rattle.word_rule.proofs.Possible.{next_queue, set_busy_possible, clear_busy_possible, own_state_possible, claim_possible, release_possible, store_cpu_possible}
 use Rattle.word_rule.proofs.PossibleGives.{claim_number}
 use Rattle.word_rule.proofs.Quiet.{IsQuiet, IsSteady, IsOutside, beside_kept, quiet_beside, state_beside, busy_beside, cond_beside}
@@ -49,7 +54,7 @@ module _ (shape : Shape) (words : ℕ → ℕ → ℕ) (homes : Homes) (traces :
       → Kept shape (put_at words n COND y) homes (put traces s (Bumped n (words n COND) ∷ traces s)) × Unit {0}
   bump_law condition after = (
     subst (λ (z : ℕ). Kept shape (put_at words n COND z) homes (put traces s (bump_note ∷ traces s))) (sym after)
-        (quiet_beside shape words homes homes traces s kept refl n COND
+        (quiet_beside shape words homes homes traces s kept refl refl n COND
         ((words n COND + 1) % 2 ^ 64) bump_note cond_beside
         (λ e. absurd (omega (arith, e)))
         (record {
@@ -59,12 +64,14 @@ module _ (shape : Shape) (words : ℕ → ℕ → ℕ) (homes : Homes) (traces :
           queued = λ c t e. e;
           put_there = refl;
           standing = refl;
-          off = λ t e. e;
+          off = λ t e. e; held = refl;
         })
         (record { current = λ j. refl; stays = refl }) (record { ended = refl; body = refl })
         (bump_keeps shape words homes traces s n kept.holds (record { seat = seat; condition = condition }))
         (runs_beside words traces s kept.runs n COND ((words n COND + 1) % 2 ^ 64) bump_note
-        cond_beside.queue cond_beside.cpu cond_beside.rq (λ e. omega (arith, e)) refl refl)),
+        cond_beside.queue cond_beside.cpu cond_beside.rq (λ e. omega (arith, e)) refl refl)
+        (own_beside words traces s kept.own n COND ((words n COND + 1) % 2 ^ 64) bump_note (λ e. omega (arith, e)) (λ t e. e) (λ e. e) refl)
+        (ways_beside words traces s kept.ways n COND ((words n COND + 1) % 2 ^ 64) bump_note (λ e. omega (arith, e)) (λ t w. w) refl)),
     tt,
   )
 
@@ -81,7 +88,7 @@ module _ (shape : Shape) (words : ℕ → ℕ → ℕ) (homes : Homes) (traces :
       kept_after : (q : Queue) → MaySetBusy (core_of shape words homes traces) s s n q
           → Kept shape (put_at words n BUSY y) homes (put traces s (SetBusy n s (words n BUSY / 2) ∷ traces s))
       kept_after q core =
-          beside_kept shape words homes homes traces s kept n BUSY y (SetBusy n s (words n BUSY / 2)) busy_beside
+          beside_kept shape words homes homes traces s kept refl n BUSY y (SetBusy n s (words n BUSY / 2)) busy_beside
           (λ e. absurd (omega (arith, e)))
           (record {
             moving = λ h. refl;
@@ -90,7 +97,7 @@ module _ (shape : Shape) (words : ℕ → ℕ → ℕ) (homes : Homes) (traces :
             queued = λ c t e. e;
             put_there = refl;
             standing = refl;
-            off = renewed words traces s kept.off n;
+            off = renewed words traces s kept.off n; held = refl;
           })
           (set_busy_keeps shape words homes traces s s n y q (omega (arith, may.after))
           (omega (arith, may.after)) kept.holds core)
@@ -98,6 +105,8 @@ module _ (shape : Shape) (words : ℕ → ℕ → ℕ) (homes : Homes) (traces :
           (set_busy_ended homes.ended traces s kept.ended n s (words n BUSY / 2))
           (set_busy_runs words traces s kept.runs shape homes s n (words n BUSY / 2) y q core)
           (set_busy_known traces s kept.known n s (words n BUSY / 2) none)
+          (set_busy_own words traces s kept.own s n (words n BUSY / 2) y)
+          (ways_beside words traces s kept.ways n BUSY y (SetBusy n s (words n BUSY / 2)) (λ e. omega (arith, e)) (λ t w. w) refl)
 
   abbrev clear_note : Rec
   clear_note = ClearedBusy n (words n BUSY / 2)
@@ -116,7 +125,7 @@ module _ (shape : Shape) (words : ℕ → ℕ → ℕ) (homes : Homes) (traces :
       kept_after : Kept shape (put_at words n BUSY y) homes (put traces s (ClearedBusy n (words n BUSY / 2) ∷ traces s))
       kept_after =
           let next = busy_next (words n BUSY) y odd core.room may.after in
-          quiet_beside shape words homes homes traces s kept refl n BUSY y clear_note busy_beside
+          quiet_beside shape words homes homes traces s kept refl refl n BUSY y clear_note busy_beside
           (λ e. absurd (omega (arith, e)))
           (record {
             moving = λ h. refl;
@@ -125,12 +134,14 @@ module _ (shape : Shape) (words : ℕ → ℕ → ℕ) (homes : Homes) (traces :
             queued = λ c t e. e;
             put_there = refl;
             standing = refl;
-            off = renewed words traces s kept.off n;
+            off = renewed words traces s kept.off n; held = refl;
           })
           (record { current = λ j. refl; stays = refl }) (record { ended = refl; body = refl })
           (clear_busy_keeps shape words homes traces s n y next.0 next.1 kept.holds core)
           (runs_beside words traces s kept.runs n BUSY y clear_note busy_beside.queue busy_beside.cpu busy_beside.rq
           (λ e. omega (arith, e)) refl refl)
+          (own_beside words traces s kept.own n BUSY y clear_note (λ e. omega (arith, e)) (λ t e. e) (λ e. e) refl)
+          (ways_beside words traces s kept.ways n BUSY y clear_note (λ e. omega (arith, e)) (λ t w. w) refl)
 
   -- The state
 
@@ -138,10 +149,12 @@ module _ (shape : Shape) (words : ℕ → ℕ → ℕ) (homes : Homes) (traces :
   quiet_state : (x : ℕ) (r : Rec) → x < 2 ^ 16 → IsQuiet r (traces s) → IsSteady r (traces s) → IsOutside r (traces s)
       → Holds (core_after shape (put_at words n STATE x) homes traces s r)
       → RunsHold (put_at words n STATE x) (put traces s (r ∷ traces s))
+      → OwnHolds (put_at words n STATE x) (put traces s (r ∷ traces s))
+      → WaysHold (put_at words n STATE x) (put traces s (r ∷ traces s))
       → Kept shape (put_at words n STATE x) homes (put traces s (r ∷ traces s))
-  quiet_state x r small quiet steady outside holds runs =
-      quiet_beside shape words homes homes traces s kept refl n STATE x r state_beside
-      (λ e. small) quiet steady outside holds runs
+  quiet_state x r small quiet steady outside holds runs own ways =
+      quiet_beside shape words homes homes traces s kept refl refl n STATE x r state_beside
+      (λ e. small) quiet steady outside holds runs own ways
 
   pub own_state_law : n < shape.tasks → MayOwnWord s (traces s) n (words n STATE) y
       → Kept shape (put_at words n STATE y) homes (put traces s (StoredOwn n (record { 0 = y }) ∷ traces s)) × Unit {0}
@@ -155,11 +168,13 @@ module _ (shape : Shape) (words : ℕ → ℕ → ℕ) (homes : Homes) (traces :
               queued = λ c t e. e;
               put_there = refl;
               standing = refl;
-              off = renewed words traces s kept.off n;
+              off = renewed words traces s kept.off n; held = refl;
             })
             (record { current = λ j. refl; stays = refl }) (record { ended = refl; body = refl })
             (own_state_keeps shape words homes traces s n (record { 0 = y }) kept.holds core)
-            (own_state_runs words traces s kept.runs shape homes n (record { 0 = y }) core),
+            (own_state_runs words traces s kept.runs shape homes n (record { 0 = y }) core)
+            (own_state_own words traces s kept.own shape homes kept.holds n (record { 0 = y }) core)
+            (ways_beside words traces s kept.ways n STATE y (StoredOwn n (record { 0 = y })) (λ e. omega (arith, e)) (λ t w. w) refl),
         tt,
       )
     where
@@ -193,11 +208,13 @@ module _ (shape : Shape) (words : ℕ → ℕ → ℕ) (homes : Homes) (traces :
             queued = λ c t e. e;
             put_there = refl;
             standing = refl;
-            off = renewed words traces s kept.off n;
+            off = renewed words traces s kept.off n; held = refl;
           })
           (record { current = λ j. refl; stays = refl }) (record { ended = refl; body = refl })
           (claim_keeps shape words homes traces s n kept.holds core)
           (claim_runs words traces s kept.runs shape homes kept.holds n (words n RQ / 4) core)
+          (claim_own words traces s kept.own shape homes kept.holds n (words n RQ / 4) kept.current core)
+          (claim_ways words traces s kept.ways shape homes kept.moving kept.holds n (words n RQ / 4) kept.off core)
 
   pub release_law : n < shape.tasks → MayReleaseWord s (traces s) n (words n STATE) y
       → Kept shape (put_at words n STATE y) homes (put traces s (Released n ∷ traces s)) × Unit {0}
@@ -213,11 +230,13 @@ module _ (shape : Shape) (words : ℕ → ℕ → ℕ) (homes : Homes) (traces :
               queued = λ c t e. e;
               put_there = refl;
               standing = refl;
-              off = renewed words traces s kept.off n;
+              off = renewed words traces s kept.off n; held = refl;
             })
             (record { current = λ j. refl; stays = refl }) (record { ended = refl; body = refl })
             (release_keeps shape words homes traces s n kept.holds core)
-            (release_runs words traces s kept.runs shape homes kept.holds n kept.put_there)),
+            (release_runs words traces s kept.runs shape homes kept.holds n kept.put_there)
+            (release_own words traces s kept.own shape homes kept.holds n core)
+            (ways_beside words traces s kept.ways n STATE 0 (Released n) (λ e. omega (arith, e)) (λ t w. w) refl)),
         tt,
       )
 
@@ -243,6 +262,9 @@ module _ (shape : Shape) (words : ℕ → ℕ → ℕ) (homes : Homes) (traces :
       off = off_beside words traces s kept.off n CPU y (StoredCpu n y) lock rq (renewed words traces s kept.off n) refl;
       grown = grown_beside words traces s kept.grown n CPU y (StoredCpu n y) rq refl;
       known = known_still traces s kept.known (StoredCpu n y) refl refl;
+      own = own_beside words traces s kept.own n CPU y (StoredCpu n y) (λ e. omega (arith, e)) (λ t e. e) (λ e. e) refl;
+      ways = ways_beside words traces s kept.ways n CPU y (StoredCpu n y) (λ e. omega (arith, e)) (λ t w. w) refl;
+      masks = masks_still homes traces s kept.masks homes (StoredCpu n y) refl refl;
     },
     tt,
   )
