@@ -1,7 +1,7 @@
 -- A current task that its seat hasn't taken off its queue has the state that the seat stored last, or was woken: kept by
 -- each kind of step.
-use Rattle.std.proofs.Common.{◌≡◌, ◌≢◌, ℕ, inl, inr, refl, sym, ap, subst, ◌∙◌, List, [], ◌∷◌, arith}
-use Rattle.std.specs.Prelude.{◌%◌, ◌⊎◌, true, false, Option, Some, None, unwrap_or}
+use Rattle.std.proofs.Common.{◌≡◌, ◌≢◌, ℕ, suc, inl, inr, refl, sym, ap, subst, ◌∙◌, List, [], ◌∷◌, arith}
+use Rattle.std.specs.Prelude.{◌+◌, ◌/◌, ◌%◌, ◌^◌, ◌⊎◌, true, false, Option, Some, None, unwrap_or}
 use Rattle.std.proofs.lemmas.Bool.{cases_eq}
 use Rattle.core_data.specs.Table.{put, put_at}
 use Rattle.core_data.specs.Queue.{Queue}
@@ -9,6 +9,9 @@ use Rattle.core_gives.specs.Queues.{gives_up}
 use Rattle.core_invariant.specs.Invariant.{Holds}
 use Rattle.core_kinds.specs.Steps.{running, dead, is_sleep, IsRunnable}
 use Rattle.core_kinds.specs.Waking.{MayOwnState, MayClaim, MayRelease}
+use Rattle.core_law.specs.Steps.{May}
+use Rattle.core_law.specs.declared.step.StepKind.{StepKind}
+use Rattle.core_law.specs.declared.step.StepKind.TheVariants as step
 use Rattle.core_stores.proofs.Columns.{put_there, put_other}
 use Rattle.handoff_data.specs.declared.shape.Shape.{Shape}
 use Rattle.handoff_data.specs.declared.state.State.{State}
@@ -17,9 +20,10 @@ use Rattle.word_steps.proofs.CurrentKept.{same_task, unless}
 use Rattle.word_steps.proofs.Puts.{word_here, word_apart, word_beside, fold_here, fold_else}
 use Rattle.word_steps.specs.Beside.{CurrentHolds}
 use Rattle.word_steps.specs.Decode.{Homes, core_of}
+use Rattle.word_steps.specs.Events.{IsEvent, IsNoted, Writes}
 use Rattle.word_steps.specs.Folds.{current_task, stays_queued, is_matched_by}
-use Rattle.word_steps.specs.Records.{Rec, Gave, Dequeued, SetBusy, StoredOwn, Claimed, Released}
-use Rattle.word_steps.specs.Words.{STATE, BUSY, QUEUE_LOCK, RQ}
+use Rattle.word_steps.specs.Records.{Rec, Took, Gave, OutBody, HomeBody, Queued, Dequeued, Moved, SetBusy, ClearedBusy, StoredOwn, Claimed, Released, LoadedState, LoadedRq, LoadedBusy, LoadedCpu, StoredCpu, Bumped, LoadedCond}
+use Rattle.word_steps.specs.Words.{LOCK, STATE, RQ, BUSY, CPU, QUEUE_LOCK, WORKS_LOCK, WAIT_LOCK, COND, is_set}
 use Rattle.word_steps.specs.declared.val.Val.TheVariants as val
 
 pub own_start : (words : ℕ → ℕ → ℕ) → OwnHolds words (λ s. [])
@@ -180,3 +184,90 @@ module _ (words : ℕ → ℕ → ℕ) (traces : ℕ → List Rec) (s : ℕ) (ho
               (alive j (subst (λ (k : ℕ). current_task j (traces j) ≡ Some k) q is))
               (subst (λ (k : ℕ). IsStill st (record { 0 = words k STATE })) q (holds j t st is on last)))
         ]
+
+-- an event leaves the words and the trace that its kind says
+as_made : (traces : ℕ → List Rec) (s : ℕ) (words' made : ℕ → ℕ → ℕ) (r noted : Rec) → words' ≡ made → r ≡ noted
+    → OwnHolds made (put traces s (noted ∷ traces s)) → OwnHolds words' (put traces s (r ∷ traces s))
+as_made traces s words' made r noted word record_is h =
+    subst (λ (w : ℕ → ℕ → ℕ). OwnHolds w (put traces s (r ∷ traces s))) (sym word)
+    (subst (λ (x : Rec). OwnHolds made (put traces s (x ∷ traces s))) (sym record_is) h)
+
+module _ (shape : Shape) (words : ℕ → ℕ → ℕ) (homes : Homes) (traces : ℕ → List Rec) (s : ℕ)
+    (core : Holds (core_of shape words homes traces)) (current : CurrentHolds words traces) (own : OwnHolds words traces) where
+  own_by : (kind : StepKind) (r : Rec) (words' : ℕ → ℕ → ℕ) → IsNoted (core_of shape words homes traces) s kind r
+      → Writes s kind words words' → May (core_of shape words homes traces) s kind → OwnHolds words' (put traces s (r ∷ traces s))
+  own_by (step.TakeTask t) r w noted writes may =
+      as_made traces s w (put_at words t LOCK (suc s)) r (Took t (val.Task noted.0)) writes noted.2
+      (own_beside words traces s own t LOCK (suc s) (Took t (val.Task noted.0)) (λ e. omega (arith, e)) (λ u e. e) (λ e. e) refl)
+  own_by (step.GiveTask t given stood done) r w noted writes may =
+      as_made traces s w (put_at words t LOCK (0)) r (Gave t (val.Task noted.0) (val.Task given)) writes noted.2
+      (own_beside words traces s own t LOCK (0) (Gave t (val.Task noted.0) (val.Task given)) (λ e. omega (arith, e)) (λ u e. e) (λ e. e) refl)
+  own_by (step.TakeQueue c) r w noted writes may =
+      as_made traces s w (put_at words c QUEUE_LOCK (suc s)) r (Took c (val.Queue noted.0)) writes noted.2
+      (own_beside words traces s own c QUEUE_LOCK (suc s) (Took c (val.Queue noted.0)) (λ e. omega (arith, e)) (λ u e. e) (λ e. e) refl)
+  own_by (step.GiveQueue c given) r w noted writes may =
+      as_made traces s w (put_at words c QUEUE_LOCK 0) r (Gave c (val.Queue noted.0) (val.Queue given)) writes noted.2
+      (give_queue_own words traces s own c 0 noted.0 given)
+  own_by (step.TakeWait k) r w noted writes may =
+      as_made traces s w (put_at words k WAIT_LOCK (suc s)) r (Took k (val.Wait noted.0)) writes noted.2
+      (own_beside words traces s own k WAIT_LOCK (suc s) (Took k (val.Wait noted.0)) (λ e. omega (arith, e)) (λ u e. e) (λ e. e) refl)
+  own_by (step.GiveWait k given) r w noted writes may =
+      as_made traces s w (put_at words k WAIT_LOCK (0)) r (Gave k (val.Wait noted.0) (val.Wait given)) writes noted.2
+      (own_beside words traces s own k WAIT_LOCK (0) (Gave k (val.Wait noted.0) (val.Wait given)) (λ e. omega (arith, e)) (λ u e. e) (λ e. e) refl)
+  own_by (step.TakeWorks c) r w noted writes may =
+      as_made traces s w (put_at words c WORKS_LOCK (suc s)) r (Took c (val.Works noted.0)) writes noted.2
+      (own_beside words traces s own c WORKS_LOCK (suc s) (Took c (val.Works noted.0)) (λ e. omega (arith, e)) (λ u e. e) (λ e. e) refl)
+  own_by (step.GiveWorks c given) r w noted writes may =
+      as_made traces s w (put_at words c WORKS_LOCK (0)) r (Gave c (val.Works noted.0) (val.Works given)) writes noted.2
+      (own_beside words traces s own c WORKS_LOCK (0) (Gave c (val.Works noted.0) (val.Works given)) (λ e. omega (arith, e)) (λ u e. e) (λ e. e) refl)
+  own_by (step.BodyOut t) r w noted writes may =
+      as_made traces s w words r (OutBody t (homes.ended t)) writes noted (own_still words traces s own (OutBody t (homes.ended t)) (λ u e. e) (λ e. e) refl)
+  own_by (step.BodyHome t ended) r w noted writes may =
+      as_made traces s w words r (HomeBody t ended) writes noted (own_still words traces s own (HomeBody t ended) (λ u e. e) (λ e. e) refl)
+  own_by (step.StoreRqOn c t) r w noted writes may =
+      as_made traces s w (put_at words t RQ writes.0) r (Queued t c (words t RQ % 4) (words t RQ / 4)) writes.1 noted
+      (own_beside words traces s own t RQ writes.0 (Queued t c (words t RQ % 4) (words t RQ / 4)) (λ e. omega (arith, e)) (λ u e. e) (λ e. e) refl)
+  own_by (step.StoreRqOff c t) r w noted writes may =
+      as_made traces s w (put_at words t RQ writes.0) r (Dequeued t c (words t RQ / 4)) writes.1 noted
+      (dequeue_task_own words traces s own c t (words t RQ / 4) writes.0)
+  own_by (step.StoreRqMoving c t queue) r w noted writes may =
+      as_made traces s w (put_at words t RQ writes.0) r (Moved t c (words t RQ / 4)) writes.1 noted
+      (own_beside words traces s own t RQ writes.0 (Moved t c (words t RQ / 4)) (λ e. omega (arith, e)) (λ u e. e) (λ e. e) refl)
+  own_by (step.SetBusy c t queue) r w noted writes may =
+      as_made traces s w (put_at words t BUSY writes.0) r (SetBusy t c (words t BUSY / 2)) writes.1 noted
+      (set_busy_own words traces s own c t (words t BUSY / 2) writes.0)
+  own_by (step.ClearBusy t) r w noted writes may =
+      as_made traces s w (put_at words t BUSY writes.0) r (ClearedBusy t (words t BUSY / 2)) writes.1 noted
+      (own_beside words traces s own t BUSY writes.0 (ClearedBusy t (words t BUSY / 2)) (λ e. omega (arith, e)) (λ u e. e) (λ e. e) refl)
+  own_by (step.OwnState t state) r w noted writes may =
+      as_made traces s w (put_at words t STATE state.0) r (StoredOwn t state) writes noted
+      (own_state_own words traces s own shape homes core t state may)
+  own_by (step.StoreWaking t) r w noted writes may =
+      as_made traces s w (put_at words t STATE 0x200) r (Claimed t (words t RQ / 4)) writes noted
+      (claim_own words traces s own shape homes core t (words t RQ / 4) current may)
+  own_by (step.StoreRunning t) r w noted writes may =
+      as_made traces s w (put_at words t STATE 0) r (Released t) writes noted
+      (release_own words traces s own shape homes core t may)
+  own_by (step.LoadState t mask) r w noted writes may =
+      as_made traces s w words r (LoadedState t mask (record { 0 = words t STATE })) writes noted (own_still words traces s own (LoadedState t mask (record { 0 = words t STATE })) (λ u e. e) (λ e. e) refl)
+  own_by (step.LoadRq t) r w noted writes may =
+      as_made traces s w words r (LoadedRq t (words t RQ % 4) (words t RQ / 4)) writes noted (own_still words traces s own (LoadedRq t (words t RQ % 4) (words t RQ / 4)) (λ u e. e) (λ e. e) refl)
+  own_by (step.LoadBusy t) r w noted writes may =
+      as_made traces s w words r (LoadedBusy t (is_set (words t BUSY)) (words t BUSY / 2)) writes noted (own_still words traces s own (LoadedBusy t (is_set (words t BUSY)) (words t BUSY / 2)) (λ u e. e) (λ e. e) refl)
+  own_by (step.LoadCpu t) r w noted writes may =
+      as_made traces s w words r (LoadedCpu t (words t CPU)) writes noted (own_still words traces s own (LoadedCpu t (words t CPU)) (λ u e. e) (λ e. e) refl)
+  own_by (step.StoreCpu t c) r w noted writes may =
+      as_made traces s w (put_at words t CPU (c)) r (StoredCpu t c) writes noted
+      (own_beside words traces s own t CPU (c) (StoredCpu t c) (λ e. omega (arith, e)) (λ u e. e) (λ e. e) refl)
+  own_by (step.Bump k) r w noted writes may =
+      as_made traces s w (put_at words k COND ((words k COND + 1) % 2 ^ 64)) r (Bumped k (words k COND)) writes noted
+      (own_beside words traces s own k COND ((words k COND + 1) % 2 ^ 64) (Bumped k (words k COND)) (λ e. omega (arith, e)) (λ u e. e) (λ e. e) refl)
+  own_by (step.LoadCond k) r w noted writes may =
+      as_made traces s w words r (LoadedCond k (words k COND)) writes noted (own_still words traces s own (LoadedCond k (words k COND)) (λ u e. e) (λ e. e) refl)
+
+pub own_event : (shape : Shape) (words : ℕ → ℕ → ℕ) (homes : Homes) (traces : ℕ → List Rec) (s : ℕ) (r : Rec)
+    (words' : ℕ → ℕ → ℕ) (homes' : Homes) → IsEvent shape words homes traces s r words' homes'
+    → Holds (core_of shape words homes traces) → CurrentHolds words traces → OwnHolds words traces
+    → OwnHolds words' (put traces s (r ∷ traces s))
+own_event shape words homes traces s r words' homes' event core current own =
+    own_by shape words homes traces s core current own event.kind r words' event.noted event.writes event.event.possible

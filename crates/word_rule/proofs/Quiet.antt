@@ -1,22 +1,22 @@
--- Steps that change little of what stands beside the invariant: what else they have to show to keep the rule.
-use Rattle.std.proofs.Common.{◌≡◌, ◌≢◌, ℕ, ◌<◌, List, ◌∷◌, sym, subst, ◌∙◌, arith}
+-- The rule is kept by one lemma, `kept_after`, on which the law of each kind of step builds. A sentence of `Kept` that few
+-- steps touch has a lemma of its own over any event, and a line here; one that many touch stands in `Touched`. Then steps
+-- that change little of what stands beside the invariant: what else they have to show.
+use Rattle.std.proofs.Common.{◌≡◌, ◌≢◌, ℕ, ◌<◌, List, ◌∷◌, sym, subst, arith}
 use Rattle.std.specs.Prelude.{◌^◌, Bool, true, Option}
 use Rattle.core_data.specs.Table.{put, put_at}
-use Rattle.core_invariant.specs.Invariant.{Holds}
+use Rattle.core_law.proofs.Reached.{Holds-step, reached_step}
 use Rattle.handoff_data.specs.declared.shape.Shape.{Shape}
 use Rattle.word_rule.proofs.BodiesKept.{known_still}
 use Rattle.word_rule.proofs.GrownKept.{grown_beside, grown_still}
-use Rattle.word_rule.proofs.MasksKept.{masks_still}
+use Rattle.word_rule.proofs.MasksKept.{masks_event}
 use Rattle.word_rule.proofs.OffKept.{off_beside, off_still}
-use Rattle.word_rule.proofs.OwnKept.{own_still}
+use Rattle.word_rule.proofs.OwnKept.{own_event}
 use Rattle.word_rule.proofs.RunsKept.{runs_still}
 use Rattle.word_rule.proofs.StandingKept.{standing_beside, standing_still}
-use Rattle.word_rule.proofs.WaysKept.{ways_still}
+use Rattle.word_rule.proofs.WaysKept.{ways_event}
 use Rattle.word_rule.specs.Bodies.{BodiesKnown}
 use Rattle.word_rule.specs.Kept.{Kept}
-use Rattle.word_rule.specs.Own.{OwnHolds, last_own}
-use Rattle.word_rule.specs.Ways.{WaysHold, IsOnWay}
-use Rattle.word_rule.specs.Standing.{RunsHold, standing, may_run}
+use Rattle.word_rule.specs.Standing.{StandingHolds, RunsHold, OffHolds, GrownHolds, standing, may_run}
 use Rattle.word_steps.proofs.CurrentKept.{current_quiet, current_still}
 use Rattle.word_steps.proofs.EndedKept.{ended_still, counts_put}
 use Rattle.word_steps.proofs.MatchedKept.{matched_beside, grows_beside, matched_still}
@@ -25,9 +25,10 @@ use Rattle.word_steps.proofs.MovingSteps.{moving_beside, moving_still}
 use Rattle.word_steps.proofs.NumbersKept.{numbers_beside, numbers_still}
 use Rattle.word_steps.proofs.PutKept.{put_beside, put_still}
 use Rattle.word_steps.proofs.QueuedKept.{queued_beside, queued_still}
-use Rattle.word_steps.specs.Beside.{CurrentHolds, EndedHolds}
-use Rattle.word_steps.specs.Decode.{Homes, core_after}
-use Rattle.word_steps.specs.Folds.{moving_after, current_task, stays_queued, number_after, number_read, is_matched_by, saw_queued, has_put, ended_known, body_held, task_held, saw_off}
+use Rattle.word_steps.specs.Beside.{MovingHolds, CurrentHolds, NumbersHold, MatchedHolds, QueuedHolds, PutHolds, EndedHolds, CountsZero, StatesFit}
+use Rattle.word_steps.specs.Decode.{Homes, core_of, core_after}
+use Rattle.word_steps.specs.Events.{IsEvent}
+use Rattle.word_steps.specs.Folds.{moving_after, current_task, stays_queued, number_after, number_read, is_matched_by, saw_queued, has_put, ended_known, body_held, saw_off}
 use Rattle.word_steps.specs.Records.{Rec}
 use Rattle.word_steps.specs.Words.{LOCK, QUEUE_LOCK, RQ, CPU, COUNT, STATE, BUSY, COND, WORKS_LOCK, WAIT_LOCK}
 
@@ -40,7 +41,6 @@ pub record IsQuiet (r : Rec) (trace : List Rec) : Type 0 where
   pub put_there : has_put (r ∷ trace) ≡ has_put trace
   pub standing : standing (r ∷ trace) ≡ standing trace
   pub off : (t : ℕ) → saw_off (r ∷ trace) t ≡ true → saw_off trace t ≡ true
-  pub held : task_held (r ∷ trace) ≡ task_held trace
 
 -- .. of the current task
 pub record IsSteady (r : Rec) (trace : List Rec) : Type 0 where
@@ -105,23 +105,66 @@ wait_beside = record {
   count = λ e. omega (arith, e);
 }
 
+-- the sentences that steps of many kinds touch, which each kind shows for itself
+pub record Touched (words : ℕ → ℕ → ℕ) (homes : Homes) (traces : ℕ → List Rec) : Type 0 where
+  pub moving : MovingHolds words traces
+  pub current : CurrentHolds words traces
+  pub numbers : NumbersHold words traces
+  pub matched : MatchedHolds words traces
+  pub queued : QueuedHolds words traces
+  pub put_there : PutHolds words traces
+  pub ended : EndedHolds homes.ended traces
+  pub counts : CountsZero words
+  pub states : StatesFit words
+  pub standing : StandingHolds words traces
+  pub runs : RunsHold words traces
+  pub off : OffHolds words traces
+  pub grown : GrownHolds words traces
+  pub known : BodiesKnown traces
+
+module _ (shape : Shape) (words : ℕ → ℕ → ℕ) (homes : Homes) (traces : ℕ → List Rec) (s : ℕ) (kept : Kept shape words homes traces) where
+  -- the rule after an event: the core is reached, the sentences that are touched hold, and so does each that isn't
+  pub kept_after : (r : Rec) (words' : ℕ → ℕ → ℕ) (homes' : Homes) → IsEvent shape words homes traces s r words' homes'
+      → Touched words' homes' (put traces s (r ∷ traces s)) → Kept shape words' homes' (put traces s (r ∷ traces s))
+  kept_after r words' homes' event touched =
+      record {
+        reached = reached_step (core_of shape words homes traces) (record { seat = s; step = event.kind })
+            (core_after shape words' homes' traces s r) kept.reached event.event;
+        holds = Holds-step (core_of shape words homes traces) (record { seat = s; step = event.kind })
+            (core_after shape words' homes' traces s r) kept.holds event.event;
+        moving = touched.moving;
+        current = touched.current;
+        numbers = touched.numbers;
+        matched = touched.matched;
+        queued = touched.queued;
+        put_there = touched.put_there;
+        ended = touched.ended;
+        counts = touched.counts;
+        states = touched.states;
+        standing = touched.standing;
+        runs = touched.runs;
+        off = touched.off;
+        grown = touched.grown;
+        known = touched.known;
+        own = own_event shape words homes traces s r words' homes' event kept.holds kept.current kept.own;
+        ways = ways_event shape words homes traces s r words' homes' event kept.holds kept.moving kept.off kept.ways;
+        masks = masks_event shape words homes traces s r words' homes' event kept.masks;
+      }
+
 module _ (shape : Shape) (words : ℕ → ℕ → ℕ) (homes homes' : Homes) (traces : ℕ → List Rec) (s : ℕ) where
   -- a step on a word of such a column
-  pub beside_kept : Kept shape words homes traces → homes'.task ≡ homes.task → (n c x : ℕ) (r : Rec) → IsBeside c → (c ≡ STATE → x < 2 ^ 16)
+  pub beside_kept : Kept shape words homes traces → (n c x : ℕ) (r : Rec) → IsBeside c → (c ≡ STATE → x < 2 ^ 16)
       → IsQuiet r (traces s)
-      → Holds (core_after shape (put_at words n c x) homes' traces s r)
+      → IsEvent shape words homes traces s r (put_at words n c x) homes'
       → CurrentHolds (put_at words n c x) (put traces s (r ∷ traces s))
       → EndedHolds homes'.ended (put traces s (r ∷ traces s))
       → RunsHold (put_at words n c x) (put traces s (r ∷ traces s))
       → BodiesKnown (put traces s (r ∷ traces s))
-      → OwnHolds (put_at words n c x) (put traces s (r ∷ traces s))
-      → WaysHold (put_at words n c x) (put traces s (r ∷ traces s))
       → Kept shape (put_at words n c x) homes' (put traces s (r ∷ traces s))
-  beside_kept kept tasks n c x r at small quiet holds current ended runs known own ways =
+  beside_kept kept n c x r at small quiet event current ended runs known =
       let numbers = quiet.numbers (number_read (traces s)) in
       let grows = grows_beside words traces s kept.matched n c x at.rq in
-      record {
-        holds = holds;
+      kept_after shape words homes traces s kept r (put_at words n c x) homes' event (record {
         moving = moving_beside shape words homes traces s kept.moving n c x r at.lock at.rq quiet.moving;
         current = current;
         numbers = numbers_beside words traces s kept.numbers n c x r at.lock at.rq quiet.numbers;
@@ -136,41 +179,32 @@ module _ (shape : Shape) (words : ℕ → ℕ → ℕ) (homes homes' : Homes) (t
         off = off_beside words traces s kept.off n c x r at.lock at.rq quiet.off numbers;
         grown = grown_beside words traces s kept.grown n c x r at.rq numbers;
         known = known;
-        own = own;
-        ways = ways;
-        masks = masks_still homes traces s kept.masks homes' r tasks quiet.held;
-      }
+      })
 
   -- .. that changes neither the current task nor a body
-  pub quiet_beside : Kept shape words homes traces → homes'.ended ≡ homes.ended → homes'.task ≡ homes.task → (n c x : ℕ) (r : Rec) → IsBeside c
+  pub quiet_beside : Kept shape words homes traces → homes'.ended ≡ homes.ended → (n c x : ℕ) (r : Rec) → IsBeside c
       → (c ≡ STATE → x < 2 ^ 16) → IsQuiet r (traces s) → IsSteady r (traces s) → IsOutside r (traces s)
-      → Holds (core_after shape (put_at words n c x) homes' traces s r)
+      → IsEvent shape words homes traces s r (put_at words n c x) homes'
       → RunsHold (put_at words n c x) (put traces s (r ∷ traces s))
-      → OwnHolds (put_at words n c x) (put traces s (r ∷ traces s))
-      → WaysHold (put_at words n c x) (put traces s (r ∷ traces s))
       → Kept shape (put_at words n c x) homes' (put traces s (r ∷ traces s))
-  quiet_beside kept same tasks n c x r at small quiet steady outside holds runs own ways =
+  quiet_beside kept same n c x r at small quiet steady outside event runs =
       let before : EndedHolds homes'.ended traces
       = subst (λ (f : ℕ → Bool). EndedHolds f traces) (sym same) kept.ended in
-      beside_kept kept tasks n c x r at small quiet holds
+      beside_kept kept n c x r at small quiet event
       (current_quiet words traces s kept.current n c x r at.rq steady.current steady.stays)
       (ended_still homes'.ended traces s before r steady.current outside.ended)
       runs
       (known_still traces s kept.known r outside.body outside.ended)
-      own ways
 
   -- a step that changes no word, and not the current task
-  pub still_kept : Kept shape words homes traces → homes'.task ≡ homes.task → (r : Rec)
-      → last_own (r ∷ traces s) ≡ last_own (traces s)
-      → ((t : ℕ) → IsOnWay (r ∷ traces s) t → IsOnWay (traces s) t) → IsQuiet r (traces s) → IsSteady r (traces s)
+  pub still_kept : Kept shape words homes traces → (r : Rec) → IsQuiet r (traces s) → IsSteady r (traces s)
       → may_run s (r ∷ traces s) ≡ may_run s (traces s)
-      → Holds (core_after shape words homes' traces s r)
+      → IsEvent shape words homes traces s r words homes'
       → EndedHolds homes'.ended (put traces s (r ∷ traces s))
       → BodiesKnown (put traces s (r ∷ traces s))
       → Kept shape words homes' (put traces s (r ∷ traces s))
-  still_kept kept tasks r last way quiet steady same holds ended known =
-      record {
-        holds = holds;
+  still_kept kept r quiet steady same event ended known =
+      kept_after shape words homes traces s kept r words homes' event (record {
         moving = moving_still shape words homes traces s kept.moving r quiet.moving;
         current = current_still words traces s kept.current r steady.current steady.stays;
         numbers = numbers_still words traces s kept.numbers r quiet.numbers;
@@ -185,7 +219,4 @@ module _ (shape : Shape) (words : ℕ → ℕ → ℕ) (homes homes' : Homes) (t
         off = off_still words traces s kept.off r quiet.off (quiet.numbers (number_read (traces s)));
         grown = grown_still words traces s kept.grown r (quiet.numbers (number_read (traces s)));
         known = known;
-        own = own_still words traces s kept.own r (λ t e. sym (steady.current s) ∙ e) (λ e. sym steady.stays ∙ e) last;
-        ways = ways_still words traces s kept.ways r way (quiet.numbers (number_read (traces s)));
-        masks = masks_still homes traces s kept.masks homes' r tasks quiet.held;
-      }
+      })

@@ -1,14 +1,17 @@
 -- The number of a task that a seat has on its way to a queue is the one that the seat read or made: kept by each kind of
 -- step.
 use Rattle.std.proofs.Common.{◌≡◌, ◌≢◌, ℕ, suc, inl, inr, refl, sym, ap, subst, ◌∙◌, List, [], ◌∷◌, arith}
-use Rattle.std.specs.Prelude.{◌+◌, ◌/◌, ◌%◌, ◌⊎◌, Bool, true, false, Option, Some, None, IsSome}
+use Rattle.std.specs.Prelude.{◌+◌, ◌/◌, ◌%◌, ◌^◌, ◌⊎◌, Bool, true, false, Option, Some, None, IsSome}
 use Rattle.std.proofs.lemmas.Bool.{cases_eq}
-use Rattle.core_data.specs.Table.{put, put_at}
+use Rattle.core_data.specs.Table.{Table, put, put_at}
 use Rattle.core_data.specs.Queue.{Queue}
 use Rattle.core_data.specs.declared.values.TaskVal.{TaskVal}
 use Rattle.core_invariant.specs.Invariant.{Holds}
 use Rattle.core_kinds.specs.Running.{MayQueue, MayDequeue, MayMove}
 use Rattle.core_kinds.specs.Waking.{MayClaim}
+use Rattle.core_law.specs.Steps.{Step}
+use Rattle.core_law.specs.declared.step.StepKind.{StepKind}
+use Rattle.core_law.specs.declared.step.StepKind.TheVariants as step
 use Rattle.core_stores.proofs.Columns.{put_there, put_other}
 use Rattle.handoff_data.specs.declared.shape.Shape.{Shape}
 use Rattle.word_rule.proofs.GrownKept.{same_number}
@@ -17,10 +20,11 @@ use Rattle.word_rule.specs.Ways.{WaysHold, IsOnWay}
 use Rattle.word_steps.proofs.MovingKept.{one_seat}
 use Rattle.word_steps.proofs.Puts.{word_here, word_apart, word_beside, fold_here, fold_else}
 use Rattle.word_steps.specs.Beside.{MovingHolds}
-use Rattle.word_steps.specs.Decode.{Homes, core_of}
+use Rattle.word_steps.specs.Decode.{Homes, core_of, core_after}
+use Rattle.word_steps.specs.Events.{IsEvent, IsNoted, Writes}
 use Rattle.word_steps.specs.Folds.{is_claimed, is_moving, number_read, saw_off}
-use Rattle.word_steps.specs.Records.{Rec, Took, Gave, Queued, Dequeued, Moved, Claimed, LoadedRq}
-use Rattle.word_steps.specs.Words.{LOCK, STATE, RQ, holder}
+use Rattle.word_steps.specs.Records.{Rec, Took, Gave, OutBody, HomeBody, Queued, Dequeued, Moved, SetBusy, ClearedBusy, StoredOwn, Claimed, Released, LoadedState, LoadedRq, LoadedBusy, LoadedCpu, StoredCpu, Bumped, LoadedCond}
+use Rattle.word_steps.specs.Words.{LOCK, STATE, RQ, BUSY, CPU, QUEUE_LOCK, WORKS_LOCK, WAIT_LOCK, COND, is_set, holder}
 use Rattle.word_steps.specs.declared.val.Val.TheVariants as val
 
 pub ways_start : (words : ℕ → ℕ → ℕ) → WaysHold words (λ s. [])
@@ -197,3 +201,97 @@ module _ (words : ℕ → ℕ → ℕ) (traces : ℕ → List Rec) (s : ℕ) (ho
         was : (t : ℕ) → t ≢ n → IsOnWay (Moved n c (words n RQ / 4) ∷ traces s) t → IsOnWay (traces s) t
         was t apart (inl claims) = inl claims
         was t apart (inr moves) = inr (marked (is_moving (traces s)) n t apart moves)
+
+-- an event leaves the words and the trace that its kind says
+as_made : (traces : ℕ → List Rec) (s : ℕ) (words' made : ℕ → ℕ → ℕ) (r noted : Rec) → words' ≡ made → r ≡ noted
+    → WaysHold made (put traces s (noted ∷ traces s)) → WaysHold words' (put traces s (r ∷ traces s))
+as_made traces s words' made r noted word record_is h =
+    subst (λ (w : ℕ → ℕ → ℕ). WaysHold w (put traces s (r ∷ traces s))) (sym word)
+    (subst (λ (x : Rec). WaysHold made (put traces s (x ∷ traces s))) (sym record_is) h)
+
+module _ (shape : Shape) (words : ℕ → ℕ → ℕ) (homes : Homes) (traces : ℕ → List Rec) (s : ℕ)
+    (core : Holds (core_of shape words homes traces)) (moving : MovingHolds words traces) (off : OffHolds words traces)
+    (ways : WaysHold words traces) where
+  -- the next number of a queue word is in the word that was put there
+  next_word : (t x : ℕ) (w : ℕ → ℕ → ℕ) → w ≡ put_at words t RQ x → w t RQ / 4 ≡ words t RQ / 4 + 1 → x / 4 ≡ words t RQ / 4 + 1
+  next_word t x w writes next =
+      ap (λ (z : ℕ). z / 4) (sym (word_here words t RQ x) ∙ ap (λ (f : ℕ → ℕ → ℕ). f t RQ) (sym writes)) ∙ next
+
+  ways_by : (kind : StepKind) (r : Rec) (words' : ℕ → ℕ → ℕ) (homes' : Homes) → IsNoted (core_of shape words homes traces) s kind r
+      → Writes s kind words words' → Step (core_of shape words homes traces) (record { seat = s; step = kind }) (core_after shape words' homes' traces s r)
+      → WaysHold words' (put traces s (r ∷ traces s))
+  ways_by (step.TakeTask t) r w h noted writes made =
+      as_made traces s w (put_at words t LOCK (suc s)) r (Took t (val.Task noted.0)) writes noted.2
+      (take_task_ways words traces s ways t (suc s) noted.0)
+  ways_by (step.GiveTask t given stood done) r w h noted writes made =
+      as_made traces s w (put_at words t LOCK 0) r (Gave t (val.Task noted.0) (val.Task given)) writes noted.2
+      (give_task_ways words traces s ways t 0 noted.0 given)
+  ways_by (step.TakeQueue c) r w h noted writes made =
+      as_made traces s w (put_at words c QUEUE_LOCK (suc s)) r (Took c (val.Queue noted.0)) writes noted.2
+      (ways_beside words traces s ways c QUEUE_LOCK (suc s) (Took c (val.Queue noted.0)) (λ e. omega (arith, e)) (λ u way. way) refl)
+  ways_by (step.GiveQueue c given) r w h noted writes made =
+      as_made traces s w (put_at words c QUEUE_LOCK (0)) r (Gave c (val.Queue noted.0) (val.Queue given)) writes noted.2
+      (ways_beside words traces s ways c QUEUE_LOCK (0) (Gave c (val.Queue noted.0) (val.Queue given)) (λ e. omega (arith, e)) (λ u way. way) refl)
+  ways_by (step.TakeWait k) r w h noted writes made =
+      as_made traces s w (put_at words k WAIT_LOCK (suc s)) r (Took k (val.Wait noted.0)) writes noted.2
+      (ways_beside words traces s ways k WAIT_LOCK (suc s) (Took k (val.Wait noted.0)) (λ e. omega (arith, e)) (λ u way. way) refl)
+  ways_by (step.GiveWait k given) r w h noted writes made =
+      as_made traces s w (put_at words k WAIT_LOCK (0)) r (Gave k (val.Wait noted.0) (val.Wait given)) writes noted.2
+      (ways_beside words traces s ways k WAIT_LOCK (0) (Gave k (val.Wait noted.0) (val.Wait given)) (λ e. omega (arith, e)) (λ u way. way) refl)
+  ways_by (step.TakeWorks c) r w h noted writes made =
+      as_made traces s w (put_at words c WORKS_LOCK (suc s)) r (Took c (val.Works noted.0)) writes noted.2
+      (ways_beside words traces s ways c WORKS_LOCK (suc s) (Took c (val.Works noted.0)) (λ e. omega (arith, e)) (λ u way. way) refl)
+  ways_by (step.GiveWorks c given) r w h noted writes made =
+      as_made traces s w (put_at words c WORKS_LOCK (0)) r (Gave c (val.Works noted.0) (val.Works given)) writes noted.2
+      (ways_beside words traces s ways c WORKS_LOCK (0) (Gave c (val.Works noted.0) (val.Works given)) (λ e. omega (arith, e)) (λ u way. way) refl)
+  ways_by (step.BodyOut t) r w h noted writes made =
+      as_made traces s w words r (OutBody t (homes.ended t)) writes noted (ways_still words traces s ways (OutBody t (homes.ended t)) (λ u way. way) refl)
+  ways_by (step.BodyHome t ended) r w h noted writes made =
+      as_made traces s w words r (HomeBody t ended) writes noted (ways_still words traces s ways (HomeBody t ended) (λ u way. way) refl)
+  ways_by (step.StoreRqOn c t) r w h noted writes made =
+      as_made traces s w (put_at words t RQ writes.0) r (Queued t c (words t RQ % 4) (words t RQ / 4)) writes.1 noted
+      (queue_task_ways words traces s ways shape homes moving core c t (words t RQ % 4) writes.0 (next_word t writes.0 w writes.1 (ap (λ (c : Table). c.changes t) made.next_is ∙ put_there (λ u. words u RQ / 4) t (words t RQ / 4 + 1) t refl)) made.possible)
+  ways_by (step.StoreRqOff c t) r w h noted writes made =
+      as_made traces s w (put_at words t RQ writes.0) r (Dequeued t c (words t RQ / 4)) writes.1 noted
+      (dequeue_task_ways words traces s ways shape homes moving core c t writes.0 (next_word t writes.0 w writes.1 (ap (λ (c : Table). c.changes t) made.next_is ∙ put_there (λ u. words u RQ / 4) t (words t RQ / 4 + 1) t refl)) made.possible)
+  ways_by (step.StoreRqMoving c t queue) r w h noted writes made =
+      as_made traces s w (put_at words t RQ writes.0) r (Moved t c (words t RQ / 4)) writes.1 noted
+      (move_task_ways words traces s ways shape homes moving core c t writes.0 queue (next_word t writes.0 w writes.1 (ap (λ (c : Table). c.changes t) made.next_is ∙ put_there (λ u. words u RQ / 4) t (words t RQ / 4 + 1) t refl)) made.possible)
+  ways_by (step.SetBusy c t queue) r w h noted writes made =
+      as_made traces s w (put_at words t BUSY writes.0) r (SetBusy t c (words t BUSY / 2)) writes.1 noted
+      (ways_beside words traces s ways t BUSY writes.0 (SetBusy t c (words t BUSY / 2)) (λ e. omega (arith, e)) (λ u way. way) refl)
+  ways_by (step.ClearBusy t) r w h noted writes made =
+      as_made traces s w (put_at words t BUSY writes.0) r (ClearedBusy t (words t BUSY / 2)) writes.1 noted
+      (ways_beside words traces s ways t BUSY writes.0 (ClearedBusy t (words t BUSY / 2)) (λ e. omega (arith, e)) (λ u way. way) refl)
+  ways_by (step.OwnState t state) r w h noted writes made =
+      as_made traces s w (put_at words t STATE (state.0)) r (StoredOwn t state) writes noted
+      (ways_beside words traces s ways t STATE (state.0) (StoredOwn t state) (λ e. omega (arith, e)) (λ u way. way) refl)
+  ways_by (step.StoreWaking t) r w h noted writes made =
+      as_made traces s w (put_at words t STATE 0x200) r (Claimed t (words t RQ / 4)) writes noted
+      (claim_ways words traces s ways shape homes moving core t (words t RQ / 4) off made.possible)
+  ways_by (step.StoreRunning t) r w h noted writes made =
+      as_made traces s w (put_at words t STATE (0)) r (Released t) writes noted
+      (ways_beside words traces s ways t STATE (0) (Released t) (λ e. omega (arith, e)) (λ u way. way) refl)
+  ways_by (step.LoadState t mask) r w h noted writes made =
+      as_made traces s w words r (LoadedState t mask (record { 0 = words t STATE })) writes noted (ways_still words traces s ways (LoadedState t mask (record { 0 = words t STATE })) (λ u way. way) refl)
+  ways_by (step.LoadRq t) r w h noted writes made =
+      as_made traces s w words r (LoadedRq t (words t RQ % 4) (words t RQ / 4)) writes noted (load_rq_ways words traces s ways t (words t RQ % 4))
+  ways_by (step.LoadBusy t) r w h noted writes made =
+      as_made traces s w words r (LoadedBusy t (is_set (words t BUSY)) (words t BUSY / 2)) writes noted (ways_still words traces s ways (LoadedBusy t (is_set (words t BUSY)) (words t BUSY / 2)) (λ u way. way) refl)
+  ways_by (step.LoadCpu t) r w h noted writes made =
+      as_made traces s w words r (LoadedCpu t (words t CPU)) writes noted (ways_still words traces s ways (LoadedCpu t (words t CPU)) (λ u way. way) refl)
+  ways_by (step.StoreCpu t c) r w h noted writes made =
+      as_made traces s w (put_at words t CPU (c)) r (StoredCpu t c) writes noted
+      (ways_beside words traces s ways t CPU (c) (StoredCpu t c) (λ e. omega (arith, e)) (λ u way. way) refl)
+  ways_by (step.Bump k) r w h noted writes made =
+      as_made traces s w (put_at words k COND ((words k COND + 1) % 2 ^ 64)) r (Bumped k (words k COND)) writes noted
+      (ways_beside words traces s ways k COND ((words k COND + 1) % 2 ^ 64) (Bumped k (words k COND)) (λ e. omega (arith, e)) (λ u way. way) refl)
+  ways_by (step.LoadCond k) r w h noted writes made =
+      as_made traces s w words r (LoadedCond k (words k COND)) writes noted (ways_still words traces s ways (LoadedCond k (words k COND)) (λ u way. way) refl)
+
+pub ways_event : (shape : Shape) (words : ℕ → ℕ → ℕ) (homes : Homes) (traces : ℕ → List Rec) (s : ℕ) (r : Rec)
+    (words' : ℕ → ℕ → ℕ) (homes' : Homes) → IsEvent shape words homes traces s r words' homes'
+    → Holds (core_of shape words homes traces) → MovingHolds words traces → OffHolds words traces → WaysHold words traces
+    → WaysHold words' (put traces s (r ∷ traces s))
+ways_event shape words homes traces s r words' homes' event core moving off ways =
+    ways_by shape words homes traces s core moving off ways event.kind r words' homes' event.noted event.writes event.event

@@ -1,5 +1,5 @@
 -- What is known of the masks of tasks.
-use Rattle.std.specs.Prelude.{ℕ, List}
+use Rattle.std.specs.Prelude.{ℕ, List, Option}
 use Rattle.core_data.specs.declared.values.TaskVal.{TaskVal}
 use Rattle.core_invariant.specs.Shapes.{HoldsOfValues}
 use Rattle.handoff_data.specs.Mask.{HasCpu}
@@ -12,5 +12,8 @@ abbrev pub HasSome : TaskVal → Type 0
 HasSome v = (c : ℕ) × HasCpu v.mask c
 
 -- each task may, by its value at home, and by the one that was taken out
+abbrev pub HaveSome : (ℕ → Option TaskVal) → (ℕ → ℕ → Option TaskVal) → Type 0
+HaveSome home out = HoldsOfValues _ HasSome home out
+
 abbrev pub MasksHold : Homes → (ℕ → List Rec) → Type 0
-MasksHold homes traces = HoldsOfValues _ HasSome homes.task (λ s. task_held (traces s))
+MasksHold homes traces = HaveSome homes.task (λ s. task_held (traces s))

@@ -1,6 +1,7 @@
 pub mod Beside
 pub mod Decode
 pub mod Entries
+pub mod Events
 pub mod Folds
 pub mod Lending
 pub mod Opening
