@@ -1,6 +1,6 @@
 -- Loads keep the rule. Beside it stands what is known of the word found.
 use Rattle.std.proofs.Common.{◌≡◌, ◌≢◌, ℕ, ◌<◌, ◌+◌, refl, sym, ap, subst, ◌∙◌, List, ◌∷◌}
-use Rattle.std.specs.Prelude.{◌/◌, ◌%◌, ◌^◌, true, Option, Some, None, IsSome}
+use Rattle.std.specs.Prelude.{◌/◌, ◌%◌, true, Option, Some, None, IsSome}
 use Rattle.core_data.specs.Table.{put, put_at}
 use Rattle.core_kinds.specs.Steps.{dead}
 use Rattle.core_kinds.specs.Waking.{IsMask}

@@ -1,5 +1,5 @@
 -- Each task may run on some processor: kept by each kind of step.
-use Rattle.std.proofs.Common.{◌≡◌, ◌≢◌, ℕ, ◌<◌, ◌≤◌, inl, inr, refl, sym, ap, subst, ◌∙◌, List, [], ◌∷◌, arith}
+use Rattle.std.proofs.Common.{◌≡◌, ℕ, ◌<◌, ◌≤◌, inl, inr, refl, sym, ap, subst, ◌∙◌, List, [], ◌∷◌, arith}
 use Rattle.std.specs.Prelude.{◌↔◌, ◌&&◌, Bool, true, false, nat_lt, Option, Some, None, unwrap_or, IsSome, if◌then◌else◌}
 use Rattle.std.proofs.lemmas.Bool.{cases_eq}
 use Rattle.core_data.specs.Queue.{Queue}
@@ -8,7 +8,6 @@ use Rattle.core_data.specs.declared.values.TaskVal.{TaskVal}
 use Rattle.core_data.specs.declared.values.WaitEntry.{WaitEntry}
 use Rattle.core_gives.specs.Queues.{give_up_if, gives_up}
 use Rattle.core_gives.specs.Waits.{give_by, walked_if, is_walk}
-use Rattle.core_invariant.specs.Shapes.{HoldsOfValues}
 use Rattle.core_kinds.specs.Locks.{IsKept, unseen}
 use Rattle.core_law.specs.Steps.{May, after}
 use Rattle.core_law.specs.declared.step.StepKind.{StepKind}

@@ -1,18 +1,18 @@
 -- A current task that its seat hasn't taken off its queue has the state that the seat stored last, or was woken: kept by
 -- each kind of step.
 use Rattle.std.proofs.Common.{◌≡◌, ◌≢◌, ℕ, suc, inl, inr, refl, sym, ap, subst, ◌∙◌, List, [], ◌∷◌, arith}
-use Rattle.std.specs.Prelude.{◌+◌, ◌/◌, ◌%◌, ◌^◌, ◌⊎◌, true, false, Option, Some, None, unwrap_or}
+use Rattle.std.specs.Prelude.{◌+◌, ◌/◌, ◌%◌, ◌^◌, true, Option, Some, None, unwrap_or}
 use Rattle.std.proofs.lemmas.Bool.{cases_eq}
 use Rattle.core_data.specs.Table.{put, put_at}
 use Rattle.core_data.specs.Queue.{Queue}
 use Rattle.core_gives.specs.Queues.{gives_up}
 use Rattle.core_invariant.specs.Invariant.{Holds}
-use Rattle.core_kinds.specs.Steps.{running, dead, is_sleep, IsRunnable}
+use Rattle.core_kinds.specs.Steps.{running, dead, IsRunnable}
 use Rattle.core_kinds.specs.Waking.{MayOwnState, MayClaim, MayRelease}
 use Rattle.core_law.specs.Steps.{May}
 use Rattle.core_law.specs.declared.step.StepKind.{StepKind}
 use Rattle.core_law.specs.declared.step.StepKind.TheVariants as step
-use Rattle.core_stores.proofs.Columns.{put_there, put_other}
+use Rattle.core_stores.proofs.Columns.{put_there}
 use Rattle.handoff_data.specs.declared.shape.Shape.{Shape}
 use Rattle.handoff_data.specs.declared.state.State.{State}
 use Rattle.word_rule.specs.Own.{OwnHolds, IsStill, last_own}
@@ -21,7 +21,7 @@ use Rattle.word_steps.proofs.Puts.{word_here, word_apart, word_beside, fold_here
 use Rattle.word_steps.specs.Beside.{CurrentHolds}
 use Rattle.word_steps.specs.Decode.{Homes, core_of}
 use Rattle.word_steps.specs.Events.{IsEvent, IsNoted, Writes}
-use Rattle.word_steps.specs.Folds.{current_task, stays_queued, is_matched_by}
+use Rattle.word_steps.specs.Folds.{current_task, stays_queued}
 use Rattle.word_steps.specs.Records.{Rec, Took, Gave, OutBody, HomeBody, Queued, Dequeued, Moved, SetBusy, ClearedBusy, StoredOwn, Claimed, Released, LoadedState, LoadedRq, LoadedBusy, LoadedCpu, StoredCpu, Bumped, LoadedCond}
 use Rattle.word_steps.specs.Words.{LOCK, STATE, RQ, BUSY, CPU, QUEUE_LOCK, WORKS_LOCK, WAIT_LOCK, COND, is_set}
 use Rattle.word_steps.specs.declared.val.Val.TheVariants as val
