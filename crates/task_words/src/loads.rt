@@ -33,7 +33,7 @@ pub fn load_state<B: Kept>(wk: &Wk<B>, pass: &mut Pass, t: TaskNo) -> State
     ensures trace { pass.new.trace ≡ LoadedState t None result ∷ pass.old.trace }
     ensures own { current_task pass.old.seat pass.old.trace ≡ Some t → stays_queued pass.old.trace ≡ true → IsOfCurrent result }
     ensures still { (stored : State) → current_task pass.old.seat pass.old.trace ≡ Some t → stays_queued pass.old.trace ≡ true → last_own pass.old.trace t ≡ Some stored → IsStill stored result }
-    ensures dead { current_task pass.old.seat pass.old.trace ≡ Some t → stays_queued pass.old.trace ≡ true → last_own pass.old.trace t ≡ Some dead → result ≡ dead }
+    ensures died { current_task pass.old.seat pass.old.trace ≡ Some t → stays_queued pass.old.trace ≡ true → last_own pass.old.trace t ≡ Some dead → result ≡ dead }
 {
     State(load::<B, LoadState>(&wk.words, &mut pass.token, t) as u16)
 }
