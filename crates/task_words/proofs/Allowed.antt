@@ -18,7 +18,7 @@ use Rattle.task_words.specs.States.{IsOwnStore}
 use Rattle.task_words.specs.Queues.{MayQueueHere, MayMoveHere}
 use Rattle.word_rule.proofs.Uses.{gives_same, gives_put, gives_woken, gives_moved, gives_picked, gives_back, gives_asleep, IsPushed}
 use Rattle.word_rule.proofs.Possible.{value_of}
-use Rattle.word_rule.specs.May.{MayGiveQueueVal, MayGiveTaskVal, MaySetBusyWord, MayQueueWord, MayMoveWord, MayOwnWord, next_busy, next_rq}
+use Rattle.word_rule.specs.May.{MayGiveQueueVal, MayGiveTaskVal, MaySetBusyWord, MayQueueWord, MayMoveWord, MayOwnWord, next_busy, next_rq, queued_next}
 use Rattle.word_rule.specs.Standing.{may_run}
 use Rattle.word_rule.specs.Told.{TakenQueue}
 use Rattle.word_steps.specs.Folds.{put_both, has_put, current_task, stays_queued, queue_held, number_read, task_to_clear, task_held, ended_known}
@@ -236,8 +236,10 @@ cur_may shape s trace now t x h is none clear room =
       clear = clear;
     }
 
-pub here_may : (s : ℕ) (trace : List Rec) (c t x : ℕ) → MayQueueHere trace c t → x / 4 < 2 ^ 60 → MayQueueWord s trace t x (next_rq x 1)
-here_may s trace c t x h room = record { after = refl; room = room; locked = h.locked; cpu = c; read = h.read; queue = h.queue; ready = h.ready }
+pub here_may : (s : ℕ) (trace : List Rec) (c t m x : ℕ) → MayQueueHere trace c t → number_read trace t ≡ Some m → m < 2 ^ 60
+    → MayQueueWord s trace t x (queued_next m)
+here_may s trace c t m x h known room =
+    record { number = m; known = known; room = room; after = refl; locked = h.locked; cpu = c; read = h.read; queue = h.queue; ready = h.ready }
 
 pub move_may : (s : ℕ) (trace : List Rec) (c t x : ℕ) → MayMoveHere s trace c t → x / 4 < 2 ^ 60 → MayMoveWord s trace t x (next_rq x 2)
 move_may s trace c t x h room = let out = value_of (queue_held trace c) h.queue in record {

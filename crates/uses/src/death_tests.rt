@@ -68,7 +68,8 @@ fn advance<R: Wait>(rt: &R, wk: &Wk<Turns>, pass: &mut Pass, t: TaskNo) -> bool
         return false;
     }
     if ended {
-        return die(rt, wk, pass, t);
+        die(rt, wk, pass, t);
+        return true;
     }
     put_back(rt, wk, pass, t)
 }

@@ -116,7 +116,11 @@ fn end<R: Wait>(rt: &R, wk: &Wk<Turns>, pass: &mut Pass) -> bool
     let Some(t) = pick(rt, wk, pass) else {
         return false;
     };
-    run_turn(wk, pass, t) && pass.spare() >= 12 && die(rt, wk, pass, t)
+    if !run_turn(wk, pass, t) || pass.spare() < 12 {
+        return false;
+    }
+    die(rt, wk, pass, t);
+    true
 }
 
 // The task 1, about to sleep, is woken while it runs, and so runs on: to its end, and dies.
@@ -141,7 +145,11 @@ fn wake_running<R: Wait>(rt: &R, wk: &Wk<Turns>, pass: &mut Pass, waker: &mut Pa
     if pass.spare() < 12 || switch_out(rt, wk, pass, t) {
         return false;
     }
-    run_turn(wk, pass, t) && pass.spare() >= 12 && die(rt, wk, pass, t)
+    if !run_turn(wk, pass, t) || pass.spare() < 12 {
+        return false;
+    }
+    die(rt, wk, pass, t);
+    true
 }
 
 // A dead task isn't woken.

@@ -7,7 +7,7 @@ ghost use Rattle.task_words.specs.Needs.{need_step, need_wake};
 ghost use Rattle.task_words.specs.Views.{IsOf, IsSameSeat};
 ghost use Rattle.word_rule.specs.May.{number_of};
 ghost use Rattle.word_steps.specs.Folds.{body_held, current_task, is_claimed, is_moving};
-ghost use Rattle.word_steps.specs.Folds.{has_stored, last_reads, queue_held, task_held};
+ghost use Rattle.word_steps.specs.Folds.{has_stored, last_reads, number_read, queue_held, task_held};
 ghost use Rattle.word_steps.specs.Folds.{task_to_clear, wait_held, works_held};
 
 use core_data::Rq;
@@ -63,6 +63,7 @@ fn take_off<B: Kept, R: Wait>(rt: &R, wk: &Wk<B>, pass: &mut Pass, t: TaskNo) ->
     ensures cleared { current_task pass.old.seat pass.old.trace ≡ None → task_to_clear pass.new.seat pass.new.trace ≡ task_to_clear pass.old.seat pass.old.trace }
     ensures claimed { is_claimed pass.new.trace ≡ is_claimed pass.old.trace }
     ensures moving { IfSome result (λ m. is_moving pass.new.trace t ≡ true) }
+    ensures number { IfSome result (λ m. number_read pass.new.trace t ≡ Some (m + 1)) }
     ensures room { IfSome result (λ m. m < 2 ^ 60) }
     ensures unstored { IfNone result (has_stored pass.new.trace ≡ has_stored pass.old.trace) }
 {
@@ -86,6 +87,7 @@ fn queue_moved<B: Kept, R: Wait>(rt: &R, wk: &Wk<B>, pass: &mut Pass, t: TaskNo,
     requires locked { IsSome (task_held pass.old.trace t) }
     requires cpu { (last_reads pass.old.trace t).cpu ≡ Some to }
     requires moving { is_moving pass.old.trace t ≡ true }
+    requires number { number_read pass.old.trace t ≡ Some m }
     requires free { queue_held pass.old.trace to ≡ None }
     requires spare { need_step ≤ pass.old.turn.spare }
     ensures same { IsSameSeat pass.old pass.new }

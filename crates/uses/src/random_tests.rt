@@ -99,7 +99,11 @@ fn cycle<R: Wait>(rt: &R, wk: &Wk<Turns>, pass: &mut Pass, random: &mut u64) -> 
         return true;
     };
     if run_turn(wk, pass, t) {
-        return pass.spare() >= 12 && die(rt, wk, pass, t);
+        if pass.spare() < 12 {
+            return false;
+        }
+        die(rt, wk, pass, t);
+        return true;
     }
     leave(rt, wk, pass, t, random)
 }

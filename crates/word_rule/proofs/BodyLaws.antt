@@ -9,7 +9,10 @@ use Rattle.handoff_data.specs.declared.mask.CpuMask.{CpuMask}
 use Rattle.handoff_data.specs.declared.shape.Shape.{Shape}
 use Rattle.word_rule.proofs.BodiesKept.{known_start, body_out_known, body_home_known}
 use Rattle.word_rule.proofs.GrownKept.{grown_start}
+use Rattle.word_rule.proofs.MasksKept.{masks_start}
 use Rattle.word_rule.proofs.OffKept.{off_start}
+use Rattle.word_rule.proofs.OwnKept.{own_start}
+use Rattle.word_rule.proofs.WaysKept.{ways_start}
 use Rattle.word_rule.proofs.PossibleGives.{take_body_possible, return_body_possible}
 use Rattle.word_rule.proofs.Quiet.{still_kept}
 use Rattle.word_rule.proofs.RunsKept.{runs_start}
@@ -125,4 +128,7 @@ start_law shape mask ended is_shape all =
       off = off_start (first_words shape);
       grown = grown_start (first_words shape);
       known = known_start;
+      own = own_start (first_words shape);
+      ways = ways_start (first_words shape);
+      masks = masks_start shape mask (record (first_homes shape mask) { ended = ended }) refl is_shape.some_cpu all;
     }

@@ -1,7 +1,8 @@
 -- Loads keep the rule. Beside it stands what is known of the word found.
 use Rattle.std.proofs.Common.{◌≡◌, ◌≢◌, ℕ, ◌<◌, ◌+◌, refl, sym, ap, subst, ◌∙◌, List, ◌∷◌}
-use Rattle.std.specs.Prelude.{◌/◌, ◌%◌, ◌^◌, true, Option, Some, None, IsSome}
+use Rattle.std.specs.Prelude.{◌/◌, ◌%◌, true, Option, Some, None, IsSome}
 use Rattle.core_data.specs.Table.{put, put_at}
+use Rattle.core_kinds.specs.Steps.{dead}
 use Rattle.core_kinds.specs.Waking.{IsMask}
 use Rattle.core_law.proofs.Reached.{Holds-step}
 use Rattle.handoff_data.specs.declared.shape.Shape.{Shape}
@@ -9,10 +10,12 @@ use Rattle.handoff_data.specs.declared.state.State.{State}
 use Rattle.word_rule.proofs.BodiesKept.{known_still}
 use Rattle.word_rule.proofs.GrownKept.{grown_still, load_rq_grown}
 use Rattle.word_rule.proofs.OffKept.{off_still, load_rq_off}
+use Rattle.word_rule.proofs.OwnKept.{stays_dead}
 use Rattle.word_rule.proofs.Quiet.{IsQuiet, IsSteady, IsOutside, kept_after, still_kept}
 use Rattle.word_rule.proofs.RunsKept.{runs_still, load_state_runs}
 use Rattle.word_rule.proofs.StandingKept.{standing_still}
 use Rattle.word_rule.specs.Kept.{Kept}
+use Rattle.word_rule.specs.Own.{StateTold}
 use Rattle.word_rule.specs.Standing.{may_run}
 use Rattle.word_steps.proofs.CurrentKept.{current_still}
 use Rattle.word_steps.proofs.EndedKept.{ended_still}
@@ -95,10 +98,19 @@ module _ (shape : Shape) (words : ℕ → ℕ → ℕ) (homes : Homes) (traces :
       → IsEvent shape words homes traces s (LoadedState n None (record { 0 = words n STATE })) (put_at words n STATE y) homes
   load_state_is_event task same = event_found STATE (state_note None) same (state_event None task tt)
 
+  -- what is known of the state that is there
+  state_told : StateTold s (traces s) n (words n STATE)
+  state_told = record {
+    narrow = kept.states n;
+    own = λ is on. kept.holds.places.current s n is (kept.current s n is on);
+    still = λ stored is on last. kept.own s n stored is on last;
+    dead = λ is on last. stays_dead (record { 0 = words n STATE }) (kept.own s n dead is on last);
+  }
+
   pub load_state_law : n < shape.tasks → y ≡ words n STATE
       → Kept shape (put_at words n STATE y) homes
-      (put traces s (LoadedState n None (record { 0 = words n STATE }) ∷ traces s)) × (words n STATE < 2 ^ 16)
-  load_state_law task same = (as_found STATE (state_note None) same (state_kept None task tt), kept.states n)
+      (put traces s (LoadedState n None (record { 0 = words n STATE }) ∷ traces s)) × StateTold s (traces s) n (words n STATE)
+  load_state_law task same = (as_found STATE (state_note None) same (state_kept None task tt), state_told)
 
   abbrev rq_note : Rec
   rq_note = LoadedRq n (words n RQ % 4) (words n RQ / 4)
@@ -230,10 +242,10 @@ pub load_masked_law : (mask : State) → IsMask (Some mask)
     → (shape : Shape) (words : ℕ → ℕ → ℕ) (homes : Homes) (traces : ℕ → List Rec) (s n y : ℕ)
     → Kept shape words homes traces → s < shape.cpus + shape.agents → n < shape.tasks → y ≡ words n STATE
     → Kept shape (put_at words n STATE y) homes
-    (put traces s (LoadedState n (Some mask) (record { 0 = words n STATE }) ∷ traces s)) × (words n STATE < 2 ^ 16)
+    (put traces s (LoadedState n (Some mask) (record { 0 = words n STATE }) ∷ traces s)) × StateTold s (traces s) n (words n STATE)
 load_masked_law mask allowed shape words homes traces s n y kept seat task same = (
   as_found shape words homes traces s n y kept seat STATE
       (state_note shape words homes traces s n y kept seat (Some mask)) same
       (state_kept shape words homes traces s n y kept seat (Some mask) task allowed),
-  kept.states n,
+  state_told shape words homes traces s n y kept seat,
 )

@@ -8,9 +8,12 @@ use Rattle.core_law.proofs.Reached.{Holds-step, reached_step}
 use Rattle.handoff_data.specs.declared.shape.Shape.{Shape}
 use Rattle.word_rule.proofs.BodiesKept.{known_still}
 use Rattle.word_rule.proofs.GrownKept.{grown_beside, grown_still}
+use Rattle.word_rule.proofs.MasksKept.{masks_event}
 use Rattle.word_rule.proofs.OffKept.{off_beside, off_still}
+use Rattle.word_rule.proofs.OwnKept.{own_event}
 use Rattle.word_rule.proofs.RunsKept.{runs_still}
 use Rattle.word_rule.proofs.StandingKept.{standing_beside, standing_still}
+use Rattle.word_rule.proofs.WaysKept.{ways_event}
 use Rattle.word_rule.specs.Bodies.{BodiesKnown}
 use Rattle.word_rule.specs.Kept.{Kept}
 use Rattle.word_rule.specs.Standing.{StandingHolds, RunsHold, OffHolds, GrownHolds, standing, may_run}
@@ -146,6 +149,9 @@ module _ (shape : Shape) (words : ℕ → ℕ → ℕ) (homes : Homes) (traces :
         off = touched.off;
         grown = touched.grown;
         known = touched.known;
+        own = own_event shape words homes traces s r words' homes' event kept.holds kept.current kept.own;
+        ways = ways_event shape words homes traces s r words' homes' event kept.holds kept.moving kept.off kept.ways;
+        masks = masks_event shape words homes traces s r words' homes' event kept.masks;
       }
 
 module _ (shape : Shape) (words : ℕ → ℕ → ℕ) (homes homes' : Homes) (traces : ℕ → List Rec) (s : ℕ) where
