@@ -24,4 +24,3 @@ module _ (all turn : List Entry) (e : Entry) (tied : all ≡ told_before all tur
 -- with no entry all is told
 pub told_all : (all : List Entry) → told_before all [] ≡ all
 told_all all = ap (λ (z : List Entry). told_before z []) (sym (append-nil all)) ∙ told_front all []
-
