@@ -4,7 +4,8 @@ use Rattle.core_data.specs.Table.{Table}
 use Rattle.core_invariant.specs.Invariant.{Holds}
 use Rattle.core_law.proofs.SameWords.{same-take_task, same-give_task, same-take_queue, same-give_queue, same-take_wait, same-give_wait, same-take_works, same-give_works, same-body_out, same-body_home, same-load_state, same-load_rq, same-load_busy, same-load_cpu, same-bump, same-load_cond}
 use Rattle.core_law.proofs.Stores.{ends-queue_task, ends-dequeue_task, ends-move_task, ends-set_busy, ends-clear_busy, ends-own_state, ends-claim, ends-release, ends-store_cpu, stores-own_state, stores-claim, stores-release, dead-own_state, dead-claim, dead-release}
-use Rattle.core_law.specs.StepLaws.{KeepsTheDead, StoresItsStates, EndsReads}
+use Rattle.core_law.proofs.Tests.{tests-give_queue, tests-give_wait, tests-set_busy, tests-own_state, tests-load_state, tests-load_rq, tests-load_busy, tests-load_cond}
+use Rattle.core_law.specs.StepLaws.{KeepsTests, KeepsTheDead, StoresItsStates, EndsReads}
 use Rattle.core_law.specs.Steps.{May, after}
 use Rattle.core_law.specs.declared.step.StepKind.{StepKind}
 use Rattle.core_law.specs.declared.step.StepKind.TheVariants.{TakeTask, GiveTask, TakeQueue, GiveQueue, TakeWait, GiveWait, TakeWorks, GiveWorks, BodyOut, BodyHome, StoreRqOn, StoreRqOff, StoreRqMoving, SetBusy, ClearBusy, OwnState, StoreWaking, StoreRunning, LoadState, LoadRq, LoadBusy, LoadCpu, StoreCpu, Bump, LoadCond}
@@ -89,3 +90,30 @@ Dead-after core s (LoadCpu t) holds may = λ u dead other. (same-load_cpu core s
 Dead-after core s (StoreCpu t c) holds may = λ u dead other. dead
 Dead-after core s (Bump k) holds may = λ u dead other. (same-bump core s k u).state ∙ dead
 Dead-after core s (LoadCond k) holds may = λ u dead other. (same-load_cond core s k u).state ∙ dead
+
+pub Tests-after : (core : Table) (s : ℕ) (step : StepKind) → May core s step → KeepsTests s core (after core s step)
+Tests-after core s (TakeTask t) may = λ x u l. inl refl
+Tests-after core s (GiveTask t val stood done) may = λ x u l. inl refl
+Tests-after core s (TakeQueue c) may = λ x u l. inl refl
+Tests-after core s (GiveQueue c val) may = tests-give_queue core s c val
+Tests-after core s (TakeWait k) may = λ x u l. inl refl
+Tests-after core s (GiveWait k val) may = tests-give_wait core s k val
+Tests-after core s (TakeWorks c) may = λ x u l. inl refl
+Tests-after core s (GiveWorks c val) may = λ x u l. inl refl
+Tests-after core s (BodyOut t) may = λ x u l. inl refl
+Tests-after core s (BodyHome t ended) may = λ x u l. inl refl
+Tests-after core s (StoreRqOn c t) may = λ x u l. inl refl
+Tests-after core s (StoreRqOff c t) may = λ x u l. inl refl
+Tests-after core s (StoreRqMoving c t val) may = λ x u l. inl refl
+Tests-after core s (SetBusy c t val) may = tests-set_busy core s c t
+Tests-after core s (ClearBusy t) may = λ x u l. inl refl
+Tests-after core s (OwnState t state) may = tests-own_state core s t state may
+Tests-after core s (StoreWaking t) may = λ x u l. inl refl
+Tests-after core s (StoreRunning t) may = λ x u l. inl refl
+Tests-after core s (LoadState t mask) may = tests-load_state core s t mask
+Tests-after core s (LoadRq t) may = tests-load_rq core s t
+Tests-after core s (LoadBusy t) may = tests-load_busy core s t
+Tests-after core s (LoadCpu t) may = λ x u l. inl refl
+Tests-after core s (StoreCpu t c) may = λ x u l. inl refl
+Tests-after core s (Bump k) may = λ x u l. inl refl
+Tests-after core s (LoadCond k) may = tests-load_cond core s k

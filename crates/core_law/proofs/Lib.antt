@@ -5,4 +5,5 @@ pub mod Reached
 pub mod SameWords
 pub mod StepLaws
 pub mod Stores
+pub mod Tests
 pub mod Witness

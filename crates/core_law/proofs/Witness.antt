@@ -1,24 +1,22 @@
 -- A machine can come to a core with a sleeper to wake: task 0 of the smallest machine sleeps at condition 0, and then the
 -- condition is raised.
-use Rattle.std.proofs.Common.{◌≡◌, ◌≢◌, ℕ, ◌<◌, ◌⊎◌, inl, inr, List, [], ◌∷◌, true, false, Some, None, refl, sym, ap, ◌∙◌, subst, arith}
-use Rattle.std.specs.Prelude.{◌↔◌, ◌^◌, replicate, bit_and}
+use Rattle.std.proofs.Common.{◌≡◌, ◌<◌, inl, inr, List, [], ◌∷◌, true, false, Some, None, refl, sym, subst, arith}
+use Rattle.std.specs.Prelude.{◌^◌, replicate}
 use Rattle.std.proofs.lemmas.Bool.Decides.{nat_tests}
 use Rattle.core_data.specs.Entries.{has_entry}
 use Rattle.core_data.specs.Opening.{IsStart, first_task, first_cpu, first_cond, first_seat}
 use Rattle.core_data.specs.Queue.{Queue}
 use Rattle.core_data.specs.Table.{Table, table_of}
 use Rattle.core_data.specs.declared.values.WaitEntry.{WaitEntry}
-use Rattle.core_gives.specs.Waits.{MayGiveWait, IsPutIn, IsTakenOut, give_wait}
+use Rattle.core_gives.specs.Waits.{MayGiveWait, IsPutIn, give_wait}
 use Rattle.core_kinds.specs.Locks.{MayTakeTask, take_task, MayTakeQueue, take_queue, MayTakeWait, take_wait}
 use Rattle.core_kinds.specs.Running.{MayQueue, queue_task, MayDequeue, dequeue_task, MaySetBusy, set_busy}
 use Rattle.core_kinds.specs.Waking.{MayOwnState, own_state, MayLoadState, load_state, MayBump, bump, load_cond}
 use Rattle.core_law.specs.Laws.{HasSleeperToWake}
 use Rattle.core_law.specs.Reached.{IsReached}
 use Rattle.core_law.specs.declared.event.Event.{Event}
-use Rattle.core_law.specs.declared.step.StepKind.{StepKind}
 use Rattle.core_law.specs.declared.step.StepKind.TheVariants.{TakeTask, TakeQueue, StoreRqOn, SetBusy, TakeWait, OwnState, GiveWait, LoadCond, LoadState, StoreRqOff, Bump}
 use Rattle.handoff_data.proofs.Bits.{bits_all}
-use Rattle.handoff_data.specs.Mask.{HasCpu}
 use Rattle.handoff_data.specs.declared.mask.CpuMask.{CpuMask}
 use Rattle.handoff_data.specs.declared.shape.Shape.{Shape}
 use Rattle.handoff_data.specs.declared.state.State.{State}

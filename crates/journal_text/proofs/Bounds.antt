@@ -1,5 +1,5 @@
 -- What a text says is bounded by its bytes.
-use Rattle.std.proofs.Common.{◌≡◌, ◌==◌, ℕ, ◌+◌, ◌-◌, ◌<◌, ◌≤◌, ◌⊎◌, Bool, true, false, nat_lt, nat_le, List, [], ◌∷◌, ◌++◌, Option, Some, None, Result, Ok, Err, length, ap, sym, ◌∙◌, refl, arith, if◌then◌else◌, length-append, take, inl, inr, drop}
+use Rattle.std.proofs.Common.{◌≡◌, ◌==◌, ℕ, ◌+◌, ◌-◌, ◌<◌, ◌≤◌, Bool, true, false, nat_lt, nat_le, List, [], ◌∷◌, Option, Some, None, Result, Ok, Err, length, ap, ◌∙◌, refl, arith, if◌then◌else◌, length-append, take, inl, inr, drop}
 use Rattle.std.specs.List.{slice_split, onto_first}
 use Rattle.std.proofs.lemmas.Bool.Decides.{nat_tests}
 use Rattle.std.proofs.lemmas.Bool.{cases_Bool}
@@ -16,17 +16,17 @@ use Rattle.journal_text.specs.Entries.{entry_after}
 use Rattle.journal_text.specs.Fields.{◌>>=◌, gap_len, word_len, one_of}
 use Rattle.journal_text.specs.Headings.{heading_after}
 use Rattle.journal_text.specs.Keywords.{keyword_of}
-use Rattle.journal_text.specs.Lines.{Progress, line_after, content_after, content_len, words_after, words_at, body_after, body_by, with_said, with_entry, closed, is_next, is_last}
+use Rattle.journal_text.specs.Lines.{Progress, line_after, content_len, words_after, words_at, body_after, body_by, with_said, with_entry, closed, is_next, is_last}
 use Rattle.journal_text.specs.Text.{is_feed, byte_limit, blank_progress, entries_in, entry_count, history_at, history_of, last_of, lines_from, parts_from, reading, then_on}
 
 -- ---- answers, taken apart
 
-record Goes (o : Option Progress) (on : Progress → Result History ℕ) (j : History) : Type 0 where
-  next : Progress
-  after : o ≡ Some next
-  says : on next ≡ Ok j
+pub record Goes (o : Option Progress) (on : Progress → Result History ℕ) (j : History) : Type 0 where
+  pub next : Progress
+  pub after : o ≡ Some next
+  pub says : on next ≡ Ok j
 
-then_ok : (line : ℕ) (o : Option Progress) (on : Progress → Result History ℕ) (j : History) → then_on line o on ≡ Ok j → Goes o on j
+pub then_ok : (line : ℕ) (o : Option Progress) (on : Progress → Result History ℕ) (j : History) → then_on line o on ≡ Ok j → Goes o on j
 then_ok line None on j is = absurd cc
 then_ok line (Some q) on j is = record { next = q; after = refl; says = is }
 
@@ -118,7 +118,7 @@ unfolding history_of
 size_of p line j is = at_size p.heading.stage p line j is
 
 -- how many bytes the lines have, each with one behind it
-abbrev total : List (List ℕ) → ℕ
+abbrev pub total : List (List ℕ) → ℕ
 total [] = 0
 total (text ∷ texts) = length text + 1 + total texts
 
@@ -165,7 +165,7 @@ total_first : (x : ℕ) (texts : List (List ℕ)) → 0 < length texts → total
 total_first x [] some = absurd (omega arith)
 total_first x (text ∷ texts) some = omega arith
 
-total_split : (bytes : List ℕ) → total (slice_split is_feed bytes) ≡ length bytes + 1
+pub total_split : (bytes : List ℕ) → total (slice_split is_feed bytes) ≡ length bytes + 1
 total_split [] = refl
 total_split (b ∷ bytes) =
     elim (cases_Bool (is_feed b)) [

@@ -36,22 +36,22 @@ bind_same None f g same = refl
 bind_same (Some x) f g same = same x
 
 -- Where both steps answer.
-record Steps {A B : Type 0} (o : Option A) (f : A → Option B) (y : B) : Type 0 where
-  between : A
-  first : o ≡ Some between
-  second : f between ≡ Some y
+pub record Steps {A B : Type 0} (o : Option A) (f : A → Option B) (y : B) : Type 0 where
+  pub between : A
+  pub first : o ≡ Some between
+  pub second : f between ≡ Some y
 
-bind_some : {A B : Type 0} (o : Option A) (f : A → Option B) (y : B) → (o >>= f) ≡ Some y → Steps o f y
+pub bind_some : {A B : Type 0} (o : Option A) (f : A → Option B) (y : B) → (o >>= f) ≡ Some y → Steps o f y
 bind_some None f y e = absurd (cc)
 bind_some (Some x) f y e = record { between = x; first = refl; second = e }
 
-run-append : (p : Progress) (xs ys : List (List ℕ)) → run p (xs ++ ys) ≡ (run p xs >>= λ q. run q ys)
+pub run-append : (p : Progress) (xs ys : List (List ℕ)) → run p (xs ++ ys) ≡ (run p xs >>= λ q. run q ys)
 run-append p [] ys = refl
 run-append p (x ∷ xs) ys =
     bind_same (line_after p x) _ _ (λ q. run-append q xs ys) ∙ sym (bind_assoc (line_after p x) (λ q. run q xs) (λ q. run q ys))
 
 -- one run after another
-run_on : (p q : Progress) (xs ys : List (List ℕ)) → run p xs ≡ Some q → run p (xs ++ ys) ≡ run q ys
+pub run_on : (p q : Progress) (xs ys : List (List ℕ)) → run p xs ≡ Some q → run p (xs ++ ys) ≡ run q ys
 run_on p q xs ys e = run-append p xs ys ∙ ap (λ o. o >>= λ q. run q ys) e
 
 no_feed : (b : ℕ) → is_plain b ≡ true → is_feed b ≡ false

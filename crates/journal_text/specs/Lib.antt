@@ -1,8 +1,10 @@
 pub mod Entries
 pub mod Fields
+pub mod Freedoms
 pub mod Headings
 pub mod Keywords
 pub mod Lines
 pub mod Readable
+pub mod Refusals
 pub mod Spelling
 pub mod Text

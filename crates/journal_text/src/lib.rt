@@ -10,7 +10,11 @@ mod law;
 mod reading;
 mod writing;
 
-pub use law::{texts_are_bounded, written_is_read};
+pub use law::{
+    blank_lines_are_free, blanks_are_free, freedoms_change_nothing, leading_zeros_are_free,
+    mask_order_is_free, refused_lines_are_final, returns_are_free, texts_are_bounded,
+    written_is_read,
+};
 pub use reading::{JournalError, TEXT_LIMIT, read_journal};
 pub use writing::write_journal;
 

@@ -204,3 +204,26 @@ fn first_lines_and_last_ones_have_their_places(rt: HostRuntime) -> Result<(), Fa
     }
     Ok(())
 }
+
+// Two texts that differ by one freedom alone say the same.
+#[test]
+fn one_freedom_changes_nothing(rt: HostRuntime) -> Result<(), Fail> {
+    let pairs = [
+        ("wake 0 1", "wake 0 \t1"),
+        ("wake 0 1", "wake 0 1\r"),
+        ("wake 0 1", "wake 0 1\n \t"),
+        ("wake 0 1", "wake 0 01"),
+        ("mask 0 1 3,4", "mask 0 1 3,04"),
+        ("mask 0 1 3,4,5", "mask 0 1 4,3,5"),
+    ];
+    for (plain, free) in pairs {
+        let text = with_line(&rt, plain)?;
+        let other = with_line(&rt, free)?;
+        assert_eq!(rt; refused_line(&rt, other.as_str())?, 0, "{free}");
+        assert_eq!(rt;
+            rewritten(&rt, other.as_str())?.as_str(),
+            rewritten(&rt, text.as_str())?.as_str()
+        );
+    }
+    Ok(())
+}

@@ -2,7 +2,7 @@
 use Rattle.std.specs.Prelude.{ℕ, List, Bool}
 use Rattle.atomic_table.specs.Table.{State}
 use Rattle.core_data.specs.Table.{Table}
-use Rattle.core_law.specs.Laws.{OneRunAtATime, StandsOnce, WakesQueueAtMostOnce, NoLostWake, journals_of}
+use Rattle.core_law.specs.Laws.{OneRunAtATime, StandsOnce, WakesQueueAtMostOnce, NoLostWake, SleepersWait, SleepsOnItsProcessor, journals_of}
 use Rattle.core_law.specs.Reached.{IsReached}
 use Rattle.word_steps.specs.Decode.{core_of}
 use Rattle.word_steps.specs.Words.{words_of}
@@ -23,6 +23,8 @@ core_shown lasting ended key state ruled =
 pub record LawsHold (core : Table) : Type 0 where
   pub reached : IsReached core
   pub no_lost_wake : NoLostWake core
+  pub sleepers_wait : SleepersWait core
+  pub sleeps_on_its_processor : SleepsOnItsProcessor core
   pub one_run_at_a_time : OneRunAtATime core
   pub stands_once : StandsOnce core
   pub wakes_queue_at_most_once : WakesQueueAtMostOnce (journals_of core)

@@ -13,7 +13,7 @@ use Rattle.task_words.specs.contracts.guards.WorksGuard as works_guard
 use Rattle.task_words.specs.contracts.guards.WaitGuard as wait_guard
 use Rattle.word_steps.specs.contracts.boxes.TaskBox as task_box
 use Rattle.word_steps.specs.contracts.boxes.QueueBox as queue_box
-use Rattle.word_steps.specs.contracts.boxes.WorksBox as works_box
+use Rattle.word_steps.specs.contracts.works.WorksBox as works_box
 use Rattle.word_steps.specs.contracts.wait.WaitQueue as wait_queue
 
 module _ (B : RattleType) where

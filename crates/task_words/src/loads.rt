@@ -1,7 +1,10 @@
 //! Loads.
-ghost use Rattle.std.specs.Prelude.{◌≡◌, ◌≢◌, ◌<◌, ◌∷◌, true, None, IsSome};
+ghost use Rattle.std.specs.Prelude.{◌≡◌, ◌≢◌, ◌<◌, ◌∷◌, true, None, Some, IsSome};
 ghost use Rattle.task_words.specs.Views.{IsOf, IsSame};
-ghost use Rattle.word_steps.specs.Folds.{task_held, is_matched_by};
+ghost use Rattle.core_kinds.specs.Steps.{dead};
+ghost use Rattle.handoff_data.specs.declared.state.State.{State};
+ghost use Rattle.word_rule.specs.Own.{IsOfCurrent, IsStill, last_own};
+ghost use Rattle.word_steps.specs.Folds.{task_held, is_matched_by, current_task, stays_queued};
 ghost use Rattle.word_steps.specs.Records.{LoadedState, LoadedRq, LoadedBusy, LoadedCpu};
 
 use crate::pass::Pass;
@@ -20,12 +23,17 @@ pub struct BusyWord {
     pub n: u64,
 }
 
-/// The state of a task, as Linux's `READ_ONCE(p->__state)`.
+/// The state of a task, as Linux's `READ_ONCE(p->__state)`. The seat's own current task, while it is queued, runs, is new,
+/// or has stored a sleep state or TASK_DEAD; where the seat has stored a state since it picked it, it has that one, or was
+/// woken since, but for a TASK_DEAD, which stays.
 pub fn load_state<B: Kept>(wk: &Wk<B>, pass: &mut Pass, t: TaskNo) -> State
     requires of { IsOf wk.now pass.old }
     requires task { t < wk.now.shape.tasks }
     ensures same { IsSame pass.old pass.new }
     ensures trace { pass.new.trace ≡ LoadedState t None result ∷ pass.old.trace }
+    ensures own { current_task pass.old.seat pass.old.trace ≡ Some t → stays_queued pass.old.trace ≡ true → IsOfCurrent result }
+    ensures still { (stored : State) → current_task pass.old.seat pass.old.trace ≡ Some t → stays_queued pass.old.trace ≡ true → last_own pass.old.trace t ≡ Some stored → IsStill stored result }
+    ensures died { current_task pass.old.seat pass.old.trace ≡ Some t → stays_queued pass.old.trace ≡ true → last_own pass.old.trace t ≡ Some dead → result ≡ dead }
 {
     State(load::<B, LoadState>(&wk.words, &mut pass.token, t) as u16)
 }

@@ -1,11 +1,12 @@
 //! Queue words and busy words, each with its next number. Calls that would pass the last number wait for good.
-ghost use Rattle.std.specs.Prelude.{true, false, ◌≡◌, ℕ, ◌+◌, ◌/◌, ◌%◌, ◌^◌, ◌<◌, ◌∷◌, Some};
+ghost use Rattle.std.specs.Prelude.{true, false, ◌≡◌, ℕ, ◌+◌, ◌/◌, ◌%◌, ◌^◌, ◌<◌, ◌≤◌, ◌∷◌, Some};
 ghost use Rattle.core_kinds.specs.Running.{queue_entry, dequeue_entry, is_dead};
 ghost use Rattle.handoff_data.specs.declared.entry.Entry.TheVariants as entry;
+ghost use Rattle.task_words.specs.Needs.{need_step};
 ghost use Rattle.task_words.specs.Queues.{MayQueueHere, MayMoveHere};
 ghost use Rattle.task_words.specs.Views.{IsOf, IsSameSeat, logged};
-ghost use Rattle.word_rule.specs.May.{cpu_read_of, MayQueueWord, MayDequeueWord, MaySetBusyWord, MayClearBusyWord, next_rq, next_busy};
-ghost use Rattle.word_steps.specs.Folds.{seen_state};
+ghost use Rattle.word_rule.specs.May.{cpu_read_of, number_of, on_of, queued_next, MayQueueWord, MayDequeueWord, MaySetBusyWord, MayClearBusyWord, next_rq, next_busy};
+ghost use Rattle.word_steps.specs.Folds.{seen_state, number_read};
 ghost use Rattle.word_table.specs.Views.{IsOf as IsTokenOf, IsSame as IsSameToken};
 ghost use Rattle.word_steps.specs.Records.{Queued, Dequeued, Moved, SetBusy, ClearedBusy};
 
@@ -18,7 +19,7 @@ use crossbeam_utils::Backoff;
 use handoff_data::{CpuNo, Entry, TaskNo};
 use std::sync::Wait;
 use word_kinds::{DequeueTask, MoveTask, QueueTask};
-use word_table::{Kept, Kind, Token, exchange, fetch_add, peek, rest};
+use word_table::{Kept, Kind, Token, exchange, fetch_add, peek, rest, store};
 
 // A queue word and a busy word are changed while their number is below it.
 const END: u64 = 1 << 60;
@@ -92,60 +93,26 @@ fn change_rq<B: Kept, K: Kind, R: Wait>(
     rq_again::<B, K, R>(rt, wk, token, t, on)
 }
 
-// One try to change the queue word of t to queued, from what the seat has read of it; whether it succeeded.
-fn queue_once<B: Kept>(wk: &Wk<B>, token: &mut Token, t: TaskNo, seen: Rq) -> bool
-    requires of { IsTokenOf wk.now token.old }
-    requires row { t < wk.now.shape.tasks }
-    requires on { seen.on < 4 }
-    requires may { (x : ℕ) → x / 4 < 2 ^ 60 → MayQueueWord token.old.seat token.old.trace t x (next_rq x 1) }
-    ensures same { IsSameToken token.old token.new }
-    ensures hit { result ≡ true → token.new.trace ≡ Queued t (cpu_read_of token.old.trace t) seen.on seen.m ∷ token.old.trace }
-    ensures room { result ≡ true → seen.m < 2 ^ 60 }
-    ensures miss { result ≡ false → token.new.trace ≡ token.old.trace }
-{
-    if seen.m >= END {
-        return false;
-    }
-    let old = 4 * seen.m + seen.on as u64;
-    let new = 4 * (seen.m + 1) + 1;
-    exchange::<B, QueueTask>(&wk.words, token, t, old, new) == old
-}
-
-// Tries until it succeeds.
-#[cold]
-fn queue_again<B: Kept, R: Wait>(rt: &R, wk: &Wk<B>, token: &mut Token, t: TaskNo, seen: Rq)
-    requires of { IsTokenOf wk.now token.old }
-    requires row { t < wk.now.shape.tasks }
-    requires on { seen.on < 4 }
-    requires may { (x : ℕ) → x / 4 < 2 ^ 60 → MayQueueWord token.old.seat token.old.trace t x (next_rq x 1) }
-    ensures same { IsSameToken token.old token.new }
-    ensures trace { token.new.trace ≡ Queued t (cpu_read_of token.old.trace t) seen.on seen.m ∷ token.old.trace }
-    ensures room { seen.m < 2 ^ 60 }
-{
-    let backoff = Backoff::new();
-    for _ in rt.forever() {
-        if queue_once(wk, token, t, seen) {
-            return;
-        }
-        rest_on_rq(rt, wk, &backoff, t, seen);
-    }
-    unreachable!()
-}
-
-// One more change of the queue word of t, to queued, from what the seat has read of it. No other seat changes the word
-// meanwhile, as the rule has it, so the first try succeeds.
+// One more change of the queue word of t, to queued. The rule has it that the word is what the seat has read or stored
+// (no other seat changes it meanwhile), so it is one store; only past the last number it waits, for good.
 fn queue_read<B: Kept, R: Wait>(rt: &R, wk: &Wk<B>, token: &mut Token, t: TaskNo, seen: Rq)
     requires of { IsTokenOf wk.now token.old }
     requires row { t < wk.now.shape.tasks }
-    requires on { seen.on < 4 }
-    requires may { (x : ℕ) → x / 4 < 2 ^ 60 → MayQueueWord token.old.seat token.old.trace t x (next_rq x 1) }
+    requires seen { number_of token.old.trace t ≡ seen.m }
+    requires on { on_of token.old.trace t ≡ seen.on }
+    requires may { (x : ℕ) → seen.m < 2 ^ 60 → MayQueueWord token.old.seat token.old.trace t x (queued_next seen.m) }
     ensures same { IsSameToken token.old token.new }
     ensures trace { token.new.trace ≡ Queued t (cpu_read_of token.old.trace t) seen.on seen.m ∷ token.old.trace }
     ensures room { seen.m < 2 ^ 60 }
 {
-    if !queue_once(wk, token, t, seen) {
-        queue_again(rt, wk, token, t, seen);
+    if seen.m >= END {
+        let backoff = Backoff::new();
+        for _ in rt.forever() {
+            rest_on_rq(rt, wk, &backoff, t, seen);
+        }
+        unreachable!()
     }
+    store::<B, QueueTask>(&wk.words, token, t, 4 * (seen.m + 1) + 1);
 }
 
 // What the journal gets of a task that is queued.
@@ -170,7 +137,8 @@ fn queue_entry(t: TaskNo, c: CpuNo, seen: Rq) -> Entry
 
 /// Queues a task, as Linux's `activate_task` stores TASK_ON_RQ_QUEUED: a new one, one that the seat wakes, or one that it
 /// moves. The caller has the locks of the task and of the queue, whose processor is the task's; `seen` is the queue word
-/// as it has read or stored it under them.
+/// as it has read or stored it under the task's lock. No other seat changes the word meanwhile, so the call waits only
+/// where its number has come to 2^60.
 pub fn queue_task<B: Kept, R: Wait>(
     rt: &R,
     wk: &Wk<B>,
@@ -181,15 +149,19 @@ pub fn queue_task<B: Kept, R: Wait>(
 )
     requires of { IsOf wk.now pass.old }
     requires task { t < wk.now.shape.tasks }
+    requires table { queue.now.of ≡ wk.now.name }
     requires may { MayQueueHere pass.old.trace queue.now.cpu t }
-    requires on { seen.on < 4 }
-    requires spare { 0 < pass.old.turn.spare }
+    requires seen { number_read pass.old.trace t ≡ Some seen.m }
+    requires on { seen.on ≡ on_of pass.old.trace t }
+    requires spare { need_step ≤ pass.old.turn.spare }
     ensures same { IsSameSeat pass.old pass.new }
     ensures trace { pass.new.trace ≡ Queued t queue.now.cpu seen.on seen.m ∷ pass.old.trace }
     ensures turn { pass.new.turn ≡ logged (queue_entry seen.m seen.on t queue.now.cpu) pass.old.turn }
+    ensures room { seen.m < 2 ^ 60 }
+    ensures spare { pass.old.turn.spare ≤ pass.new.turn.spare + 1 }
 {
     queue_read(rt, wk, &mut pass.token, t, seen);
-    pass.log(queue_entry(t, queue.cpu, seen));
+    pass.turn.log(queue_entry(t, queue.cpu, seen));
 }
 
 /// Takes the seat's current task off its queue, as Linux's `deactivate_task`: it sleeps, or, where `dies`, it is dead, by
@@ -205,14 +177,16 @@ pub fn dequeue_task<B: Kept, R: Wait>(
     requires task { t < wk.now.shape.tasks }
     requires may { (x : ℕ) → x / 4 < 2 ^ 60 → MayDequeueWord pass.old.seat pass.old.trace t x (next_rq x 0) }
     requires dies { is_dead (seen_state pass.old.seat pass.old.trace) ≡ dies }
-    requires spare { 0 < pass.old.turn.spare }
+    requires spare { need_step ≤ pass.old.turn.spare }
     ensures same { IsSameSeat pass.old pass.new }
     ensures trace { pass.new.trace ≡ Dequeued t pass.old.seat result ∷ pass.old.trace }
     ensures turn { pass.new.turn ≡ logged (dequeue_entry (seen_state pass.old.seat pass.old.trace) result t pass.old.seat) pass.old.turn }
+    ensures room { result < 2 ^ 60 }
+    ensures spare { pass.old.turn.spare ≤ pass.new.turn.spare + 1 }
 {
     let m = change_rq::<B, DequeueTask, R>(rt, wk, &mut pass.token, t, 0) / 4;
     let c = pass.token.seat();
-    pass.log(if dies {
+    pass.turn.log(if dies {
         Entry::Die { t, m: m + 1, c }
     } else {
         Entry::Sleep { t, m: m + 1, c }
@@ -231,15 +205,17 @@ pub fn move_task<B: Kept, R: Wait>(
 ) -> u64
     requires of { IsOf wk.now pass.old }
     requires task { t < wk.now.shape.tasks }
+    requires table { queue.now.of ≡ wk.now.name }
     requires may { MayMoveHere pass.old.seat pass.old.trace queue.now.cpu t }
-    requires spare { 0 < pass.old.turn.spare }
+    requires spare { need_step ≤ pass.old.turn.spare }
     ensures same { IsSameSeat pass.old pass.new }
     ensures trace { pass.new.trace ≡ Moved t queue.now.cpu result ∷ pass.old.trace }
     ensures turn { pass.new.turn ≡ logged (entry.Out t (result + 1) queue.now.cpu) pass.old.turn }
+    ensures spare { pass.old.turn.spare ≤ pass.new.turn.spare + 1 }
     ensures room { result < 2 ^ 60 }
 {
     let m = change_rq::<B, MoveTask, R>(rt, wk, &mut pass.token, t, 2) / 4;
-    pass.log(Entry::Out {
+    pass.turn.log(Entry::Out {
         t,
         m: m + 1,
         c: queue.cpu,
@@ -258,18 +234,20 @@ pub fn set_busy<B: Kept, R: Wait>(
 ) -> u64
     requires of { IsOf wk.now pass.old }
     requires task { t < wk.now.shape.tasks }
+    requires table { queue.now.of ≡ wk.now.name }
     requires own { queue.now.cpu ≡ pass.old.seat }
     requires next { queue.now.val.cur ≡ Some t }
     requires may { (x : ℕ) → x / 2 < 2 ^ 60 → MaySetBusyWord pass.old.seat pass.old.trace t x (next_busy x) }
-    requires spare { 0 < pass.old.turn.spare }
+    requires spare { need_step ≤ pass.old.turn.spare }
     ensures same { IsSameSeat pass.old pass.new }
     ensures trace { pass.new.trace ≡ SetBusy t pass.old.seat result ∷ pass.old.trace }
     ensures turn { pass.new.turn ≡ logged (entry.Pick t (result + 1) pass.old.seat) pass.old.turn }
+    ensures spare { pass.old.turn.spare ≤ pass.new.turn.spare + 1 }
 {
     let n = change_busy(rt, wk, &mut pass.token, t);
     pass.current = Some(t);
     let c = pass.token.seat();
-    pass.log(Entry::Pick { t, n: n + 1, c });
+    pass.turn.log(Entry::Pick { t, n: n + 1, c });
     n
 }
 
@@ -334,13 +312,14 @@ pub fn clear_busy<B: Kept>(wk: &Wk<B>, pass: &mut Pass, t: TaskNo) -> u64
     requires of { IsOf wk.now pass.old }
     requires task { t < wk.now.shape.tasks }
     requires may { (x : ℕ) → MayClearBusyWord pass.old.seat pass.old.trace t x ((x + 1) % 2 ^ 64) }
-    requires spare { 0 < pass.old.turn.spare }
+    requires spare { need_step ≤ pass.old.turn.spare }
     ensures same { IsSameSeat pass.old pass.new }
     ensures trace { pass.new.trace ≡ ClearedBusy t result ∷ pass.old.trace }
     ensures turn { pass.new.turn ≡ logged (entry.Finish t (result + 1) pass.old.seat) pass.old.turn }
+    ensures spare { pass.old.turn.spare ≤ pass.new.turn.spare + 1 }
 {
     let n = fetch_add::<B, word_kinds::ClearBusy>(&wk.words, &mut pass.token, t) / 2;
     let c = pass.token.seat();
-    pass.log(Entry::Finish { t, n: n + 1, c });
+    pass.turn.log(Entry::Finish { t, n: n + 1, c });
     n
 }

@@ -44,6 +44,22 @@ either_claimed false t c from trace = refl
 pub placed_claimed : (t c from : ℕ) (trace : List Rec) → is_claimed (placed t from c trace) ≡ is_claimed trace
 placed_claimed t c from trace = either_claimed (from == c) t c from trace
 
+either_moving : (b : Bool) (t c from : ℕ) (trace : List Rec)
+    → is_moving (if b then LoadedCpu t from ∷ trace else StoredCpu t c ∷ LoadedCpu t from ∷ trace) ≡ is_moving trace
+either_moving true t c from trace = refl
+either_moving false t c from trace = refl
+
+pub placed_moving : (t c from : ℕ) (trace : List Rec) → is_moving (placed t from c trace) ≡ is_moving trace
+placed_moving t c from trace = either_moving (from == c) t c from trace
+
+either_numbers : (b : Bool) (t c from : ℕ) (trace : List Rec)
+    → number_read (if b then LoadedCpu t from ∷ trace else StoredCpu t c ∷ LoadedCpu t from ∷ trace) ≡ number_read trace
+either_numbers true t c from trace = refl
+either_numbers false t c from trace = refl
+
+pub placed_numbers : (t c from : ℕ) (trace : List Rec) → number_read (placed t from c trace) ≡ number_read trace
+placed_numbers t c from trace = either_numbers (from == c) t c from trace
+
 pub queued_others : (t c m : ℕ) (q : Queue) (trace : List Rec) (u : ℕ) → u ≢ t
     → is_claimed (queued_woken t c m q trace) u ≡ is_claimed trace u
 queued_others t c m q trace u apart = grind (arith, nat_tests, apart)

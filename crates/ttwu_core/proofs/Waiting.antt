@@ -15,7 +15,7 @@ use Rattle.ttwu_core.specs.Claims.{busy_reads, awaited_clear, queued_woken}
 use Rattle.ttwu_core.specs.Finds.{Look, Left, rq_reads, looked, off_reads, released_there}
 use Rattle.ttwu_core.specs.Keeps.{Keeps}
 use Rattle.word_rule.specs.Told.{TakenQueue}
-use Rattle.word_steps.specs.Folds.{put_if, task_held, queue_held, current_task, task_to_clear, is_matched_by, is_unstored, is_claimed, saw_off, saw_clear, number_read}
+use Rattle.word_steps.specs.Folds.{put_if, task_held, queue_held, current_task, task_to_clear, is_matched_by, is_unstored, is_claimed, is_moving, saw_off, saw_clear, number_read}
 use Rattle.word_steps.specs.Records.{Rec, Took, Gave, Queued, Claimed, Released, LoadedRq, LoadedBusy, LoadedCpu}
 use Rattle.word_steps.specs.declared.val.Val.TheVariants as val
 
@@ -57,6 +57,18 @@ module _ (t : ℕ) (trace : List Rec) where
   rq_claimed : (rs : List Rq) → is_claimed (rq_reads t rs trace) ≡ is_claimed trace
   rq_claimed [] = refl
   rq_claimed (r ∷ rs) = rq_claimed rs
+
+  rq_moving : (rs : List Rq) → is_moving (rq_reads t rs trace) ≡ is_moving trace
+  rq_moving [] = refl
+  rq_moving (r ∷ rs) = rq_moving rs
+
+  busy_moving : (ns : List ℕ) → is_moving (busy_reads t ns trace) ≡ is_moving trace
+  busy_moving [] = refl
+  busy_moving (n ∷ ns) = busy_moving ns
+
+  busy_numbers : (ns : List ℕ) → number_read (busy_reads t ns trace) ≡ number_read trace
+  busy_numbers [] = refl
+  busy_numbers (n ∷ ns) = busy_numbers ns
 
   busy_clear : (s : ℕ) (ns : List ℕ) → task_to_clear s (busy_reads t ns trace) ≡ task_to_clear s trace
   busy_clear s [] = refl
@@ -165,6 +177,10 @@ module _ (s t : ℕ) (trace : List Rec) where
   off_claimed None m = refl
   off_claimed (Some x) m = rq_claimed t (given_back t x.look trace) x.waits
 
+  pub off_moving : (left : Option Left) (m : ℕ) → is_moving (off_reads t left m trace) ≡ is_moving trace
+  off_moving None m = refl
+  off_moving (Some x) m = rq_moving t (given_back t x.look trace) x.waits
+
   pub released_keeps : (x : Look)
       → IsLeftAlone s x.cpu x.queue trace → Keeps s trace (released_there t x trace)
   released_keeps x same = record {
@@ -205,6 +221,12 @@ module _ (s t : ℕ) (trace : List Rec) where
       → is_claimed (awaited_clear t n ns (Claimed t m ∷ trace)) u ≡ is_claimed trace u
   claim_others m n ns u apart =
       ap (λ (h : ℕ → Bool). h u) (busy_claimed t (Claimed t m ∷ trace) ns) ∙ grind (arith, nat_tests, apart)
+
+  pub claim_moving : (m n : ℕ) (ns : List ℕ) → is_moving (awaited_clear t n ns (Claimed t m ∷ trace)) ≡ is_moving trace
+  claim_moving m n ns = busy_moving t (Claimed t m ∷ trace) ns
+
+  pub claim_numbers : (m n : ℕ) (ns : List ℕ) → number_read (awaited_clear t n ns (Claimed t m ∷ trace)) ≡ number_read trace
+  claim_numbers m n ns = busy_numbers t (Claimed t m ∷ trace) ns
 
   pub claim_claimed : (m n : ℕ) (ns : List ℕ) → is_claimed (awaited_clear t n ns (Claimed t m ∷ trace)) t ≡ true
   claim_claimed m n ns = ap (λ (h : ℕ → Bool). h t) (busy_claimed t (Claimed t m ∷ trace) ns) ∙ grind (arith, nat_tests)

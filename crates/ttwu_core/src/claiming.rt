@@ -1,9 +1,10 @@
 //! A task that is off every queue is claimed by its waker, placed, and queued.
-ghost use Rattle.std.specs.Prelude.{◌≡◌, ◌≢◌, ℕ, ◌<◌, ◌∷◌, true, false, None, Some, IsSome};
+ghost use Rattle.std.specs.Prelude.{◌≡◌, ◌≢◌, ℕ, ◌<◌, ◌≤◌, ◌∷◌, true, false, None, Some, IsSome};
+ghost use Rattle.task_words.specs.Needs.{need_step};
 ghost use Rattle.task_words.specs.Views.{IsOf, IsSame, IsSameSeat};
 ghost use Rattle.ttwu_core.specs.Claims.{IsAwaitedClear, IsTaken, IsChosen, IsPointer, IsQueuedWoken};
 ghost use Rattle.ttwu_core.specs.Keeps.{Keeps};
-ghost use Rattle.word_steps.specs.Folds.{task_held, queue_held, saw_off, saw_clear, is_claimed, number_read};
+ghost use Rattle.word_steps.specs.Folds.{task_held, queue_held, saw_off, saw_clear, is_claimed, is_moving, number_read};
 ghost use Rattle.word_steps.specs.Folds.{last_reads, current_task};
 
 use core_data::{Rq, TaskVal};
@@ -56,11 +57,13 @@ pub fn claim<B: Kept, R: Wait>(rt: &R, wk: &Wk<B>, pass: &mut Pass, t: TaskNo, m
     requires locked { IsSome (task_held pass.old.trace t) }
     requires off { saw_off pass.old.trace t ≡ true }
     requires number { number_read pass.old.trace t ≡ Some m }
-    requires spare { 0 < pass.old.turn.spare }
+    requires spare { need_step ≤ pass.old.turn.spare }
     ensures same { IsSameSeat pass.old pass.new }
     ensures did { IsTaken t m pass.old pass.new }
     ensures keeps { Keeps pass.old.seat pass.old.trace pass.new.trace }
     ensures others { (u : ℕ) → u ≢ t → is_claimed pass.new.trace u ≡ is_claimed pass.old.trace u }
+    ensures moving { is_moving pass.new.trace ≡ is_moving pass.old.trace }
+    ensures numbers { number_read pass.new.trace ≡ number_read pass.old.trace }
 {
     store_waking(wk, pass, t, m);
     await_clear(rt, wk, pass, t);
@@ -101,11 +104,13 @@ pub fn queue_woken<B: Kept, R: Wait>(
     requires locked { IsSome (task_held pass.old.trace t) }
     requires claimed { is_claimed pass.old.trace t ≡ true }
     requires clear { saw_clear pass.old.trace t ≡ true }
+    requires number { number_read pass.old.trace t ≡ Some m }
+    requires unmoved { is_moving pass.old.trace t ≡ false }
     requires here { (last_reads pass.old.trace t).cpu ≡ Some c }
     requires free { queue_held pass.old.trace c ≡ None }
     requires other { current_task pass.old.seat pass.old.trace ≢ Some t }
     requires queued_before { m ≢ 0 }
-    requires spare { 0 < pass.old.turn.spare }
+    requires spare { need_step ≤ pass.old.turn.spare }
     ensures same { IsSameSeat pass.old pass.new }
     ensures did { IsQueuedWoken t c m pass.old pass.new }
     ensures keeps { Keeps pass.old.seat pass.old.trace pass.new.trace }

@@ -5,7 +5,7 @@ ghost use Rattle.core_data.specs.declared.pos.Rq.{Rq};
 ghost use Rattle.task_words.specs.Views.{IsOf, IsSame};
 ghost use Rattle.ttwu_core.specs.Finds.{DidFind, IsAwaited};
 ghost use Rattle.ttwu_core.specs.Keeps.{Keeps};
-ghost use Rattle.word_steps.specs.Folds.{is_claimed, task_held, queue_held, is_matched_by, is_unstored, current_task};
+ghost use Rattle.word_steps.specs.Folds.{is_claimed, is_moving, task_held, queue_held, is_matched_by, is_unstored, current_task};
 
 use crossbeam_utils::Backoff;
 use handoff_data::TaskNo;
@@ -56,6 +56,7 @@ pub fn find<B: Kept, R: Wait>(rt: &R, wk: &Wk<B>, pass: &mut Pass, t: TaskNo) ->
     ensures did { DidFind t pass.old.trace pass.new.trace result }
     ensures keeps { Keeps pass.old.seat pass.old.trace pass.new.trace }
     ensures claimed { is_claimed pass.new.trace ≡ is_claimed pass.old.trace }
+    ensures moving { is_moving pass.new.trace ≡ is_moving pass.old.trace }
 {
     let first = load_rq(wk, pass, t);
     if first.on == 0 {

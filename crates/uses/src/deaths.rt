@@ -1,6 +1,7 @@
 //! A task dies, step by step.
-ghost use Rattle.std.specs.Prelude.{◌≡◌, ℕ, ◌<◌, true, false, Some, None};
+ghost use Rattle.std.specs.Prelude.{◌≡◌, ℕ, ◌<◌, ◌≤◌, true, false, Some, None};
 ghost use Rattle.uses.specs.Between.{IsBetween, IsRunning};
+ghost use Rattle.task_words.specs.Needs.{need_call};
 ghost use Rattle.task_words.specs.Views.{IsOf, IsSameSeat};
 ghost use Rattle.word_steps.specs.Folds.{ended_known};
 
@@ -10,32 +11,27 @@ use task_words::{
     Kept, Pass, Wk, clear_busy, dequeue_task, load_state, lock_queue, lock_task, set_state,
 };
 
-/// Ends the current task, whose body has ended, as Linux's `do_task_dead`: it is TASK_DEAD, and leaves its queue for good.
-/// Whether its state was still that one, which no other seat changes, as it left.
-pub fn die<B: Kept, R: Wait>(rt: &R, wk: &Wk<B>, pass: &mut Pass, t: TaskNo) -> bool
+/// Ends the current task, whose body has ended, as Linux's `do_task_dead`: it is TASK_DEAD, which no other seat changes,
+/// and leaves its queue for good.
+pub fn die<B: Kept, R: Wait>(rt: &R, wk: &Wk<B>, pass: &mut Pass, t: TaskNo)
     requires of { IsOf wk.now pass.old }
     requires processor { pass.old.seat < wk.now.shape.cpus }
     requires task { t < wk.now.shape.tasks }
     requires running { IsRunning t pass.old }
     requires ended { ended_known pass.old.trace t ≡ Some true }
-    requires spare { 1 < pass.old.turn.spare }
+    requires spare { need_call ≤ pass.old.turn.spare }
     ensures same { IsSameSeat pass.old pass.new }
-    ensures gone { result ≡ true → IsBetween pass.new }
+    ensures gone { IsBetween pass.new }
 {
     let task = lock_task(rt, wk, pass, t);
     set_state(wk, pass, State::TASK_DEAD);
     task.give(wk, pass);
     let c = pass.seat();
     let mut queue = lock_queue(rt, wk, pass, c);
-    let state = load_state(wk, pass, t);
-    if state != State::TASK_DEAD {
-        queue.give_as_taken(wk, pass);
-        return false;
-    }
+    load_state(wk, pass, t);
     dequeue_task(rt, wk, pass, t, true);
     queue.val_mut(wk).set_cur(None);
     queue.val_mut(wk).set_left(Some(t));
     queue.give_asleep(wk, pass);
     clear_busy(wk, pass, t);
-    true
 }

@@ -95,7 +95,7 @@ pub fn count_works<B: Kept, R: Wait>(rt: &R, wk: &Wk<B>, pass: &mut Pass, c: Cpu
     ensures between { IsBetween pass.old → IsBetween pass.new }
 {
     let mut works = lock_works(rt, wk, pass, c);
-    let count = works.val_mut(wk).get().items.len();
+    let count = works.val_mut(wk).len();
     works.give(wk, pass);
     count
 }

@@ -1,11 +1,12 @@
 //! A wake-up, step by step.
-ghost use Rattle.std.specs.Prelude.{◌≡◌, ◌≢◌, ℕ, ◌<◌, ◌-◌, true, false, Some, None, IsSome};
+ghost use Rattle.std.specs.Prelude.{◌≡◌, ◌≢◌, ℕ, ◌<◌, ◌≤◌, ◌-◌, true, false, Some, None, IsSome};
 ghost use Rattle.uses.specs.Between.{IsBetween};
 ghost use Rattle.core_data.specs.Table.{put};
+ghost use Rattle.task_words.specs.Needs.{need_step, need_wake};
 ghost use Rattle.task_words.specs.Views.{IsOf, IsSame, IsSameSeat};
 ghost use Rattle.word_rule.specs.May.{number_of};
 ghost use Rattle.word_steps.specs.Folds.{body_held, current_task, is_claimed, is_matched_by};
-ghost use Rattle.word_steps.specs.Folds.{is_moving, last_reads, queue_held, saw_clear, saw_off};
+ghost use Rattle.word_steps.specs.Folds.{is_moving, last_reads, number_read, queue_held, saw_clear, saw_off};
 ghost use Rattle.word_steps.specs.Folds.{task_held, task_to_clear, wait_held, works_held};
 
 use core_data::Rq;
@@ -25,7 +26,7 @@ pub fn wake<B: Kept, R: Wait>(rt: &R, wk: &Wk<B>, pass: &mut Pass, t: TaskNo, to
     requires free_queues { (c : ℕ) → queue_held pass.old.trace c ≡ None }
     requires unclaimed { is_claimed pass.old.trace t ≡ false }
     requires other { current_task pass.old.seat pass.old.trace ≢ Some t }
-    requires spare { 1 < pass.old.turn.spare }
+    requires spare { need_wake ≤ pass.old.turn.spare }
     ensures same { IsSameSeat pass.old pass.new }
     ensures free { task_held pass.new.trace t ≡ None }
     ensures between { IsBetween pass.old → IsBetween pass.new }
@@ -92,7 +93,7 @@ fn claim<B: Kept, R: Wait>(rt: &R, wk: &Wk<B>, pass: &mut Pass, t: TaskNo, m: u6
     requires locked { IsSome (task_held pass.old.trace t) }
     requires off { saw_off pass.old.trace t ≡ true }
     requires number { number_of pass.old.trace t ≡ m }
-    requires spare { 0 < pass.old.turn.spare }
+    requires spare { need_step ≤ pass.old.turn.spare }
     ensures same { IsSameSeat pass.old pass.new }
     ensures turn { pass.new.turn.spare ≡ pass.old.turn.spare - 1 }
     ensures tasks { task_held pass.new.trace ≡ task_held pass.old.trace }
@@ -105,6 +106,8 @@ fn claim<B: Kept, R: Wait>(rt: &R, wk: &Wk<B>, pass: &mut Pass, t: TaskNo, m: u6
     ensures claims { is_claimed pass.new.trace ≡ put (is_claimed pass.old.trace) t true }
     ensures claimed { is_claimed pass.new.trace t ≡ true }
     ensures clear { saw_clear pass.new.trace t ≡ true }
+    ensures moving { is_moving pass.new.trace ≡ is_moving pass.old.trace }
+    ensures numbers { number_read pass.new.trace ≡ number_read pass.old.trace }
 {
     store_waking(wk, pass, t, m);
     wait_clear(rt, wk, pass, t);
@@ -119,9 +122,11 @@ fn queue_woken<B: Kept, R: Wait>(rt: &R, wk: &Wk<B>, pass: &mut Pass, t: TaskNo,
     requires cpu { (last_reads pass.old.trace t).cpu ≡ Some to }
     requires claimed { is_claimed pass.old.trace t ≡ true }
     requires clear { saw_clear pass.old.trace t ≡ true }
+    requires number { number_read pass.old.trace t ≡ Some m }
+    requires unmoved { is_moving pass.old.trace t ≡ false }
     requires free { queue_held pass.old.trace to ≡ None }
     requires other { current_task pass.old.seat pass.old.trace ≢ Some t }
-    requires spare { 0 < pass.old.turn.spare }
+    requires spare { need_step ≤ pass.old.turn.spare }
     ensures same { IsSameSeat pass.old pass.new }
     ensures tasks { task_held pass.new.trace ≡ task_held pass.old.trace }
     ensures queues { ((c : ℕ) → queue_held pass.old.trace c ≡ None) → (c : ℕ) → queue_held pass.new.trace c ≡ None }
@@ -145,6 +150,7 @@ fn queue_woken<B: Kept, R: Wait>(rt: &R, wk: &Wk<B>, pass: &mut Pass, t: TaskNo,
 // Stores the processor of a claimed task where it isn't that one already.
 fn place<B: Kept>(wk: &Wk<B>, pass: &mut Pass, task: &TaskGuard<B>, to: CpuNo)
     requires of { IsOf wk.now pass.old }
+    requires table { task.now.of ≡ wk.now.name }
     requires task { task.now.task < wk.now.shape.tasks }
     requires processor { to < wk.now.shape.cpus }
     requires claimed { is_claimed pass.old.trace task.now.task ≡ true }
@@ -159,6 +165,7 @@ fn place<B: Kept>(wk: &Wk<B>, pass: &mut Pass, task: &TaskGuard<B>, to: CpuNo)
     ensures queues { queue_held pass.new.trace ≡ queue_held pass.old.trace }
     ensures claimed { is_claimed pass.new.trace ≡ is_claimed pass.old.trace }
     ensures moving { is_moving pass.new.trace ≡ is_moving pass.old.trace }
+    ensures numbers { number_read pass.new.trace ≡ number_read pass.old.trace }
     ensures clear { saw_clear pass.new.trace ≡ saw_clear pass.old.trace }
     ensures current { current_task pass.new.seat pass.new.trace ≡ current_task pass.old.seat pass.old.trace }
 {

@@ -55,11 +55,11 @@ around s k v w given rs after x = record {
         grind (arith, nat_tests, apart, held, e)
   ];
   claimed = x.claimed;
-  works = x.apart.works;
-  body = x.apart.body;
-  ended = x.apart.ended;
+  works = x.apart.untouched.works;
+  body = x.apart.untouched.body;
+  ended = x.apart.untouched.ended;
   current = x.current;
-  stays = x.apart.stays;
+  stays = x.apart.untouched.stays;
   clear = x.clear;
 }
 

@@ -1,5 +1,6 @@
 //! Calls of a seat with no current task.
-ghost use Rattle.std.specs.Prelude.{◌<◌, ◌≤◌, ◌*◌};
+ghost use Rattle.std.specs.Prelude.{◌<◌, ◌≤◌};
+ghost use Rattle.task_words.specs.Needs.{need_call, need_wake, need_walk};
 ghost use Rattle.task_words.specs.Views.{IsOf, IsSameSeat};
 ghost use Rattle.uses.specs.Between.{IsBetween};
 
@@ -15,7 +16,7 @@ pub fn start<B: Kept, R: Wait>(rt: &R, wk: &Wk<B>, pass: &mut Pass, t: TaskNo, c
     requires task { t < wk.now.shape.tasks }
     requires processor { c < wk.now.shape.cpus }
     requires between { IsBetween pass.old }
-    requires spare { 0 < pass.old.turn.spare }
+    requires spare { need_call ≤ pass.old.turn.spare }
     ensures same { IsSameSeat pass.old pass.new }
     ensures between { IsBetween pass.new }
 {
@@ -27,7 +28,7 @@ pub fn wake<B: Kept, R: Wait>(rt: &R, wk: &Wk<B>, pass: &mut Pass, t: TaskNo) ->
     requires of { IsOf wk.now pass.old }
     requires task { t < wk.now.shape.tasks }
     requires between { IsBetween pass.old }
-    requires spare { 1 < pass.old.turn.spare }
+    requires spare { need_wake ≤ pass.old.turn.spare }
     ensures same { IsSameSeat pass.old pass.new }
     ensures between { IsBetween pass.new }
 {
@@ -39,7 +40,7 @@ pub fn wake_all<B: Kept, R: Wait>(rt: &R, wk: &Wk<B>, pass: &mut Pass, k: CondNo
     requires of { IsOf wk.now pass.old }
     requires condition { k < wk.now.shape.conds }
     requires between { IsBetween pass.old }
-    requires spare { 2 * wk.now.shape.tasks ≤ pass.old.turn.spare }
+    requires spare { need_walk wk.now.shape.tasks ≤ pass.old.turn.spare }
     ensures same { IsSameSeat pass.old pass.new }
     ensures between { IsBetween pass.new }
 {
@@ -58,7 +59,7 @@ pub fn wake_some<B: Kept, R: Wait>(
     requires condition { k < wk.now.shape.conds }
     requires some { 0 < exclusive }
     requires between { IsBetween pass.old }
-    requires spare { 2 * wk.now.shape.tasks ≤ pass.old.turn.spare }
+    requires spare { need_walk wk.now.shape.tasks ≤ pass.old.turn.spare }
     ensures same { IsSameSeat pass.old pass.new }
     ensures between { IsBetween pass.new }
 {
@@ -70,7 +71,7 @@ pub fn bump_and_wake<B: Kept, R: Wait>(rt: &R, wk: &Wk<B>, pass: &mut Pass, k: C
     requires of { IsOf wk.now pass.old }
     requires condition { k < wk.now.shape.conds }
     requires between { IsBetween pass.old }
-    requires spare { 2 * wk.now.shape.tasks ≤ pass.old.turn.spare }
+    requires spare { need_walk wk.now.shape.tasks ≤ pass.old.turn.spare }
     ensures same { IsSameSeat pass.old pass.new }
     ensures between { IsBetween pass.new }
 {

@@ -5,10 +5,11 @@ use word_table::Kind;
 pub struct LoadState;
 
 impl Kind for LoadState {
-    ghost use Rattle.std.specs.Prelude.{◌≡◌, ◌<◌, ◌^◌, None, refl};
+    ghost use Rattle.std.specs.Prelude.{◌≡◌, None, refl};
     ghost use Rattle.std.proofs.Common.{lit<};
     ghost use Rattle.word_kinds.specs.Rows.{tasks_rows};
     ghost use Rattle.word_rule.proofs.LoadLaws.{load_state_law, load_state_is_event};
+    ghost use Rattle.word_rule.specs.Own.{StateTold};
     ghost use Rattle.word_steps.specs.Records.{LoadedState};
     ghost use Rattle.word_steps.specs.Words.{STATE};
 
@@ -20,7 +21,7 @@ impl Kind for LoadState {
 
     ghost may = { λ shape s trace t x y. y ≡ x };
 
-    ghost told = { λ shape s trace t x. x < 2 ^ 16 };
+    ghost told = { λ shape s trace t x. StateTold s trace t x };
 
     ghost low = { lit< tt };
 

@@ -19,10 +19,11 @@ pub struct MatchState<M> {
 }
 
 impl<M: Mask> Kind for MatchState<M> {
-    ghost use Rattle.std.specs.Prelude.{◌≡◌, ◌<◌, ◌^◌, Some, refl};
+    ghost use Rattle.std.specs.Prelude.{◌≡◌, Some, refl};
     ghost use Rattle.std.proofs.Common.{lit<};
     ghost use Rattle.word_kinds.specs.Rows.{tasks_rows};
     ghost use Rattle.word_rule.proofs.LoadLaws.{load_masked_law, load_masked_is_event};
+    ghost use Rattle.word_rule.specs.Own.{StateTold};
     ghost use Rattle.word_steps.specs.Records.{LoadedState};
     ghost use Rattle.word_steps.specs.Words.{STATE};
 
@@ -34,7 +35,7 @@ impl<M: Mask> Kind for MatchState<M> {
 
     ghost may = { λ shape s trace t x y. y ≡ x };
 
-    ghost told = { λ shape s trace t x. x < 2 ^ 16 };
+    ghost told = { λ shape s trace t x. StateTold s trace t x };
 
     ghost low = { lit< tt };
 

@@ -5,11 +5,11 @@ use word_table::Kind;
 pub struct QueueTask;
 
 impl Kind for QueueTask {
-    ghost use Rattle.std.specs.Prelude.{◌/◌, ◌%◌, refl};
+    ghost use Rattle.std.specs.Prelude.{refl};
     ghost use Rattle.std.proofs.Common.{lit<};
     ghost use Rattle.word_kinds.specs.Rows.{tasks_rows};
     ghost use Rattle.word_rule.proofs.QueueLaws.{queue_law, queue_is_event};
-    ghost use Rattle.word_rule.specs.May.{MayQueueWord, cpu_read_of};
+    ghost use Rattle.word_rule.specs.May.{MayQueueWord, cpu_read_of, number_of, on_of};
     ghost use Rattle.word_steps.specs.Records.{Queued};
     ghost use Rattle.word_steps.specs.Words.{RQ};
 
@@ -17,7 +17,7 @@ impl Kind for QueueTask {
 
     ghost bound = { λ shape. shape.tasks };
 
-    ghost note = { λ s trace t y x. Queued t (cpu_read_of trace t) (x % 4) (x / 4) };
+    ghost note = { λ s trace t y x. Queued t (cpu_read_of trace t) (on_of trace t) (number_of trace t) };
 
     ghost may = { λ shape s trace t x y. MayQueueWord s trace t x y };
 

@@ -9,7 +9,10 @@ use Rattle.handoff_data.specs.declared.mask.CpuMask.{CpuMask}
 use Rattle.handoff_data.specs.declared.shape.Shape.{Shape}
 use Rattle.word_rule.proofs.BodiesKept.{known_start, body_out_known, body_home_known}
 use Rattle.word_rule.proofs.GrownKept.{grown_start}
+use Rattle.word_rule.proofs.MasksKept.{masks_start}
 use Rattle.word_rule.proofs.OffKept.{off_start}
+use Rattle.word_rule.proofs.OwnKept.{own_start}
+use Rattle.word_rule.proofs.WaysKept.{ways_start}
 use Rattle.word_rule.proofs.PossibleGives.{take_body_possible, return_body_possible}
 use Rattle.word_rule.proofs.Quiet.{still_kept}
 use Rattle.word_rule.proofs.RunsKept.{runs_start}
@@ -20,6 +23,7 @@ use Rattle.word_steps.proofs.CurrentKept.{current_start}
 use Rattle.word_steps.proofs.EndedKept.{ended_start, body_out_ended, body_home_ended}
 use Rattle.word_steps.proofs.FirstCore.{first_is_opening}
 use Rattle.word_steps.proofs.Events.{body_out_event, body_home_event}
+use Rattle.word_steps.proofs.ExclusivesKept.{exclusives_start, exclusives_still}
 use Rattle.word_steps.proofs.MatchedKept.{matched_start}
 use Rattle.word_steps.proofs.MovingSteps.{moving_start, states_start}
 use Rattle.word_steps.proofs.NumbersKept.{numbers_start}
@@ -52,6 +56,7 @@ module _ (shape : Shape) (words : ℕ → ℕ → ℕ) (homes : Homes) (traces :
               off = λ u e. e;
             })
             (record { current = λ j. refl; stays = refl }) refl
+            (exclusives_still words homes.wait traces s kept.exclusives (OutBody t (homes.ended t)) (λ u k e. e) refl refl)
             (body_out_event shape words homes traces s t core)
             (body_out_ended homes.ended traces s kept.ended t (homes.ended t) refl)
             (body_out_known traces s kept.known t (homes.ended t)),
@@ -85,6 +90,7 @@ module _ (shape : Shape) (words : ℕ → ℕ → ℕ) (homes : Homes) (traces :
               off = λ u e. e;
             })
             (record { current = λ j. refl; stays = refl }) refl
+            (exclusives_still words homes.wait traces s kept.exclusives (HomeBody t ended) (λ u k e. e) refl refl)
             (body_home_event shape words homes traces s t ended core)
             (body_home_ended shape words homes traces s kept.holds kept.ended t ended core)
             (body_home_known traces s kept.known t ended),
@@ -112,6 +118,7 @@ start_law shape mask ended is_shape all =
       numbers = numbers_start (first_words shape);
       matched = matched_start (first_words shape);
       queued = queued_start (first_words shape);
+      exclusives = exclusives_start (first_words shape) (first_homes shape mask).wait;
       put_there = put_start (first_words shape);
       ended = ended_start ended;
       counts = λ t. refl;
@@ -121,4 +128,7 @@ start_law shape mask ended is_shape all =
       off = off_start (first_words shape);
       grown = grown_start (first_words shape);
       known = known_start;
+      own = own_start (first_words shape);
+      ways = ways_start (first_words shape);
+      masks = masks_start shape mask (record (first_homes shape mask) { ended = ended }) refl is_shape.some_cpu all;
     }

@@ -16,7 +16,7 @@ pub grown_start : (words : ℕ → ℕ → ℕ) → GrownHolds words (λ s. [])
 grown_start words s t m e = absurd (grind (arith, e))
 
 -- of a number that is there
-same_number : (m n : ℕ) → ◌≡◌ {A = Option ℕ} (Some m) (Some n) → m ≡ n
+pub same_number : (m n : ℕ) → ◌≡◌ {A = Option ℕ} (Some m) (Some n) → m ≡ n
 same_number m n e = grind (arith, e)
 
 module _ (words : ℕ → ℕ → ℕ) (traces : ℕ → List Rec) (s : ℕ) (holds : GrownHolds words traces) where

@@ -4,7 +4,9 @@ pub mod GiveQueue
 pub mod GrownKept
 pub mod LoadLaws
 pub mod LockLaws
+pub mod MasksKept
 pub mod OffKept
+pub mod OwnKept
 pub mod Pigeons
 pub mod Possible
 pub mod PossibleGives
@@ -15,3 +17,4 @@ pub mod StandingKept
 pub mod StoreLaws
 pub mod Taken
 pub mod Uses
+pub mod WaysKept

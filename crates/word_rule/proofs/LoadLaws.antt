@@ -1,7 +1,8 @@
 -- Loads keep the rule. Beside it stands what is known of the word found.
 use Rattle.std.proofs.Common.{◌≡◌, ◌≢◌, ℕ, ◌<◌, ◌+◌, refl, sym, ap, subst, ◌∙◌, List, ◌∷◌}
-use Rattle.std.specs.Prelude.{◌/◌, ◌%◌, ◌^◌, true, Option, Some, None, IsSome}
+use Rattle.std.specs.Prelude.{◌/◌, ◌%◌, true, Option, Some, None, IsSome}
 use Rattle.core_data.specs.Table.{put, put_at}
+use Rattle.core_kinds.specs.Steps.{dead}
 use Rattle.core_kinds.specs.Waking.{IsMask}
 use Rattle.core_law.proofs.Reached.{Holds-step}
 use Rattle.handoff_data.specs.declared.shape.Shape.{Shape}
@@ -9,13 +10,16 @@ use Rattle.handoff_data.specs.declared.state.State.{State}
 use Rattle.word_rule.proofs.BodiesKept.{known_still}
 use Rattle.word_rule.proofs.GrownKept.{grown_still, load_rq_grown}
 use Rattle.word_rule.proofs.OffKept.{off_still, load_rq_off}
+use Rattle.word_rule.proofs.OwnKept.{stays_dead}
 use Rattle.word_rule.proofs.Quiet.{IsQuiet, IsSteady, IsOutside, kept_after, still_kept}
 use Rattle.word_rule.proofs.RunsKept.{runs_still, load_state_runs}
 use Rattle.word_rule.proofs.StandingKept.{standing_still}
 use Rattle.word_rule.specs.Kept.{Kept}
+use Rattle.word_rule.specs.Own.{StateTold}
 use Rattle.word_rule.specs.Standing.{may_run}
 use Rattle.word_steps.proofs.CurrentKept.{current_still}
 use Rattle.word_steps.proofs.EndedKept.{ended_still}
+use Rattle.word_steps.proofs.ExclusivesKept.{exclusives_still}
 use Rattle.word_steps.proofs.Events.{load_state_event, load_rq_event, load_busy_event, load_cpu_event, load_cond_event}
 use Rattle.word_steps.proofs.MatchedKept.{matched_still, load_state_matched}
 use Rattle.word_steps.proofs.MovingSteps.{moving_still}
@@ -25,6 +29,7 @@ use Rattle.word_steps.proofs.Puts.{word_same}
 use Rattle.word_steps.proofs.QueuedKept.{queued_still, load_rq_queued}
 use Rattle.word_steps.specs.Decode.{Homes, core_of, core_after}
 use Rattle.word_steps.specs.Events.{IsEvent}
+use Rattle.word_steps.specs.Exclusives.{ExclusivesHold}
 use Rattle.word_steps.specs.Folds.{task_held, is_matched_by}
 use Rattle.word_steps.specs.Records.{Rec, LoadedState, LoadedRq, LoadedBusy, LoadedCpu, LoadedCond}
 use Rattle.word_steps.specs.Words.{STATE, RQ, BUSY, CPU, COND, is_set}
@@ -46,10 +51,11 @@ module _ (shape : Shape) (words : ℕ → ℕ → ℕ) (homes : Homes) (traces :
 
   -- one that tells nothing new of what stands beside the invariant
   quiet_load : (c : ℕ) (r : Rec) → y ≡ words n c → IsQuiet r (traces s) → IsSteady r (traces s) → IsOutside r (traces s)
-      → may_run s (r ∷ traces s) ≡ may_run s (traces s) → IsEvent shape words homes traces s r words homes
+      → may_run s (r ∷ traces s) ≡ may_run s (traces s) → ExclusivesHold words homes.wait (put traces s (r ∷ traces s))
+      → IsEvent shape words homes traces s r words homes
       → Kept shape (put_at words n c y) homes (put traces s (r ∷ traces s))
-  quiet_load c r same quiet steady outside runs event =
-      as_found c r same (still_kept shape words homes homes traces s kept r quiet steady runs event
+  quiet_load c r same quiet steady outside runs exclusives event =
+      as_found c r same (still_kept shape words homes homes traces s kept r quiet steady runs exclusives event
       (ended_still homes.ended traces s kept.ended r steady.current outside.ended)
       (known_still traces s kept.known r outside.body outside.ended))
 
@@ -75,6 +81,7 @@ module _ (shape : Shape) (words : ℕ → ℕ → ℕ) (homes : Homes) (traces :
         matched = load_state_matched words traces s kept.matched shape homes n mask
             (record { 0 = words n STATE }) holds;
         queued = queued_still words traces s kept.queued (state_note mask) (λ c t e. e);
+        exclusives = exclusives_still words homes.wait traces s kept.exclusives (state_note mask) (λ t k e. e) refl refl;
         put_there = put_still words traces s kept.put_there (state_note mask) refl;
         ended = ended_still homes.ended traces s kept.ended (state_note mask) (λ j. refl) refl;
         counts = kept.counts;
@@ -91,10 +98,19 @@ module _ (shape : Shape) (words : ℕ → ℕ → ℕ) (homes : Homes) (traces :
       → IsEvent shape words homes traces s (LoadedState n None (record { 0 = words n STATE })) (put_at words n STATE y) homes
   load_state_is_event task same = event_found STATE (state_note None) same (state_event None task tt)
 
+  -- what is known of the state that is there
+  state_told : StateTold s (traces s) n (words n STATE)
+  state_told = record {
+    narrow = kept.states n;
+    own = λ is on. kept.holds.places.current s n is (kept.current s n is on);
+    still = λ stored is on last. kept.own s n stored is on last;
+    dead = λ is on last. stays_dead (record { 0 = words n STATE }) (kept.own s n dead is on last);
+  }
+
   pub load_state_law : n < shape.tasks → y ≡ words n STATE
       → Kept shape (put_at words n STATE y) homes
-      (put traces s (LoadedState n None (record { 0 = words n STATE }) ∷ traces s)) × (words n STATE < 2 ^ 16)
-  load_state_law task same = (as_found STATE (state_note None) same (state_kept None task tt), kept.states n)
+      (put traces s (LoadedState n None (record { 0 = words n STATE }) ∷ traces s)) × StateTold s (traces s) n (words n STATE)
+  load_state_law task same = (as_found STATE (state_note None) same (state_kept None task tt), state_told)
 
   abbrev rq_note : Rec
   rq_note = LoadedRq n (words n RQ % 4) (words n RQ / 4)
@@ -108,6 +124,7 @@ module _ (shape : Shape) (words : ℕ → ℕ → ℕ) (homes : Homes) (traces :
         numbers = load_rq_numbers words traces s kept.numbers n (words n RQ % 4);
         matched = matched_still words traces s kept.matched rq_note refl;
         queued = load_rq_queued words traces s kept.queued n (words n RQ / 4);
+        exclusives = exclusives_still words homes.wait traces s kept.exclusives rq_note (λ t k e. e) refl refl;
         put_there = put_still words traces s kept.put_there rq_note refl;
         ended = ended_still homes.ended traces s kept.ended rq_note (λ j. refl) refl;
         counts = kept.counts;
@@ -155,6 +172,7 @@ module _ (shape : Shape) (words : ℕ → ℕ → ℕ) (homes : Homes) (traces :
           off = λ t e. e;
         })
         (record { current = λ j. refl; stays = refl }) (record { ended = refl; body = refl }) refl
+        (exclusives_still words homes.wait traces s kept.exclusives (LoadedBusy n (is_set (words n BUSY)) (words n BUSY / 2)) (λ t k e. e) refl refl)
         (load_busy_event shape words homes traces s n (record { seat = seat; task = task })),
     tt,
   )
@@ -180,6 +198,7 @@ module _ (shape : Shape) (words : ℕ → ℕ → ℕ) (homes : Homes) (traces :
           off = λ t e. e;
         })
         (record { current = λ j. refl; stays = refl }) (record { ended = refl; body = refl }) refl
+        (exclusives_still words homes.wait traces s kept.exclusives (LoadedCpu n (words n CPU)) (λ t k e. e) refl refl)
         (load_cpu_event shape words homes traces s n (record { seat = seat; task = task })),
     kept.holds.shapes.cpu n task,
   )
@@ -204,6 +223,7 @@ module _ (shape : Shape) (words : ℕ → ℕ → ℕ) (homes : Homes) (traces :
           off = λ t e. e;
         })
         (record { current = λ j. refl; stays = refl }) (record { ended = refl; body = refl }) refl
+        (exclusives_still words homes.wait traces s kept.exclusives (LoadedCond n (words n COND)) (λ t k e. e) refl refl)
         (load_cond_event shape words homes traces s n (record { seat = seat; condition = condition })),
     tt,
   )
@@ -222,10 +242,10 @@ pub load_masked_law : (mask : State) → IsMask (Some mask)
     → (shape : Shape) (words : ℕ → ℕ → ℕ) (homes : Homes) (traces : ℕ → List Rec) (s n y : ℕ)
     → Kept shape words homes traces → s < shape.cpus + shape.agents → n < shape.tasks → y ≡ words n STATE
     → Kept shape (put_at words n STATE y) homes
-    (put traces s (LoadedState n (Some mask) (record { 0 = words n STATE }) ∷ traces s)) × (words n STATE < 2 ^ 16)
+    (put traces s (LoadedState n (Some mask) (record { 0 = words n STATE }) ∷ traces s)) × StateTold s (traces s) n (words n STATE)
 load_masked_law mask allowed shape words homes traces s n y kept seat task same = (
   as_found shape words homes traces s n y kept seat STATE
       (state_note shape words homes traces s n y kept seat (Some mask)) same
       (state_kept shape words homes traces s n y kept seat (Some mask) task allowed),
-  kept.states n,
+  state_told shape words homes traces s n y kept seat,
 )

@@ -1,6 +1,6 @@
 -- What a seat may do as its own trace tells, the core that the table shows allows: words of tasks.
-use Rattle.std.proofs.Common.{◌≡◌, ◌≢◌, ℕ, ◌<◌, ◌≤◌, ◌+◌, refl, sym, subst, inl, inr, List, arith}
-use Rattle.std.specs.Prelude.{◌/◌, ◌%◌, ◌^◌, ◌==◌, ◌&&◌, ◌⊎◌, if◌then◌else◌, true, false, Option, Some, None, IsSome}
+use Rattle.std.proofs.Common.{◌≡◌, ◌≢◌, ℕ, ◌<◌, ◌≤◌, ◌+◌, refl, sym, subst, ◌∙◌, inl, inr, List, arith}
+use Rattle.std.specs.Prelude.{◌/◌, ◌%◌, ◌^◌, ◌==◌, ◌&&◌, ◌⊎◌, if◌then◌else◌, Bool, true, false, Option, Some, None, IsSome}
 use Rattle.std.proofs.lemmas.Bool.{cases_Bool}
 use Rattle.std.proofs.lemmas.Bool.Decides.{nat_tests}
 use Rattle.core_data.specs.Queue.{Queue, times_in}
@@ -9,8 +9,9 @@ use Rattle.core_kinds.specs.Running.{MayQueue, MayDequeue, MayMove, MaySetBusy, 
 use Rattle.core_kinds.specs.Waking.{MayOwnState, MayClaim, MayRelease, MayStoreCpu, IsOwnState}
 use Rattle.handoff_data.specs.declared.shape.Shape.{Shape}
 use Rattle.handoff_data.specs.declared.state.State.{State}
+use Rattle.word_rule.proofs.GrownKept.{same_number}
 use Rattle.word_rule.specs.Kept.{Kept}
-use Rattle.word_rule.specs.May.{MayQueueWord, MayDequeueWord, MayMoveWord, MaySetBusyWord, MayClearBusyWord, MayOwnWord, MayClaimWord, MayReleaseWord, MayCpuWord, IsMatchedHere, IsPutHere}
+use Rattle.word_rule.specs.May.{MayQueueWord, MayDequeueWord, MayMoveWord, MaySetBusyWord, MayClearBusyWord, MayOwnWord, MayClaimWord, MayReleaseWord, MayCpuWord, IsMatchedHere, IsPutHere, on_of}
 use Rattle.word_steps.proofs.Conditions.{queue_locked, store_cpu_may, set_busy_may, move_may}
 use Rattle.word_steps.proofs.CurrentKept.{own_state_may}
 use Rattle.word_steps.proofs.EndedKept.{dead_allowed}
@@ -55,6 +56,33 @@ module _ (shape : Shape) (words : ℕ → ℕ → ℕ) (homes : Homes) (traces :
   processor_of : (t c : ℕ) → t < shape.tasks → words t CPU ≡ c → c < shape.cpus
   processor_of t c task here = subst (λ (z : ℕ). z < shape.cpus) here (kept.holds.shapes.cpu t task)
 
+  -- the number that the seat has read or made of a task that it may queue is its number
+  pub queue_number : (t y : ℕ) → (may : MayQueueWord s (traces s) t (words t RQ) y) → words t RQ / 4 ≡ may.number
+  queue_number t y may = elim may.ready [
+    | inl new ↦ kept.numbers s t (task_locked t may.locked) new ∙ same_number 0 may.number (sym new ∙ may.known)
+    | inr way ↦ elim way [
+      | inl claims ↦ kept.ways s t may.number (inl claims.0) may.known
+      | inr moves ↦ kept.ways s t may.number (inr moves) may.known
+    ]
+  ]
+
+  -- .. and it is between two queues exactly where the seat moves it
+  pub queue_on : (t y : ℕ) → MayQueueWord s (traces s) t (words t RQ) y → words t RQ % 4 ≡ on_of (traces s) t
+  queue_on t y may = on (is_moving (traces s) t) refl
+    where
+      still : is_moving (traces s) t ≡ false → words t RQ % 4 ≡ 0
+      still unmoved = elim may.ready [
+        | inl new ↦ kept.holds.places.new.off t (kept.numbers s t (task_locked t may.locked) new)
+        | inr way ↦ elim way [
+          | inl claims ↦ kept.holds.positions.claimed.off s t claims.0
+          | inr moves ↦ absurd (grind (arith, moves, unmoved))
+        ]
+      ]
+
+      on : (b : Bool) → is_moving (traces s) t ≡ b → words t RQ % 4 ≡ (if b then 2 else 0)
+      on true moves = (kept.moving.known s t moves).1
+      on false unmoved = still unmoved
+
   pub queue_possible : (t y : ℕ) → t < shape.tasks → (may : MayQueueWord s (traces s) t (words t RQ) y)
       → MayQueue (core_of shape words homes traces) s may.cpu t
   queue_possible t y task may =
@@ -67,7 +95,7 @@ module _ (shape : Shape) (words : ℕ → ℕ → ℕ) (homes : Homes) (traces :
         here = here;
         off = off may.ready;
         ready = ready may.ready;
-        room = may.room;
+        room = subst (λ (z : ℕ). z < 2 ^ 60) (sym (queue_number t y may)) may.room;
       }
     where
       here : words t CPU ≡ may.cpu

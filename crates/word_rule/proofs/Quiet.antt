@@ -8,9 +8,12 @@ use Rattle.core_law.proofs.Reached.{Holds-step, reached_step}
 use Rattle.handoff_data.specs.declared.shape.Shape.{Shape}
 use Rattle.word_rule.proofs.BodiesKept.{known_still}
 use Rattle.word_rule.proofs.GrownKept.{grown_beside, grown_still}
+use Rattle.word_rule.proofs.MasksKept.{masks_event}
 use Rattle.word_rule.proofs.OffKept.{off_beside, off_still}
+use Rattle.word_rule.proofs.OwnKept.{own_event}
 use Rattle.word_rule.proofs.RunsKept.{runs_still}
 use Rattle.word_rule.proofs.StandingKept.{standing_beside, standing_still}
+use Rattle.word_rule.proofs.WaysKept.{ways_event}
 use Rattle.word_rule.specs.Bodies.{BodiesKnown}
 use Rattle.word_rule.specs.Kept.{Kept}
 use Rattle.word_rule.specs.Standing.{StandingHolds, RunsHold, OffHolds, GrownHolds, standing, may_run}
@@ -25,6 +28,7 @@ use Rattle.word_steps.proofs.QueuedKept.{queued_beside, queued_still}
 use Rattle.word_steps.specs.Beside.{MovingHolds, CurrentHolds, NumbersHold, MatchedHolds, QueuedHolds, PutHolds, EndedHolds, CountsZero, StatesFit}
 use Rattle.word_steps.specs.Decode.{Homes, core_of, core_after}
 use Rattle.word_steps.specs.Events.{IsEvent}
+use Rattle.word_steps.specs.Exclusives.{ExclusivesHold}
 use Rattle.word_steps.specs.Folds.{moving_after, current_task, stays_queued, number_after, number_read, is_matched_by, saw_queued, has_put, ended_known, body_held, saw_off}
 use Rattle.word_steps.specs.Records.{Rec}
 use Rattle.word_steps.specs.Words.{LOCK, QUEUE_LOCK, RQ, CPU, COUNT, STATE, BUSY, COND, WORKS_LOCK, WAIT_LOCK}
@@ -109,6 +113,7 @@ pub record Touched (words : ℕ → ℕ → ℕ) (homes : Homes) (traces : ℕ �
   pub numbers : NumbersHold words traces
   pub matched : MatchedHolds words traces
   pub queued : QueuedHolds words traces
+  pub exclusives : ExclusivesHold words homes.wait traces
   pub put_there : PutHolds words traces
   pub ended : EndedHolds homes.ended traces
   pub counts : CountsZero words
@@ -134,6 +139,7 @@ module _ (shape : Shape) (words : ℕ → ℕ → ℕ) (homes : Homes) (traces :
         numbers = touched.numbers;
         matched = touched.matched;
         queued = touched.queued;
+        exclusives = touched.exclusives;
         put_there = touched.put_there;
         ended = touched.ended;
         counts = touched.counts;
@@ -143,19 +149,22 @@ module _ (shape : Shape) (words : ℕ → ℕ → ℕ) (homes : Homes) (traces :
         off = touched.off;
         grown = touched.grown;
         known = touched.known;
+        own = own_event shape words homes traces s r words' homes' event kept.holds kept.current kept.own;
+        ways = ways_event shape words homes traces s r words' homes' event kept.holds kept.moving kept.off kept.ways;
+        masks = masks_event shape words homes traces s r words' homes' event kept.masks;
       }
 
 module _ (shape : Shape) (words : ℕ → ℕ → ℕ) (homes homes' : Homes) (traces : ℕ → List Rec) (s : ℕ) where
   -- a step on a word of such a column
   pub beside_kept : Kept shape words homes traces → (n c x : ℕ) (r : Rec) → IsBeside c → (c ≡ STATE → x < 2 ^ 16)
-      → IsQuiet r (traces s)
+      → IsQuiet r (traces s) → ExclusivesHold (put_at words n c x) homes'.wait (put traces s (r ∷ traces s))
       → IsEvent shape words homes traces s r (put_at words n c x) homes'
       → CurrentHolds (put_at words n c x) (put traces s (r ∷ traces s))
       → EndedHolds homes'.ended (put traces s (r ∷ traces s))
       → RunsHold (put_at words n c x) (put traces s (r ∷ traces s))
       → BodiesKnown (put traces s (r ∷ traces s))
       → Kept shape (put_at words n c x) homes' (put traces s (r ∷ traces s))
-  beside_kept kept n c x r at small quiet event current ended runs known =
+  beside_kept kept n c x r at small quiet exclusives event current ended runs known =
       let numbers = quiet.numbers (number_read (traces s)) in
       let grows = grows_beside words traces s kept.matched n c x at.rq in
       kept_after shape words homes traces s kept r (put_at words n c x) homes' event (record {
@@ -164,6 +173,7 @@ module _ (shape : Shape) (words : ℕ → ℕ → ℕ) (homes homes' : Homes) (t
         numbers = numbers_beside words traces s kept.numbers n c x r at.lock at.rq quiet.numbers;
         matched = matched_beside words traces s kept.matched n c x r at.lock grows quiet.matched;
         queued = queued_beside words traces s kept.queued n c x r at.lock at.queue at.cpu at.rq quiet.queued;
+        exclusives = exclusives;
         put_there = put_beside words traces s kept.put_there n c x r at.queue at.cpu at.rq quiet.put_there;
         ended = ended;
         counts = counts_put words n c x kept.counts at.count;
@@ -178,13 +188,14 @@ module _ (shape : Shape) (words : ℕ → ℕ → ℕ) (homes homes' : Homes) (t
   -- .. that changes neither the current task nor a body
   pub quiet_beside : Kept shape words homes traces → homes'.ended ≡ homes.ended → (n c x : ℕ) (r : Rec) → IsBeside c
       → (c ≡ STATE → x < 2 ^ 16) → IsQuiet r (traces s) → IsSteady r (traces s) → IsOutside r (traces s)
+      → ExclusivesHold (put_at words n c x) homes'.wait (put traces s (r ∷ traces s))
       → IsEvent shape words homes traces s r (put_at words n c x) homes'
       → RunsHold (put_at words n c x) (put traces s (r ∷ traces s))
       → Kept shape (put_at words n c x) homes' (put traces s (r ∷ traces s))
-  quiet_beside kept same n c x r at small quiet steady outside event runs =
+  quiet_beside kept same n c x r at small quiet steady outside exclusives event runs =
       let before : EndedHolds homes'.ended traces
       = subst (λ (f : ℕ → Bool). EndedHolds f traces) (sym same) kept.ended in
-      beside_kept kept n c x r at small quiet event
+      beside_kept kept n c x r at small quiet exclusives event
       (current_quiet words traces s kept.current n c x r at.rq steady.current steady.stays)
       (ended_still homes'.ended traces s before r steady.current outside.ended)
       runs
@@ -193,17 +204,19 @@ module _ (shape : Shape) (words : ℕ → ℕ → ℕ) (homes homes' : Homes) (t
   -- a step that changes no word, and not the current task
   pub still_kept : Kept shape words homes traces → (r : Rec) → IsQuiet r (traces s) → IsSteady r (traces s)
       → may_run s (r ∷ traces s) ≡ may_run s (traces s)
+      → ExclusivesHold words homes'.wait (put traces s (r ∷ traces s))
       → IsEvent shape words homes traces s r words homes'
       → EndedHolds homes'.ended (put traces s (r ∷ traces s))
       → BodiesKnown (put traces s (r ∷ traces s))
       → Kept shape words homes' (put traces s (r ∷ traces s))
-  still_kept kept r quiet steady same event ended known =
+  still_kept kept r quiet steady same exclusives event ended known =
       kept_after shape words homes traces s kept r words homes' event (record {
         moving = moving_still shape words homes traces s kept.moving r quiet.moving;
         current = current_still words traces s kept.current r steady.current steady.stays;
         numbers = numbers_still words traces s kept.numbers r quiet.numbers;
         matched = matched_still words traces s kept.matched r quiet.matched;
         queued = queued_still words traces s kept.queued r quiet.queued;
+        exclusives = exclusives;
         put_there = put_still words traces s kept.put_there r quiet.put_there;
         ended = ended;
         counts = kept.counts;

@@ -24,6 +24,7 @@ use Rattle.word_rule.specs.Standing.{RunsHold}
 use Rattle.word_steps.proofs.CurrentKept.{current_quiet, set_busy_current}
 use Rattle.word_steps.proofs.EndedKept.{ended_still, set_busy_ended, counts_put}
 use Rattle.word_steps.proofs.Events.{bump_event, set_busy_event, clear_busy_event, own_state_event, claim_event, release_event, store_cpu_event}
+use Rattle.word_steps.proofs.ExclusivesKept.{exclusives_beside, exclusives_state, set_busy_exclusives, own_state_exclusives, store_cpu_exclusives}
 use Rattle.word_steps.proofs.MatchedKept.{matched_beside, grows_beside}
 use Rattle.word_steps.proofs.MovingKept.{states_put}
 use Rattle.word_steps.proofs.MovingSteps.{moving_beside}
@@ -32,6 +33,7 @@ use Rattle.word_steps.proofs.PutKept.{store_cpu_put}
 use Rattle.word_steps.proofs.QueuedKept.{store_cpu_queued}
 use Rattle.word_steps.specs.Decode.{Homes, core_of}
 use Rattle.word_steps.specs.Events.{IsEvent}
+use Rattle.word_steps.specs.Exclusives.{ExclusivesHold}
 use Rattle.word_steps.specs.Folds.{body_held, task_held, ended_known}
 use Rattle.word_steps.specs.Records.{Rec, SetBusy, ClearedBusy, StoredOwn, Claimed, Released, StoredCpu, Bumped}
 use Rattle.word_steps.specs.Words.{LOCK, STATE, RQ, BUSY, CPU, COND}
@@ -68,6 +70,8 @@ module _ (shape : Shape) (words : ℕ → ℕ → ℕ) (homes : Homes) (traces :
           off = λ t e. e;
         })
         (record { current = λ j. refl; stays = refl }) (record { ended = refl; body = refl })
+        (exclusives_beside words homes.wait traces s kept.exclusives n COND ((words n COND + 1) % 2 ^ 64) bump_note
+        (λ e. omega (arith, e)) (λ e. omega (arith, e)) (λ t k e. e) refl refl)
         (bump_event shape words homes traces s n (record { seat = seat; condition = condition }))
         (runs_beside words traces s kept.runs n COND ((words n COND + 1) % 2 ^ 64) bump_note
         cond_beside.queue cond_beside.cpu cond_beside.rq (λ e. omega (arith, e)) refl refl)),
@@ -104,6 +108,8 @@ module _ (shape : Shape) (words : ℕ → ℕ → ℕ) (homes : Homes) (traces :
             standing = refl;
             off = renewed words traces s kept.off n;
           })
+          (set_busy_exclusives words homes.wait traces s kept.exclusives n s (words n BUSY / 2) y BUSY
+          (λ e. omega (arith, e)) (λ e. omega (arith, e)))
           (set_busy_event shape words homes traces s s n y q (omega (arith, may.after))
           (omega (arith, may.after)) core)
           (set_busy_current words traces s kept.current shape homes kept.holds s n (words n BUSY / 2) y q core)
@@ -141,6 +147,8 @@ module _ (shape : Shape) (words : ℕ → ℕ → ℕ) (homes : Homes) (traces :
           off = renewed words traces s kept.off n;
         })
         (record { current = λ j. refl; stays = refl }) (record { ended = refl; body = refl })
+        (exclusives_beside words homes.wait traces s kept.exclusives n BUSY y clear_note
+        (λ e. omega (arith, e)) (λ e. omega (arith, e)) (λ t k e. e) refl refl)
         (clear_busy_is_event task may)
         (runs_beside words traces s kept.runs n BUSY y clear_note busy_beside.queue busy_beside.cpu busy_beside.rq
         (λ e. omega (arith, e)) refl refl),
@@ -151,12 +159,13 @@ module _ (shape : Shape) (words : ℕ → ℕ → ℕ) (homes : Homes) (traces :
 
   -- a store of it that tells nothing new of what stands beside the invariant
   quiet_state : (x : ℕ) (r : Rec) → x < 2 ^ 16 → IsQuiet r (traces s) → IsSteady r (traces s) → IsOutside r (traces s)
+      → ExclusivesHold (put_at words n STATE x) homes.wait (put traces s (r ∷ traces s))
       → IsEvent shape words homes traces s r (put_at words n STATE x) homes
       → RunsHold (put_at words n STATE x) (put traces s (r ∷ traces s))
       → Kept shape (put_at words n STATE x) homes (put traces s (r ∷ traces s))
-  quiet_state x r small quiet steady outside event runs =
+  quiet_state x r small quiet steady outside exclusives event runs =
       quiet_beside shape words homes homes traces s kept refl n STATE x r state_beside
-      (λ e. small) quiet steady outside event runs
+      (λ e. small) quiet steady outside exclusives event runs
 
   pub own_state_is_event : n < shape.tasks → MayOwnWord s (traces s) n (words n STATE) y
       → IsEvent shape words homes traces s (StoredOwn n (record { 0 = y })) (put_at words n STATE y) homes
@@ -179,6 +188,7 @@ module _ (shape : Shape) (words : ℕ → ℕ → ℕ) (homes : Homes) (traces :
               off = renewed words traces s kept.off n;
             })
             (record { current = λ j. refl; stays = refl }) (record { ended = refl; body = refl })
+            (own_state_exclusives words homes.wait traces s kept.exclusives shape homes kept.holds n y may.current)
             (own_state_event shape words homes traces s n (record { 0 = y }) core)
             (own_state_runs words traces s kept.runs shape homes n (record { 0 = y }) core),
         tt,
@@ -226,6 +236,8 @@ module _ (shape : Shape) (words : ℕ → ℕ → ℕ) (homes : Homes) (traces :
             off = renewed words traces s kept.off n;
           })
           (record { current = λ j. refl; stays = refl }) (record { ended = refl; body = refl })
+          (exclusives_state words homes.wait traces s kept.exclusives n 0x200 (Claimed n (words n RQ / 4)) (λ t k e. e) refl
+          refl (λ k e sleeps. absurd (grind (arith, nat_tests, e))))
           (claim_event shape words homes traces s n core)
           (claim_runs words traces s kept.runs shape homes kept.holds n (words n RQ / 4) core)
 
@@ -252,6 +264,8 @@ module _ (shape : Shape) (words : ℕ → ℕ → ℕ) (homes : Homes) (traces :
               off = renewed words traces s kept.off n;
             })
             (record { current = λ j. refl; stays = refl }) (record { ended = refl; body = refl })
+            (exclusives_state words homes.wait traces s kept.exclusives n 0 (Released n) (λ t k e. e) refl refl
+            (λ k e sleeps. absurd (grind (arith, nat_tests, e))))
             (release_event shape words homes traces s n core)
             (release_runs words traces s kept.runs shape homes kept.holds n kept.put_there)),
         tt,
@@ -275,6 +289,7 @@ module _ (shape : Shape) (words : ℕ → ℕ → ℕ) (homes : Homes) (traces :
           matched = matched_beside words traces s kept.matched n CPU y (StoredCpu n y) lock
               (grows_beside words traces s kept.matched n CPU y rq) refl;
           queued = store_cpu_queued words traces s kept.queued shape homes n y core;
+          exclusives = store_cpu_exclusives words homes.wait traces s kept.exclusives shape homes kept.holds n y core.placeable;
           put_there = store_cpu_put words traces s kept.put_there shape homes kept.holds n y core;
           ended = ended_still homes.ended traces s kept.ended (StoredCpu n y) (λ j. refl) refl;
           counts = counts_put words n CPU y kept.counts (λ e. omega (arith, e));

@@ -96,7 +96,14 @@ module _ (shape : Shape) (words : ℕ → ℕ → ℕ) (homes : Homes) (traces :
     (kept : Kept shape words homes traces) where
   pub take_told : (sort : Sort) (n : ℕ) (v : Val) → home_of sort homes n ≡ Some v → TakeTold shape s (traces s) sort n v
   take_told OfTask n v home = of_some val.Task (TakeTold shape s (traces s) OfTask n) (homes.task n) v home (λ w is.
-      let told = kept.holds.shapes.task_values.at_home n w is in record { wake_cpu = told.wake_cpu; dest = told.dest })
+      let told = kept.holds.shapes.task_values.at_home n w is in
+      record {
+        some = kept.masks.at_home n w is;
+        mask = told.mask;
+        narrowed = told.narrowed;
+        wake_cpu = told.wake_cpu;
+        dest = told.dest;
+      })
   take_told OfQueue n v home = of_some val.Queue (TakeTold shape s (traces s) OfQueue n) (homes.queue n) v home
       (taken_queue shape words homes traces s n kept)
   take_told OfWorks n v home = of_some val.Works (TakeTold shape s (traces s) OfWorks n) (homes.works n) v home

@@ -1,6 +1,9 @@
 pub mod Bodies
 pub mod Kept
+pub mod Masks
 pub mod May
+pub mod Own
 pub mod Sorts
 pub mod Standing
 pub mod Told
+pub mod Ways

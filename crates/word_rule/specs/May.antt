@@ -1,6 +1,6 @@
 -- When a seat may make each kind of step: by its number s, its own trace, the word that the step finds, x, and the word
 -- that it leaves, y.
-use Rattle.std.specs.Prelude.{◌≡◌, ◌≢◌, ℕ, suc, ◌+◌, ◌*◌, ◌%◌, ◌/◌, ◌^◌, ◌<◌, ◌⊎◌, Bool, true, false, List, Some, None, IsSome, unwrap_or}
+use Rattle.std.specs.Prelude.{◌≡◌, ◌≢◌, ℕ, suc, ◌+◌, ◌*◌, ◌%◌, ◌/◌, ◌^◌, ◌<◌, ◌⊎◌, Bool, true, false, List, Some, None, IsSome, unwrap_or, if◌then◌else◌}
 use Rattle.core_data.specs.Entries.{has_entry}
 use Rattle.core_data.specs.Queue.{Queue, times_in}
 use Rattle.core_data.specs.declared.values.TaskVal.{TaskVal}
@@ -26,18 +26,27 @@ cpu_read_of trace t = unwrap_or (last_reads trace t).cpu 0
 abbrev pub number_of : List Rec → ℕ → ℕ
 number_of trace t = unwrap_or (number_read trace t) 0
 
+-- `on_rq` of a task that the seat may queue, as its trace tells: 2 where the seat moves it, else 0
+abbrev pub on_of : List Rec → ℕ → ℕ
+on_of trace t = if is_moving trace t then 2 else 0
+
 -- the queue word after a change, with 60 bits for its number
 abbrev pub next_rq : ℕ → ℕ → ℕ
 next_rq x on = 4 * (x / 4 + 1) + on
+
+abbrev pub queued_next : ℕ → ℕ
+queued_next m = 4 * (m + 1) + 1
 
 abbrev pub next_busy : ℕ → ℕ
 next_busy x = 2 * (x / 2 + 1) + 1
 
 module _ (s : ℕ) (trace : List Rec) where
-  -- `on_rq` to 1
+  -- `on_rq` to 1, with the number after the one that the seat has read or made
   pub record MayQueueWord (t x y : ℕ) : Type 0 where
-    pub after : y ≡ next_rq x 1
-    pub room : x / 4 < 2 ^ 60
+    pub number : ℕ
+    pub known : number_read trace t ≡ Some number
+    pub room : number < 2 ^ 60
+    pub after : y ≡ queued_next number
     pub locked : IsSome (task_held trace t)
     pub cpu : ℕ
     pub read : (last_reads trace t).cpu ≡ Some cpu

@@ -6,6 +6,7 @@ use Rattle.core_data.specs.declared.values.TaskVal.{TaskVal}
 use Rattle.core_data.specs.declared.values.WaitEntry.{WaitEntry}
 use Rattle.core_gives.specs.Queues.{times}
 use Rattle.core_gives.specs.Waits.{has_task, HasEachOnce}
+use Rattle.handoff_data.specs.Mask.{HasCpu}
 use Rattle.handoff_data.specs.declared.shape.Shape.{Shape}
 use Rattle.word_rule.specs.Sorts.{Sort, OfTask, OfQueue, OfWorks, OfWait}
 use Rattle.word_steps.specs.Folds.{task_held, current_task, task_to_clear, is_claimed, is_moving, number_read}
@@ -13,7 +14,11 @@ use Rattle.word_steps.specs.Records.{Rec}
 use Rattle.word_steps.specs.declared.val.Val.{Val}
 use Rattle.word_steps.specs.declared.val.Val.TheVariants as val
 
+-- the task may run on some processor, and each that its mask names, or that it is narrowed to, is of the shape
 pub record TakenTask (shape : Shape) (v : TaskVal) : Type 0 where
+  pub some : (c : ℕ) × HasCpu v.mask c
+  pub mask : (c : ℕ) → HasCpu v.mask c → c < shape.cpus
+  pub narrowed : (c : ℕ) → v.narrowed ≡ Some c → c < shape.cpus
   pub wake_cpu : v.wake_cpu < shape.cpus
   pub dest : v.dest < shape.cpus
 

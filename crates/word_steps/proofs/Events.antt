@@ -52,7 +52,12 @@ module _ (shape : Shape) (words : ℕ → ℕ → ℕ) (homes : Homes) (traces :
   pub give_task_event : (t : ℕ) (taken : TaskVal) (given : TaskVal) → task_held (traces s) t ≡ Some taken → MayGiveTask (core_of shape words homes traces) s t given false false
       → IsEvent shape words homes traces s (Gave t (val.Task taken) (val.Task given)) (put_at words t LOCK 0) (record homes { task = put homes.task t (Some given) })
   give_task_event t taken given out may =
-      record { kind = step.GiveTask t given false false; noted = (taken, out, refl); writes = refl; event = record { possible = may; next_is = give_task_shown shape words homes traces s t taken given } }
+      record {
+        kind = step.GiveTask t given false false;
+        noted = (taken, out, refl);
+        writes = refl;
+        event = record { possible = may; next_is = give_task_shown shape words homes traces s t taken given };
+      }
 
   pub give_queue_event : (c : ℕ) (taken : Queue) (given : Queue) → queue_held (traces s) c ≡ Some taken → MayGiveQueue (core_of shape words homes traces) s c given
       → IsEvent shape words homes traces s (Gave c (val.Queue taken) (val.Queue given)) (put_at words c QUEUE_LOCK 0) (record homes { queue = put homes.queue c (Some given) })
@@ -102,7 +107,12 @@ module _ (shape : Shape) (words : ℕ → ℕ → ℕ) (homes : Homes) (traces :
   pub load_state_event : (t : ℕ) (mask : Option State) → Holds (core_of shape words homes traces) → MayLoadState (core_of shape words homes traces) s t mask
       → IsEvent shape words homes traces s (LoadedState t mask (record { 0 = words t STATE })) words homes
   load_state_event t mask holds may =
-      record { kind = step.LoadState t mask; noted = refl; writes = refl; event = record { possible = may; next_is = load_state_shown shape words homes traces s t mask (own_read (core_of shape words homes traces) s t holds) } }
+      record {
+        kind = step.LoadState t mask;
+        noted = refl;
+        writes = refl;
+        event = record { possible = may; next_is = load_state_shown shape words homes traces s t mask (own_read (core_of shape words homes traces) s t holds) };
+      }
 
   pub load_rq_event : (t : ℕ) → MayLoad (core_of shape words homes traces) s t
       → IsEvent shape words homes traces s (LoadedRq t (words t RQ % 4) (words t RQ / 4)) words homes

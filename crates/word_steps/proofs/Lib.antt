@@ -2,6 +2,7 @@ pub mod Conditions
 pub mod CurrentKept
 pub mod EndedKept
 pub mod Events
+pub mod ExclusivesKept
 pub mod FirstCore
 mod Flats
 pub mod FlatWords

@@ -47,8 +47,8 @@ IsNoted core s (step.StoreCpu t c) r = r ≡ StoredCpu t c
 IsNoted core s (step.Bump k) r = r ≡ Bumped k (core.cond k)
 IsNoted core s (step.LoadCond k) r = r ≡ LoadedCond k (core.cond k)
 
--- The word that a step of the seat s writes, by the words before and after: no other word changes. A store of a queue word
--- or a busy word leaves open what it puts there, which the core's next tells.
+-- The word that a step of the seat s writes, by the words before and after: no other word changes. A store of a queue
+-- word or a busy word leaves open what it puts there, which the core's next tells.
 abbrev pub Writes : ℕ → StepKind → (ℕ → ℕ → ℕ) → (ℕ → ℕ → ℕ) → Type 0
 Writes s (step.TakeTask t) words words' = words' ≡ put_at words t LOCK (suc s)
 Writes s (step.GiveTask t given stood done) words words' = words' ≡ put_at words t LOCK 0
@@ -70,8 +70,9 @@ Writes s (step.StoreCpu t c) words words' = words' ≡ put_at words t CPU c
 Writes s (step.Bump k) words words' = words' ≡ put_at words k COND ((words k COND + 1) % 2 ^ 64)
 Writes s kind words words' = words' ≡ words
 
--- A step by which the seat s puts r in front of its trace, and which leaves these words and values at home, is one event
--- of the core that was shown: r is its record, it was possible there, and the core shown after it is the core's own next.
+-- A step by which the seat s puts r in front of its trace, and which leaves these words and values at home, is one
+-- event of the core that was shown: r is its record, it was possible there, and the core shown after it is that core's
+-- own next.
 pub record IsEvent
     (shape : Shape)
     (words : ℕ → ℕ → ℕ)
@@ -85,4 +86,6 @@ pub record IsEvent
   pub kind : StepKind
   pub noted : IsNoted (core_of shape words homes traces) s kind r
   pub writes : Writes s kind words words'
-  pub event : Step (core_of shape words homes traces) (record { seat = s; step = kind }) (core_after shape words' homes' traces s r)
+  pub event :
+      Step (core_of shape words homes traces) (record { seat = s; step = kind })
+      (core_after shape words' homes' traces s r)

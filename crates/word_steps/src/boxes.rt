@@ -1,8 +1,8 @@
-//! What the locks of tasks, queues and works guard, each in a box of its own: a lock that is taken, or given, moves no
-//! more than its address.
+//! What the locks of tasks and queues guard, each in a box of its own: a lock that is taken, or given, moves no more than
+//! its address.
 ghost use Rattle.std.specs.Prelude.{◌≡◌};
 
-use core_data::{QueueVal, TaskVal, WorksVal};
+use core_data::{QueueVal, TaskVal};
 use handoff_data::{CpuNo, NoMemory, TaskNo};
 use std::alloc::Global;
 use std::marker::Model;
@@ -118,40 +118,5 @@ impl QueueBox {
         ensures { self.new ≡ record self.old { left = left } }
     {
         self.inner.left = left;
-    }
-}
-
-/// What the lock of a processor's works guards on the shared table. Contracts see the works, the oldest first.
-#[derive(Drop)]
-pub struct WorksBox {
-    inner: Box<WorksVal>,
-}
-
-impl Model for WorksBox {
-    ghost use Rattle.std.specs.Prelude.{List};
-    ghost use Rattle.core_data.specs.declared.values.WorkItem.{WorkItem};
-
-    ghost Value = { List WorkItem };
-
-    ghost view = { λ w. w.inner.value };
-}
-
-impl WorksBox {
-    ghost use Rattle.std.specs.Prelude.{◌≡◌, [], IfOk};
-
-    /// No works in a box, with room for so many.
-    pub fn new(alloc: Global, room: usize) -> Result<WorksBox, NoMemory>
-        ensures { IfOk result (λ w. w ≡ []) }
-    {
-        let items = Vec::with_capacity(alloc, room)?;
-        let inner = Box::new(alloc, WorksVal { items })?;
-        Ok(WorksBox { inner })
-    }
-
-    /// The works.
-    pub fn get(&self) -> &WorksVal
-        ensures { result.now ≡ self.now }
-    {
-        &*self.inner
     }
 }

@@ -5,7 +5,9 @@
 mod boxes;
 mod val;
 mod wait;
+mod works;
 
-pub use boxes::{QueueBox, TaskBox, WorksBox};
+pub use boxes::{QueueBox, TaskBox};
 pub use val::Val;
 pub use wait::WaitQueue;
+pub use works::WorksBox;

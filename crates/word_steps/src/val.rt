@@ -4,8 +4,9 @@ ghost use Rattle.std.specs.Borrow.{sem};
 ghost use Rattle.word_steps.specs.Lending.{LendsTask, LendsQueue, LendsWorks, LendsWait, IsTask, IsQueue, IsWorks, IsWait};
 ghost use Rattle.word_steps.specs.declared.val.Val.TheVariants as val;
 
-use crate::boxes::{QueueBox, TaskBox, WorksBox};
+use crate::boxes::{QueueBox, TaskBox};
 use crate::wait::WaitQueue;
+use crate::works::WorksBox;
 
 /// The value that a lock guards; its kind is the lock's kind. A slot of the shared table and a record of a trace have
 /// such a value.

@@ -10,7 +10,7 @@ use Rattle.word_steps.specs.declared.val.Val.{Val}
 use Rattle.word_steps.specs.declared.val.Val.TheVariants as val
 use Rattle.word_steps.specs.contracts.boxes.TaskBox as task_box
 use Rattle.word_steps.specs.contracts.boxes.QueueBox as queue_box
-use Rattle.word_steps.specs.contracts.boxes.WorksBox as works_box
+use Rattle.word_steps.specs.contracts.works.WorksBox as works_box
 use Rattle.word_steps.specs.contracts.wait.WaitQueue as wait_queue
 use Rattle.word_table.specs.Taken.{TakenView, BodyView}
 use Rattle.word_table.specs.contracts.taken.Taken as taken

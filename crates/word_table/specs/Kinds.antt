@@ -1,5 +1,5 @@
--- What a kind of step on one word shows of itself: that it leaves the slots alone, that each step of it is an event of the
--- core, and that it keeps the rule.
+-- What a kind of step on one word shows of itself: that it leaves the slots alone, that each step of it is an event of
+-- the core, and that it keeps the rule.
 use Rattle.std.specs.Prelude.{ℕ, ◌+◌, ◌<◌, List, ◌∷◌}
 use Rattle.core_data.specs.Table.{put, put_at}
 use Rattle.handoff_data.specs.declared.shape.Shape.{Shape}
@@ -29,7 +29,8 @@ LeavesSlots note = (s : ℕ) (trace : List Rec) (n y x : ℕ) → IsQuiet (note 
 abbrev pub MakesEvents : ℕ → (Shape → ℕ) → Note → May → Type 0
 MakesEvents col bound note may =
     (shape : Shape) (words : ℕ → ℕ → ℕ) (homes : Homes) (traces : ℕ → List Rec) (s n y : ℕ)
-    → Kept shape words homes traces → s < shape.cpus + shape.agents → n < bound shape → may shape s (traces s) n (words n col) y
+    → Kept shape words homes traces → s < shape.cpus + shape.agents → n < bound shape
+    → may shape s (traces s) n (words n col) y
     → IsEvent shape words homes traces s (note s (traces s) n y (words n col)) (put_at words n col y) homes
 
 -- the rule holds after it, and this is told of the word found

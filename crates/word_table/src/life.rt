@@ -78,14 +78,13 @@ fn queue_slot<B: Kept>(alloc: Global, shape: &Shape, n: u32) -> Result<Slot<B>, 
     Ok(Slot::Held(Val::Queue(queue)))
 }
 
-// With room for an entry a task.
 fn works_slot<B: Kept>(alloc: Global, shape: &Shape, n: u32) -> Result<Slot<B>, NoMemory>
     ensures { IfOk result (λ x. x ≡ works_slot shape.now n) }
 {
     if n >= shape.cpus {
         return Ok(Slot::Empty);
     }
-    let works = WorksBox::new(alloc, shape.tasks as usize)?;
+    let works = WorksBox::new(alloc)?;
     Ok(Slot::Held(Val::Works(works)))
 }
 

@@ -2,7 +2,7 @@ use Rattle.std.proofs.Common.{◌≡◌, ◌∙◌, ℕ, ◌∷◌, List, Some, 
 use Rattle.handoff_data.specs.declared.shape.Shape.{Shape}
 use Rattle.run_queue.proofs.Guards.{gave_queue, queue_there, taken_current, taken_clear}
 use Rattle.ttwu_core.proofs.Steps.{give_looked_may}
-use Rattle.ttwu_core.proofs.Waiting.{IsLeftAlone, off_keeps, off_claimed, off_seen, off_number}
+use Rattle.ttwu_core.proofs.Waiting.{IsLeftAlone, off_keeps, off_claimed, off_moving, off_seen, off_number}
 use Rattle.ttwu_core.proofs.finding.find.Given.{Over}
 use Rattle.ttwu_core.proofs.finding.find.Goals as goal
 use Rattle.ttwu_core.specs.Finds.{Look, Left, looked, off_reads, rq_reads}
@@ -10,7 +10,7 @@ use Rattle.ttwu_core.specs.Keeps.{Keeps}
 use Rattle.word_rule.proofs.Uses.{gives_released}
 use Rattle.word_rule.specs.May.{MayGiveQueueVal}
 use Rattle.word_rule.specs.Told.{TakenQueue}
-use Rattle.word_steps.specs.Folds.{is_claimed, saw_off, number_read}
+use Rattle.word_steps.specs.Folds.{is_claimed, is_moving, saw_off, number_read}
 use Rattle.word_steps.specs.Records.{Rec, Took, Gave, Released, LoadedRq, LoadedCpu}
 use Rattle.word_steps.specs.declared.val.Val.TheVariants as val
 
@@ -155,3 +155,8 @@ pub returns-clause-claimed : goal.returns-clause-claimed
 returns-clause-claimed g c =
     ap is_claimed (left_did g c)
     ∙ off_claimed c.args.pass.now.seat c.args.t c.args.pass.now.trace (Some (left_of g c)) c.await_off-m.result
+
+pub returns-clause-moving : goal.returns-clause-moving
+returns-clause-moving g c =
+    ap is_moving (left_did g c)
+    ∙ off_moving c.args.pass.now.seat c.args.t c.args.pass.now.trace (Some (left_of g c)) c.await_off-m.result

@@ -1,7 +1,8 @@
-use Rattle.std.proofs.Common.{rules, ◌≡◌, ◌<◌, ◌∙◌, ℕ, ◌∷◌, List, Bool, Some, sym, subst, ap}
+use Rattle.std.proofs.Common.{rules, ◌≡◌, ◌<◌, ◌∙◌, ℕ, ◌∷◌, List, Bool, false, Some, refl, sym, subst, ap}
 use Rattle.std.specs.Prelude.{Option, unwrap_or}
 use Rattle.core_data.specs.declared.values.TaskVal.{TaskVal}
-use Rattle.ttwu_core.proofs.Resting.{keeps_again, placed_keeps, placed_claimed, queued_others, queued_unclaimed, woken_may_give, rests_after}
+use Rattle.core_stores.proofs.Columns.{put_there}
+use Rattle.ttwu_core.proofs.Resting.{keeps_again, placed_keeps, placed_claimed, placed_moving, placed_numbers, queued_others, queued_unclaimed, woken_may_give, rests_after}
 use Rattle.ttwu_core.proofs.waking.wake.Goals as goal
 use Rattle.run_queue.specs.Rests.{Rests}
 use Rattle.run_queue.proofs.Guards.{held_there}
@@ -12,7 +13,7 @@ use Rattle.ttwu_core.specs.Finds.{DidFind, off_reads}
 use Rattle.word_rule.specs.May.{MayGiveTaskVal}
 use Rattle.ttwu_core.specs.Keeps.{Keeps}
 use Rattle.ttwu_core.specs.Wakes.{tested}
-use Rattle.word_steps.specs.Folds.{task_held, is_claimed}
+use Rattle.word_steps.specs.Folds.{task_held, is_claimed, is_moving, number_read}
 use Rattle.word_steps.specs.Records.{Rec, Gave, Claimed, LoadedState}
 use Rattle.word_steps.specs.declared.val.Val.TheVariants as val
 
@@ -159,3 +160,25 @@ returns-clause-did g c =
           ∙ ap (off_reads t off.left c.in-Off.m) test))));
       turn = search rules;
     }
+
+-- the number that was read is still known, and the task isn't moved
+pub queue_woken-requires-clause-number : goal.queue_woken-requires-clause-number
+queue_woken-requires-clause-number g c κs within =
+    let t = c.args.t in
+    let off = subst (DidFind t c.match_state-seen.new.pass.trace c.find.new.pass.trace) c.in-Off.is c.find.ensures.did in
+    ap (λ (z : List Rec). number_read z t) c.place.ensures.trace
+    ∙ ap (λ (h : ℕ → Option ℕ). h t) (placed_numbers c.lock_task-task.result.task c.choose-c.result c.place.result c.claim.new.pass.trace
+    ∙ c.claim.ensures.numbers)
+    ∙ off.number
+
+pub queue_woken-requires-clause-unmoved : goal.queue_woken-requires-clause-unmoved
+queue_woken-requires-clause-unmoved g c κs within =
+    let t = c.args.t in
+    let v = c.lock_task-task.result.val in
+    let old = c.args.pass.now.trace in
+    let test = c.match_state-seen.ensures.trace
+    ∙ ap (λ (z : List Rec). LoadedState t (Some c.args.mask) c.match_state-seen.result ∷ z) c.lock_task-task.ensures.trace in
+    ap (λ (z : List Rec). is_moving z t) c.place.ensures.trace
+    ∙ ap (λ (h : ℕ → Bool). h t) (placed_moving c.lock_task-task.result.task c.choose-c.result c.place.result c.claim.new.pass.trace
+    ∙ c.claim.ensures.moving ∙ c.find.ensures.moving ∙ ap is_moving test)
+    ∙ put_there (is_moving old) t false t refl
