@@ -1,5 +1,5 @@
 -- What a seat may do next on its way through a start.
-use Rattle.std.proofs.Common.{◌≡◌, ◌∙◌, ℕ, ◌∷◌, List, inl, refl, sym, ap, subst, arith}
+use Rattle.std.proofs.Common.{◌≡◌, ◌∙◌, ◌<◌, ℕ, ◌∷◌, List, inl, inr, refl, sym, ap, subst, arith}
 use Rattle.std.specs.Prelude.{Bool, true, false, ◌==◌, Some, None, if◌then◌else◌}
 use Rattle.std.proofs.lemmas.Bool.Decides.{nat_tests}
 use Rattle.core_data.proofs.QueueLemmas.{times_in-push}
@@ -7,12 +7,13 @@ use Rattle.core_data.specs.Queue.{Queue}
 use Rattle.core_data.specs.declared.values.TaskVal.{TaskVal}
 use Rattle.core_kinds.specs.Steps.{fresh}
 use Rattle.handoff_data.specs.declared.shape.Shape.{Shape}
+use Rattle.handoff_data.specs.declared.state.State.{State}
 use Rattle.run_queue.proofs.Apart.{apart_again, took_task_apart, gave_task_apart, took_queue_apart, gave_queue_apart, queued_apart, rq_apart, released_apart, state_apart, placed_apart}
 use Rattle.run_queue.specs.Queueing.{pushed, placed}
 use Rattle.run_queue.specs.Rests.{Rests, IsApart}
 use Rattle.run_queue.specs.Starts.{queued_new}
 use Rattle.word_rule.proofs.Uses.{gives_put}
-use Rattle.word_rule.specs.May.{MayGiveQueueVal}
+use Rattle.word_rule.specs.May.{MayGiveQueueVal, MayGiveTaskVal}
 use Rattle.word_rule.specs.Told.{TakenQueue}
 use Rattle.word_steps.specs.Folds.{task_held, queue_held, current_task, task_to_clear, is_claimed}
 use Rattle.word_steps.specs.Records.{Rec, Took, Gave, Queued, Released, LoadedState, LoadedRq, LoadedCpu, StoredCpu}
@@ -102,3 +103,60 @@ started_rests s t c from on v w given q old new did current clear =
     started_claimed : (u : ℕ) → is_claimed old u ≡ false → is_claimed (Gave t (val.Task w) (val.Task given)
         ∷ queued_new t c q (placed t from c (LoadedRq t on 0 ∷ LoadedState t None fresh ∷ Took t (val.Task v) ∷ old))) u ≡ false
     started_claimed u e = grind (arith, nat_tests, e)
+
+-- the lock of the task may be given after the start
+pub give_started_may : (shape : Shape) (s t c : ℕ) (v : TaskVal) (q : Queue) (rs : List Rec)
+    → task_held (queued_new t c q rs) t ≡ Some v → c < shape.cpus → v.dest < shape.cpus
+    → MayGiveTaskVal s (queued_new t c q rs) shape t (record v { wake_cpu = c })
+give_started_may shape s t c v q rs held near dest =
+    record {
+      taken = v;
+      held = held;
+      kept = record { mask = refl; r = refl; narrowed = refl; pending = refl; stop_queued = refl };
+      wake_cpu = near;
+      dest = dest;
+      settled = inr (grind (arith, nat_tests), grind (arith, nat_tests));
+      begun = inr (inl (0, grind (arith, nat_tests)));
+    }
+
+-- What a look at a task that isn't new leaves as it was
+
+pub other_rests : (s t : ℕ) (seen : State) (v : TaskVal) (old new : List Rec)
+    → new ≡ Gave t (val.Task v) (val.Task v) ∷ LoadedState t None seen ∷ Took t (val.Task v) ∷ old → Rests s old new
+other_rests s t seen v old new did =
+    let a : List Rec = Took t (val.Task v) ∷ old in
+    let b : List Rec = LoadedState t None seen ∷ Took t (val.Task v) ∷ old in
+    subst (Rests s old) (sym did) (record {
+      tasks = λ u e. free u e;
+      queues = λ f k. f k;
+      claimed = λ u e. e;
+      current = refl;
+      clear = refl;
+      apart = apart_again old b (Gave t (val.Task v) (val.Task v) ∷ b)
+          (apart_again old a b (took_task_apart old t v) (state_apart a t None seen)) (gave_task_apart b t v v);
+    })
+  where
+    free : (u : ℕ) → task_held old u ≡ None
+        → task_held (Gave t (val.Task v) (val.Task v) ∷ LoadedState t None seen ∷ Took t (val.Task v) ∷ old) u ≡ None
+    free u e = grind (arith, nat_tests, e)
+
+pub changed_rests : (s t on m : ℕ) (v : TaskVal) (old new : List Rec)
+    → new ≡ Gave t (val.Task v) (val.Task v) ∷ LoadedRq t on m ∷ LoadedState t None fresh ∷ Took t (val.Task v) ∷ old → Rests s old new
+changed_rests s t on m v old new did =
+    let a : List Rec = Took t (val.Task v) ∷ old in
+    let b : List Rec = LoadedState t None fresh ∷ Took t (val.Task v) ∷ old in
+    subst (Rests s old) (sym did) (record {
+      tasks = λ u e. free u e;
+      queues = λ f k. f k;
+      claimed = λ u e. e;
+      current = refl;
+      clear = refl;
+      apart = apart_again old (LoadedRq t on m ∷ b) (Gave t (val.Task v) (val.Task v) ∷ LoadedRq t on m ∷ b)
+          (apart_again old b (LoadedRq t on m ∷ b)
+          (apart_again old a b (took_task_apart old t v) (state_apart a t None fresh)) (rq_apart b t on m))
+          (gave_task_apart (LoadedRq t on m ∷ b) t v v);
+    })
+  where
+    free : (u : ℕ) → task_held old u ≡ None
+        → task_held (Gave t (val.Task v) (val.Task v) ∷ LoadedRq t on m ∷ LoadedState t None fresh ∷ Took t (val.Task v) ∷ old) u ≡ None
+    free u e = grind (arith, nat_tests, e)

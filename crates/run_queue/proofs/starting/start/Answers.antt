@@ -1,13 +1,14 @@
-use Rattle.std.proofs.Common.{rules, arith, sym, ◌≡◌, ◌∙◌, ℕ, ◌∷◌, List, None, Some, subst, ap, refl, inl, inr}
+use Rattle.std.proofs.Common.{arith, sym, ◌≡◌, ◌<◌, ◌∙◌, ℕ, ◌∷◌, List, None, Some, subst, ap, refl, inl, inr}
 use Rattle.std.proofs.lemmas.Grind.{common_steps}
 use Rattle.std.specs.Prelude.{unwrap_or}
 use Rattle.core_data.specs.declared.values.TaskVal.{TaskVal}
 use Rattle.core_kinds.specs.Steps.{fresh}
+use Rattle.handoff_data.specs.declared.shape.Shape.{Shape}
 use Rattle.handoff_data.specs.declared.state.State.{State}
 use Rattle.run_queue.specs.Queueing.{placed}
 use Rattle.run_queue.specs.Starts.{queued_new}
 use Rattle.run_queue.proofs.Guards.{gave_task, held_there}
-use Rattle.run_queue.proofs.Steps.{held_started, placed_current, placed_clear, started_rests}
+use Rattle.run_queue.proofs.Steps.{held_started, placed_current, placed_clear, started_rests, give_started_may, other_rests, changed_rests}
 use Rattle.run_queue.proofs.starting.start.Given.{Over}
 use Rattle.word_rule.specs.May.{MayGiveTaskVal}
 use Rattle.word_steps.specs.Folds.{task_held, current_task, task_to_clear}
@@ -108,8 +109,38 @@ started_did g c =
 
 pub give-requires-2-clause-may : goal.give-requires-2-clause-may
 give-requires-2-clause-may g c κs within =
-    subst (λ (z : ℕ × TaskVal). MayGiveTaskVal c.queue_new.new.pass.seat c.queue_new.new.pass.trace c.args.wk.now.shape z.0 z.1)
-    (λ i. (sym c.set_wake_cpu.ensures.task i, sym c.set_wake_cpu.ensures.value i)) (search rules)
+    let t = c.args.t in
+    let v = c.lock_task-task.result.val in
+    let on = c.load_rq.result.on in
+    let old = c.args.pass.now.trace in
+    let q = c.queue_new.ensures.did.queue in
+    let is_fresh : c.load_state-seen.result ≡ fresh = grind (arith, common_steps, c.if-ne.false, c.ne.ensures) in
+    let first : c.load_rq.result.m ≡ 0 = grind (arith, common_steps, c.if-load_rq-ne0.false) in
+    let read : c.load_state-seen.new.pass.trace ≡ LoadedState t None fresh ∷ Took t (val.Task v) ∷ old =
+    c.load_state-seen.ensures.trace
+    ∙ ap (λ (z : State × List Rec). LoadedState t None z.0 ∷ z.1) (λ i. (is_fresh i, c.lock_task-task.ensures.trace i)) in
+    let looked : c.load_rq.new.pass.trace ≡ LoadedRq t on 0 ∷ LoadedState t None fresh ∷ Took t (val.Task v) ∷ old =
+    c.load_rq.ensures.trace ∙ ap (λ (z : ℕ × List Rec). LoadedRq t on z.0 ∷ z.1) (λ i. (first i, read i)) in
+    let rs = placed t c.place.result c.args.c (LoadedRq t on 0 ∷ LoadedState t None fresh ∷ Took t (val.Task v) ∷ old) in
+    let put : c.place.new.pass.trace ≡ rs =
+    c.place.ensures.trace
+    ∙ ap (λ (z : ℕ × List Rec). placed z.0 c.place.result c.args.c z.1) (λ i. (c.lock_task-task.ensures.task i, looked i)) in
+    let last : c.queue_new.new.pass.trace ≡ queued_new t c.args.c q rs =
+    c.queue_new.ensures.did.did ∙ ap (queued_new t c.args.c q) put in
+    let task : c.set_wake_cpu.new.self.task ≡ t = c.set_wake_cpu.ensures.task ∙ c.lock_task-task.ensures.task in
+    let dest : v.dest < c.args.wk.now.shape.cpus =
+    subst (λ (z : Shape). v.dest < z.cpus) c.requires.of.same_shape c.lock_task-task.ensures.taken.dest in
+    subst (λ (z : ℕ × TaskVal × List Rec). MayGiveTaskVal c.queue_new.new.pass.seat z.2 c.args.wk.now.shape z.0 z.1)
+    (λ i. (sym task i, sym c.set_wake_cpu.ensures.value i, sym last i))
+    (give_started_may c.args.wk.now.shape c.queue_new.new.pass.seat t c.args.c v q rs
+    (held_started t c.args.c c.place.result on v q old) c.requires.processor dest)
+
+-- what was taken is given back where the task isn't new
+pub returns-then-ne-clause-rests : goal.returns-then-ne-clause-rests
+returns-then-ne-clause-rests g c = elim (returns-then-ne-clause-did g c) [
+  | inl x ↦ other_rests c.args.pass.now.seat c.args.t c.load_state-seen.result x.task c.args.pass.now.trace c.give.new.pass.trace x.did
+  | inr y ↦ changed_rests c.args.pass.now.seat c.args.t y.on y.m y.task c.args.pass.now.trace c.give.new.pass.trace y.did
+]
 
 pub returns-clause-did : goal.returns-clause-did
 unfolding reads_of
