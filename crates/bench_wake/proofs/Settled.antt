@@ -27,5 +27,6 @@ between_free pass between = record {
   tasks = between.free.nothing.tasks;
   queues = between.free.nothing.queues;
   claimed = between.free.unclaimed;
+  cleared = between.clear;
   stays = λ t e. absurd (let no : None ≡ Some t = sym between.idle ∙ e in cc);
 }

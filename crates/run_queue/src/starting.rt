@@ -1,5 +1,5 @@
 //! A new task is started.
-ghost use Rattle.std.specs.Prelude.{◌≡◌, ℕ, ◌<◌, ◌+◌, None, Some, IsSome};
+ghost use Rattle.std.specs.Prelude.{◌≡◌, ℕ, ◌<◌, ◌≤◌, ◌+◌, None, Some, IsSome};
 ghost use Rattle.run_queue.specs.Rests.{Rests};
 ghost use Rattle.run_queue.specs.Starts.{DidStart, IsQueuedNew};
 ghost use Rattle.task_words.specs.Views.{IsOf, IsSameSeat};
@@ -48,6 +48,7 @@ pub fn start<B: Kept, R: Wait>(rt: &R, wk: &Wk<B>, pass: &mut Pass, t: TaskNo, c
     ensures same { IsSameSeat pass.old pass.new }
     ensures did { DidStart t c pass.old pass.new result }
     ensures rests { Rests pass.old.seat pass.old.trace pass.new.trace }
+    ensures spare { pass.old.turn.spare ≤ pass.new.turn.spare + 1 }
 {
     let mut task = lock_task(rt, wk, pass, t);
     let seen = load_state(wk, pass, t);

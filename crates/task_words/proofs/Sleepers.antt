@@ -20,10 +20,10 @@ use Rattle.handoff_data.specs.declared.state.State.{State}
 use Rattle.core_law.specs.Laws.{journals_of}
 use Rattle.task_words.proofs.Ends.{each_trace, each_map, some_same, got_below, no_current, state_of}
 use Rattle.task_words.specs.Closing.{SleptLast, SleepersSlept}
+use Rattle.word_steps.specs.Exclusives.{exclusive_entry, gave_exclusively}
 use Rattle.word_steps.specs.Decode.{core_of}
 use Rattle.word_steps.specs.Folds.{wait_held, tested, is_asleep, owes_walk, has_retaken, has_passed}
 use Rattle.word_table.specs.End.{IsIdle, IsEnd, traces_of}
-use Rattle.word_table.specs.Exclusives.{exclusive_entry, gave_exclusive}
 use Rattle.word_table.specs.Ruled.{Each}
 use Rattle.word_table.specs.Views.{TokenView}
 
@@ -167,7 +167,7 @@ module _ {B : Type 0} {ended : B → Bool} {shape : Shape} {tokens : List TokenV
       → (count ≡ v)
       ⊎ (IsOwed (λ x. owes_walk (traces_of tokens x)) (λ x. has_retaken (traces_of tokens x))
       (λ x. has_passed (traces_of tokens x)) k t
-      ⊎ ((x : ℕ) × (gave_exclusive (traces_of tokens x) k t ≡ true)))
+      ⊎ (gave_exclusively s (traces_of tokens s) t k ≡ true))
   none_missed tasks lengths s t k v count state is sleeps has at asleep test =
       let holds = end.kept.holds in
       let cond : k < shape.conds = (let below = got_below conds k count has in omega arith) in
@@ -185,5 +185,6 @@ module _ {B : Type 0} {ended : B → Bool} {shape : Shape} {tokens : List TokenV
           | inl e ↦ inl (sym counts ∙ e)
           | inr owed ↦ inr (inl owed)
         ]
-        | inr exclusive ↦ inr (inr (end.exclusives k t home.0 home.1 exclusive))
+        | inr exclusive ↦ inr (inr (subst (λ (q : ℕ). gave_exclusively q (traces_of tokens q) t k ≡ true) here
+            (end.kept.exclusives t k home.0 (record { state = rests; asleep = there }) (inl home.1) exclusive)))
       ]

@@ -13,10 +13,10 @@ use Rattle.handoff_data.specs.declared.entry.Entry.TheVariants as entry
 use Rattle.handoff_data.specs.declared.shape.Shape.{Shape}
 use Rattle.handoff_data.specs.declared.state.State.{State}
 use Rattle.task_words.specs.Views.{TurnView, PassView}
+use Rattle.word_steps.specs.Exclusives.{gave_exclusively}
 use Rattle.word_steps.specs.Folds.{journal, tested, is_asleep, owes_walk, has_retaken, has_passed}
 use Rattle.word_steps.specs.Records.{Rec}
 use Rattle.word_table.specs.End.{IsIdle, traces_of}
-use Rattle.word_table.specs.Exclusives.{gave_exclusive}
 use Rattle.word_table.specs.Views.{TokenView}
 
 -- a turn with no entry
@@ -84,13 +84,14 @@ IsStillOwed passes =
     IsOwed (λ x. owes_walk (traces_in passes x)) (λ x. has_retaken (traces_in passes x))
     (λ x. has_passed (traces_in passes x))
 
--- a pass has given the wait queue of k with an exclusive entry of t
-abbrev pub IsExclusive : List PassView → ℕ → ℕ → Type 0
-IsExclusive passes k t = (x : ℕ) × (gave_exclusive (traces_in passes x) k t ≡ true)
+-- the own entry of t at the condition k is exclusive: with such a one its seat s gave the wait queue, when it last did so
+-- with t as its current task
+abbrev pub IsExclusive : List PassView → ℕ → ℕ → ℕ → Type 0
+IsExclusive passes s t k = gave_exclusively s (traces_in passes s) t k ≡ true
 
 -- No sleeper was missed: where a task in a sleep state was put to sleep at a condition with a value, the condition has
--- that value, unless a pass still owes it. Nothing is said of a task that was given an exclusive entry there.
+-- that value, unless a pass still owes it. Nothing is said of a task whose own entry there is exclusive.
 abbrev pub NoneMissed : Shape → List PassView → List State → List ℕ → Type 0
 NoneMissed shape passes states conds =
     (s t k v count : ℕ) (state : State) → slice_get states t ≡ Some state → is_sleep state ≡ true
-    → slice_get conds k ≡ Some count → IsSleeper shape passes s t k v → (count ≡ v) ⊎ (IsStillOwed passes k t ⊎ IsExclusive passes k t)
+    → slice_get conds k ≡ Some count → IsSleeper shape passes s t k v → (count ≡ v) ⊎ (IsStillOwed passes k t ⊎ IsExclusive passes s t k)

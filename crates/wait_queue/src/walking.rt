@@ -1,5 +1,5 @@
 //! Walks along the wait queue of a condition.
-ghost use Rattle.std.specs.Prelude.{◌≡◌, ◌<◌, ◌≤◌, ◌*◌, false, None, Some, IfSome};
+ghost use Rattle.std.specs.Prelude.{◌≡◌, ◌<◌, ◌≤◌, ◌+◌, ◌*◌, false, None, Some, IfSome};
 ghost use Rattle.task_words.specs.Views.{IsOf, IsSameSeat};
 ghost use Rattle.wait_queue.specs.Settles.{IsFree, Settles};
 ghost use Rattle.wait_queue.specs.Walks.{IsWalked, IsRaisedAndWalked};
@@ -21,6 +21,7 @@ fn walk<B: Kept, R: Wait>(rt: &R, wk: &Wk<B>, pass: &mut Pass, k: CondNo, limit:
     ensures same { IsSameSeat pass.old pass.new }
     ensures did { IsWalked wk.now.shape k limit pass.old pass.new result }
     ensures settles { Settles pass.old.seat pass.old.trace pass.new.trace }
+    ensures spare { pass.old.turn.spare ≤ pass.new.turn.spare + 2 * wk.now.shape.tasks }
     ensures paid { limit ≡ None → owes_walk pass.new.trace k ≡ false }
 {
     let mut wait = lock_wait(rt, wk, pass, k);
@@ -40,6 +41,7 @@ pub fn wake_all<B: Kept, R: Wait>(rt: &R, wk: &Wk<B>, pass: &mut Pass, k: CondNo
     ensures same { IsSameSeat pass.old pass.new }
     ensures did { IsWalked wk.now.shape k None pass.old pass.new result }
     ensures settles { Settles pass.old.seat pass.old.trace pass.new.trace }
+    ensures spare { pass.old.turn.spare ≤ pass.new.turn.spare + 2 * wk.now.shape.tasks }
     ensures paid { owes_walk pass.new.trace k ≡ false }
 {
     walk(rt, wk, pass, k, None)
@@ -63,12 +65,14 @@ pub fn wake_some<B: Kept, R: Wait>(
     ensures same { IsSameSeat pass.old pass.new }
     ensures did { IsWalked wk.now.shape k (Some exclusive) pass.old pass.new result }
     ensures settles { Settles pass.old.seat pass.old.trace pass.new.trace }
+    ensures spare { pass.old.turn.spare ≤ pass.new.turn.spare + 2 * wk.now.shape.tasks }
 {
     walk(rt, wk, pass, k, Some(exclusive))
 }
 
 /// Raises a condition by one, modulo 2^64, and wakes each task with an entry there; how many it woke. After it the pass
 /// owes the condition no walk.
+#[tactic(auto, using(crate::proofs::Settling::bumped_settles))]
 pub fn bump_and_wake<B: Kept, R: Wait>(rt: &R, wk: &Wk<B>, pass: &mut Pass, k: CondNo) -> u32
     requires of { IsOf wk.now pass.old }
     requires condition { k < wk.now.shape.conds }
@@ -78,6 +82,7 @@ pub fn bump_and_wake<B: Kept, R: Wait>(rt: &R, wk: &Wk<B>, pass: &mut Pass, k: C
     ensures same { IsSameSeat pass.old pass.new }
     ensures did { IsRaisedAndWalked wk.now.shape k pass.old pass.new result }
     ensures settles { Settles pass.old.seat pass.old.trace pass.new.trace }
+    ensures spare { pass.old.turn.spare ≤ pass.new.turn.spare + 2 * wk.now.shape.tasks }
     ensures paid { owes_walk pass.new.trace k ≡ false }
 {
     bump_cond(wk, pass, k);

@@ -20,6 +20,7 @@ use Rattle.word_rule.specs.Kept.{Kept}
 use Rattle.word_rule.specs.May.{MayTakeBody, MayReturnBody}
 use Rattle.word_steps.proofs.CurrentKept.{current_start}
 use Rattle.word_steps.proofs.EndedKept.{ended_start, body_out_ended, body_home_ended}
+use Rattle.word_steps.proofs.ExclusivesKept.{exclusives_start, exclusives_still}
 use Rattle.word_steps.proofs.FirstCore.{first_holds}
 use Rattle.word_steps.proofs.Keeps.{body_out_keeps, body_home_keeps}
 use Rattle.word_steps.proofs.MatchedKept.{matched_start}
@@ -53,6 +54,7 @@ module _ (shape : Shape) (words : ℕ → ℕ → ℕ) (homes : Homes) (traces :
               off = λ u e. e;
             })
             (record { current = λ j. refl; stays = refl }) refl
+            (exclusives_still words homes.wait traces s kept.exclusives (OutBody t (homes.ended t)) (λ u k e. e) refl refl)
             (body_out_keeps shape words homes traces s t (homes.ended t) kept.holds core)
             (body_out_ended homes.ended traces s kept.ended t (homes.ended t) refl)
             (body_out_known traces s kept.known t (homes.ended t)),
@@ -80,6 +82,7 @@ module _ (shape : Shape) (words : ℕ → ℕ → ℕ) (homes : Homes) (traces :
               off = λ u e. e;
             })
             (record { current = λ j. refl; stays = refl }) refl
+            (exclusives_still words homes.wait traces s kept.exclusives (HomeBody t ended) (λ u k e. e) refl refl)
             (body_home_keeps shape words homes traces s t ended kept.holds core)
             (body_home_ended shape words homes traces s kept.holds kept.ended t ended core)
             (body_home_known traces s kept.known t ended),
@@ -121,6 +124,7 @@ start_law shape mask ended is_shape all =
       numbers = numbers_start (first_words shape);
       matched = matched_start (first_words shape);
       queued = queued_start (first_words shape);
+      exclusives = exclusives_start (first_words shape) (first_homes shape mask).wait;
       put_there = put_start (first_words shape);
       ended = ended_start ended;
       counts = λ t. refl;

@@ -16,6 +16,7 @@ use Rattle.word_rule.specs.Kept.{Kept}
 use Rattle.word_rule.specs.Standing.{may_run}
 use Rattle.word_steps.proofs.CurrentKept.{current_still}
 use Rattle.word_steps.proofs.EndedKept.{ended_still}
+use Rattle.word_steps.proofs.ExclusivesKept.{exclusives_still}
 use Rattle.word_steps.proofs.Keeps.{load_state_keeps, load_rq_keeps, load_busy_keeps, load_cpu_keeps, load_cond_keeps}
 use Rattle.word_steps.proofs.MatchedKept.{matched_still, load_state_matched}
 use Rattle.word_steps.proofs.MovingSteps.{moving_still}
@@ -24,6 +25,7 @@ use Rattle.word_steps.proofs.PutKept.{put_still}
 use Rattle.word_steps.proofs.Puts.{word_same}
 use Rattle.word_steps.proofs.QueuedKept.{queued_still, load_rq_queued}
 use Rattle.word_steps.specs.Decode.{Homes, core_of, core_after}
+use Rattle.word_steps.specs.Exclusives.{ExclusivesHold}
 use Rattle.word_steps.specs.Folds.{task_held, is_matched_by}
 use Rattle.word_steps.specs.Records.{Rec, LoadedState, LoadedRq, LoadedBusy, LoadedCpu, LoadedCond}
 use Rattle.word_steps.specs.Words.{STATE, RQ, BUSY, CPU, COND, is_set}
@@ -39,10 +41,11 @@ module _ (shape : Shape) (words : ℕ → ℕ → ℕ) (homes : Homes) (traces :
 
   -- one that tells nothing new of what stands beside the invariant
   quiet_load : (c : ℕ) (r : Rec) → y ≡ words n c → IsQuiet r (traces s) → IsSteady r (traces s) → IsOutside r (traces s)
-      → may_run s (r ∷ traces s) ≡ may_run s (traces s) → Holds (core_after shape words homes traces s r)
+      → may_run s (r ∷ traces s) ≡ may_run s (traces s) → ExclusivesHold words homes.wait (put traces s (r ∷ traces s))
+      → Holds (core_after shape words homes traces s r)
       → Kept shape (put_at words n c y) homes (put traces s (r ∷ traces s))
-  quiet_load c r same quiet steady outside runs holds =
-      as_found c r same (still_kept shape words homes homes traces s kept r quiet steady runs holds
+  quiet_load c r same quiet steady outside runs exclusives holds =
+      as_found c r same (still_kept shape words homes homes traces s kept r quiet steady runs exclusives holds
       (ended_still homes.ended traces s kept.ended r steady.current outside.ended)
       (known_still traces s kept.known r outside.body outside.ended))
 
@@ -63,6 +66,7 @@ module _ (shape : Shape) (words : ℕ → ℕ → ℕ) (homes : Homes) (traces :
         matched = load_state_matched words traces s kept.matched shape homes n mask
             (record { 0 = words n STATE }) holds;
         queued = queued_still words traces s kept.queued (state_note mask) (λ c t e. e);
+        exclusives = exclusives_still words homes.wait traces s kept.exclusives (state_note mask) (λ t k e. e) refl refl;
         put_there = put_still words traces s kept.put_there (state_note mask) refl;
         ended = ended_still homes.ended traces s kept.ended (state_note mask) (λ j. refl) refl;
         counts = kept.counts;
@@ -92,6 +96,7 @@ module _ (shape : Shape) (words : ℕ → ℕ → ℕ) (homes : Homes) (traces :
         numbers = load_rq_numbers words traces s kept.numbers n (words n RQ % 4);
         matched = matched_still words traces s kept.matched rq_note refl;
         queued = load_rq_queued words traces s kept.queued n (words n RQ / 4);
+        exclusives = exclusives_still words homes.wait traces s kept.exclusives rq_note (λ t k e. e) refl refl;
         put_there = put_still words traces s kept.put_there rq_note refl;
         ended = ended_still homes.ended traces s kept.ended rq_note (λ j. refl) refl;
         counts = kept.counts;
@@ -128,6 +133,7 @@ module _ (shape : Shape) (words : ℕ → ℕ → ℕ) (homes : Homes) (traces :
           off = λ t e. e;
         })
         (record { current = λ j. refl; stays = refl }) (record { ended = refl; body = refl }) refl
+        (exclusives_still words homes.wait traces s kept.exclusives (LoadedBusy n (is_set (words n BUSY)) (words n BUSY / 2)) (λ t k e. e) refl refl)
         (load_busy_keeps shape words homes traces s n kept.holds (record { seat = seat; task = task })),
     tt,
   )
@@ -147,6 +153,7 @@ module _ (shape : Shape) (words : ℕ → ℕ → ℕ) (homes : Homes) (traces :
           off = λ t e. e;
         })
         (record { current = λ j. refl; stays = refl }) (record { ended = refl; body = refl }) refl
+        (exclusives_still words homes.wait traces s kept.exclusives (LoadedCpu n (words n CPU)) (λ t k e. e) refl refl)
         (load_cpu_keeps shape words homes traces s n kept.holds (record { seat = seat; task = task })),
     kept.holds.shapes.cpu n task,
   )
@@ -165,6 +172,7 @@ module _ (shape : Shape) (words : ℕ → ℕ → ℕ) (homes : Homes) (traces :
           off = λ t e. e;
         })
         (record { current = λ j. refl; stays = refl }) (record { ended = refl; body = refl }) refl
+        (exclusives_still words homes.wait traces s kept.exclusives (LoadedCond n (words n COND)) (λ t k e. e) refl refl)
         (load_cond_keeps shape words homes traces s n kept.holds (record { seat = seat; condition = condition })),
     tt,
   )

@@ -27,6 +27,7 @@ use Rattle.word_rule.specs.Standing.{may_run}
 use Rattle.word_steps.proofs.Conditions.{take_task_may, take_queue_may, take_works_may, take_wait_may}
 use Rattle.word_steps.proofs.CurrentKept.{current_quiet, give_queue_current}
 use Rattle.word_steps.proofs.EndedKept.{ended_still, give_queue_ended, counts_put}
+use Rattle.word_steps.proofs.ExclusivesKept.{exclusives_beside, take_wait_exclusives, give_wait_exclusives}
 use Rattle.word_steps.proofs.Keeps.{take_task_keeps, take_queue_keeps, take_works_keeps, take_wait_keeps, give_task_keeps, give_queue_keeps, give_works_keeps, give_wait_keeps}
 use Rattle.word_steps.proofs.MatchedKept.{matched_beside, grows_beside, take_task_matched, give_task_matched}
 use Rattle.word_steps.proofs.MovingKept.{states_put}
@@ -35,6 +36,7 @@ use Rattle.word_steps.proofs.NumbersKept.{numbers_beside, take_task_numbers, giv
 use Rattle.word_steps.proofs.PutKept.{put_beside, take_queue_put, give_queue_put}
 use Rattle.word_steps.proofs.QueuedKept.{take_task_queued, take_queue_queued, give_task_queued, give_queue_queued}
 use Rattle.word_steps.specs.Decode.{Homes, core_of, core_after}
+use Rattle.word_steps.specs.Exclusives.{ExclusivesHold}
 use Rattle.word_steps.specs.Folds.{task_held, queue_held, works_held, wait_held}
 use Rattle.word_steps.specs.Records.{Rec, Took, Gave}
 use Rattle.word_steps.specs.Words.{LOCK, STATE, QUEUE_LOCK, WORKS_LOCK, WAIT_LOCK, holder}
@@ -70,6 +72,8 @@ module _ (shape : Shape) (words : ℕ → ℕ → ℕ) (homes : Homes) (traces :
         numbers = take_task_numbers words traces s kept.numbers n v;
         matched = take_task_matched words traces s kept.matched n v;
         queued = take_task_queued words traces s kept.queued n v;
+        exclusives = exclusives_beside words homes.wait traces s kept.exclusives n LOCK (suc s) (Took n (val.Task v))
+            (λ e. omega (arith, e)) (λ e. omega (arith, e)) (λ t k e. e) refl refl;
         put_there = put_beside words traces s kept.put_there n LOCK (suc s) (Took n (val.Task v))
             (λ e. omega (arith, e)) (λ e. omega (arith, e)) (λ e. omega (arith, e)) refl;
         ended = ended_still homes.ended traces s kept.ended (Took n (val.Task v)) (λ j. refl) refl;
@@ -101,6 +105,8 @@ module _ (shape : Shape) (words : ℕ → ℕ → ℕ) (homes : Homes) (traces :
             (λ e. omega (arith, e))
             (grows_beside words traces s kept.matched n QUEUE_LOCK (suc s) (λ e. omega (arith, e))) refl;
         queued = take_queue_queued words traces s kept.queued n v;
+        exclusives = exclusives_beside words homes.wait traces s kept.exclusives n QUEUE_LOCK (suc s) (Took n (val.Queue v))
+            (λ e. omega (arith, e)) (λ e. omega (arith, e)) (λ t k e. e) refl refl;
         put_there = take_queue_put words traces s kept.put_there n v;
         ended = ended_still homes.ended traces s kept.ended (Took n (val.Queue v)) (λ j. refl) refl;
         counts = counts_put words n QUEUE_LOCK (suc s) kept.counts (λ e. omega (arith, e));
@@ -126,6 +132,8 @@ module _ (shape : Shape) (words : ℕ → ℕ → ℕ) (homes : Homes) (traces :
         numbers = give_task_numbers words traces s kept.numbers n taken given;
         matched = give_task_matched words traces s kept.matched n taken given;
         queued = give_task_queued words traces s kept.queued n taken given;
+        exclusives = exclusives_beside words homes.wait traces s kept.exclusives n LOCK 0 (Gave n (val.Task taken) (val.Task given))
+            (λ e. omega (arith, e)) (λ e. omega (arith, e)) (λ t k e. e) refl refl;
         put_there = put_beside words traces s kept.put_there n LOCK 0 (Gave n (val.Task taken) (val.Task given))
             (λ e. omega (arith, e)) (λ e. omega (arith, e)) (λ e. omega (arith, e)) refl;
         ended = ended_still homes.ended traces s kept.ended (Gave n (val.Task taken) (val.Task given)) (λ j. refl) refl;
@@ -156,6 +164,8 @@ module _ (shape : Shape) (words : ℕ → ℕ → ℕ) (homes : Homes) (traces :
             (Gave n (val.Queue taken) (val.Queue given)) (λ e. omega (arith, e))
             (grows_beside words traces s kept.matched n QUEUE_LOCK 0 (λ e. omega (arith, e))) refl;
         queued = give_queue_queued words traces s kept.queued n taken given;
+        exclusives = exclusives_beside words homes.wait traces s kept.exclusives n QUEUE_LOCK 0 (Gave n (val.Queue taken) (val.Queue given))
+            (λ e. omega (arith, e)) (λ e. omega (arith, e)) (λ t k e. e) refl refl;
         put_there = give_queue_put words traces s kept.put_there n taken given;
         ended = give_queue_ended homes.ended traces s kept.ended n taken given;
         counts = counts_put words n QUEUE_LOCK 0 kept.counts (λ e. omega (arith, e));
@@ -173,11 +183,12 @@ module _ (shape : Shape) (words : ℕ → ℕ → ℕ) (homes : Homes) (traces :
   quiet_lock : (c x : ℕ) (homes' : Homes) (r : Rec) → homes'.ended ≡ homes.ended → IsBeside c → STATE ≢ c
       → IsQuiet r (traces s) → IsSteady r (traces s) → IsOutside r (traces s)
       → may_run s (r ∷ traces s) ≡ may_run s (traces s)
+      → ExclusivesHold (put_at words n c x) homes'.wait (put traces s (r ∷ traces s))
       → Holds (core_after shape (put_at words n c x) homes' traces s r)
       → Kept shape (put_at words n c x) homes' (put traces s (r ∷ traces s))
-  quiet_lock c x homes' r same at state quiet steady outside runs holds =
+  quiet_lock c x homes' r same at state quiet steady outside runs exclusives holds =
       quiet_beside shape words homes homes' traces s kept same n c x r at
-      (λ e. absurd (state (sym e))) quiet steady outside holds
+      (λ e. absurd (state (sym e))) quiet steady outside exclusives holds
       (runs_beside words traces s kept.runs n c x r at.queue at.cpu at.rq state runs (steady.current s))
 
   take_works_kept : (v : List WorkItem) → homes.works n ≡ Some v → n < shape.cpus → words n WORKS_LOCK ≡ 0
@@ -196,6 +207,8 @@ module _ (shape : Shape) (words : ℕ → ℕ → ℕ) (homes : Homes) (traces :
         off = λ t e. e;
       })
       (record { current = λ j. refl; stays = refl }) (record { ended = refl; body = refl }) refl
+      (exclusives_beside words homes.wait traces s kept.exclusives n WORKS_LOCK (suc s) (Took n (val.Works v))
+      (λ e. omega (arith, e)) (λ e. omega (arith, e)) (λ t k e. e) refl refl)
       (take_works_keeps shape words homes traces s n v home kept.holds
       (take_works_may shape words homes traces s kept.holds seat n near free))
 
@@ -215,6 +228,7 @@ module _ (shape : Shape) (words : ℕ → ℕ → ℕ) (homes : Homes) (traces :
         off = λ t e. e;
       })
       (record { current = λ j. refl; stays = refl }) (record { ended = refl; body = refl }) refl
+      (take_wait_exclusives words homes.wait traces s kept.exclusives n (suc s) v home)
       (take_wait_keeps shape words homes traces s n v home kept.holds
       (take_wait_may shape words homes traces s kept.holds seat n near free))
 
@@ -234,6 +248,8 @@ module _ (shape : Shape) (words : ℕ → ℕ → ℕ) (homes : Homes) (traces :
         off = λ t e. e;
       })
       (record { current = λ j. refl; stays = refl }) (record { ended = refl; body = refl }) refl
+      (exclusives_beside words homes.wait traces s kept.exclusives n WORKS_LOCK 0 (Gave n (val.Works taken) (val.Works given))
+      (λ e. omega (arith, e)) (λ e. omega (arith, e)) (λ t k e. e) refl refl)
       (give_works_keeps shape words homes traces s n taken given kept.holds may)
 
   give_wait_kept : (taken given : List WaitEntry) → wait_held (traces s) n ≡ Some taken
@@ -253,6 +269,7 @@ module _ (shape : Shape) (words : ℕ → ℕ → ℕ) (homes : Homes) (traces :
         off = λ t e. e;
       })
       (record { current = λ j. refl; stays = refl }) (record { ended = refl; body = refl }) refl
+      (give_wait_exclusives shape words homes traces s kept.exclusives kept.holds n 0 taken given out may)
       (give_wait_keeps shape words homes traces s n taken given out kept.holds may)
 
 -- The laws for each sort of lock

@@ -15,6 +15,7 @@ use Rattle.word_rule.specs.Kept.{Kept}
 use Rattle.word_rule.specs.May.{MayQueueWord, MayDequeueWord, MayMoveWord, cpu_read_of}
 use Rattle.word_steps.proofs.CurrentKept.{queue_task_current, dequeue_task_current, move_task_current}
 use Rattle.word_steps.proofs.EndedKept.{ended_still, counts_put}
+use Rattle.word_steps.proofs.ExclusivesKept.{exclusives_beside}
 use Rattle.word_steps.proofs.Keeps.{queue_task_keeps, dequeue_task_keeps, move_task_keeps}
 use Rattle.word_steps.proofs.MatchedKept.{matched_beside, grows_next}
 use Rattle.word_steps.proofs.MovingKept.{states_put}
@@ -62,6 +63,8 @@ module _ (shape : Shape) (words : ℕ → ℕ → ℕ) (homes : Homes) (traces :
             matched = matched_beside words traces s kept.matched n RQ y (Queued n c on m) (λ e. omega (arith, e))
                 (grows_next words traces s kept.matched n y next) refl;
             queued = queue_task_queued words traces s kept.queued c n on m y on_is;
+            exclusives = exclusives_beside words homes.wait traces s kept.exclusives n RQ y (Queued n c on m)
+                (λ e. omega (arith, e)) (λ e. omega (arith, e)) (λ t k e. e) refl refl;
             put_there = queue_task_put words traces s kept.put_there shape homes kept.holds c n on m y on_is core;
             ended = ended_still homes.ended traces s kept.ended (Queued n c on m) (λ j. refl) refl;
             counts = counts_put words n RQ y kept.counts (λ e. omega (arith, e));
@@ -92,6 +95,8 @@ module _ (shape : Shape) (words : ℕ → ℕ → ℕ) (homes : Homes) (traces :
             matched = matched_beside words traces s kept.matched n RQ y (Dequeued n s m) (λ e. omega (arith, e))
                 (grows_next words traces s kept.matched n y next) refl;
             queued = dequeue_task_queued words traces s kept.queued shape homes s n m y core;
+            exclusives = exclusives_beside words homes.wait traces s kept.exclusives n RQ y (Dequeued n s m)
+                (λ e. omega (arith, e)) (λ e. omega (arith, e)) (λ t k e. e) refl refl;
             put_there = dequeue_task_put words traces s kept.put_there shape homes kept.holds s n m y core;
             ended = ended_still homes.ended traces s kept.ended (Dequeued n s m) (λ j. refl) refl;
             counts = counts_put words n RQ y kept.counts (λ e. omega (arith, e));
@@ -126,6 +131,8 @@ module _ (shape : Shape) (words : ℕ → ℕ → ℕ) (homes : Homes) (traces :
             matched = matched_beside words traces s kept.matched n RQ y (Moved n c m) (λ e. omega (arith, e))
                 (grows_next words traces s kept.matched n y next) refl;
             queued = move_task_queued words traces s kept.queued shape homes c n m y q core;
+            exclusives = exclusives_beside words homes.wait traces s kept.exclusives n RQ y (Moved n c m)
+                (λ e. omega (arith, e)) (λ e. omega (arith, e)) (λ t k e. e) refl refl;
             put_there = move_task_put words traces s kept.put_there shape homes kept.holds c n m y q core;
             ended = ended_still homes.ended traces s kept.ended (Moved n c m) (λ j. refl) refl;
             counts = counts_put words n RQ y kept.counts (λ e. omega (arith, e));

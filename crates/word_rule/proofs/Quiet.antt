@@ -22,6 +22,7 @@ use Rattle.word_steps.proofs.PutKept.{put_beside, put_still}
 use Rattle.word_steps.proofs.QueuedKept.{queued_beside, queued_still}
 use Rattle.word_steps.specs.Beside.{CurrentHolds, EndedHolds}
 use Rattle.word_steps.specs.Decode.{Homes, core_after}
+use Rattle.word_steps.specs.Exclusives.{ExclusivesHold}
 use Rattle.word_steps.specs.Folds.{moving_after, current_task, stays_queued, number_after, number_read, is_matched_by, saw_queued, has_put, ended_known, body_held, saw_off}
 use Rattle.word_steps.specs.Records.{Rec}
 use Rattle.word_steps.specs.Words.{LOCK, QUEUE_LOCK, RQ, CPU, COUNT, STATE, BUSY, COND, WORKS_LOCK, WAIT_LOCK}
@@ -102,14 +103,14 @@ wait_beside = record {
 module _ (shape : Shape) (words : ℕ → ℕ → ℕ) (homes homes' : Homes) (traces : ℕ → List Rec) (s : ℕ) where
   -- a step on a word of such a column
   pub beside_kept : Kept shape words homes traces → (n c x : ℕ) (r : Rec) → IsBeside c → (c ≡ STATE → x < 2 ^ 16)
-      → IsQuiet r (traces s)
+      → IsQuiet r (traces s) → ExclusivesHold (put_at words n c x) homes'.wait (put traces s (r ∷ traces s))
       → Holds (core_after shape (put_at words n c x) homes' traces s r)
       → CurrentHolds (put_at words n c x) (put traces s (r ∷ traces s))
       → EndedHolds homes'.ended (put traces s (r ∷ traces s))
       → RunsHold (put_at words n c x) (put traces s (r ∷ traces s))
       → BodiesKnown (put traces s (r ∷ traces s))
       → Kept shape (put_at words n c x) homes' (put traces s (r ∷ traces s))
-  beside_kept kept n c x r at small quiet holds current ended runs known =
+  beside_kept kept n c x r at small quiet exclusives holds current ended runs known =
       let numbers = quiet.numbers (number_read (traces s)) in
       let grows = grows_beside words traces s kept.matched n c x at.rq in
       record {
@@ -119,6 +120,7 @@ module _ (shape : Shape) (words : ℕ → ℕ → ℕ) (homes homes' : Homes) (t
         numbers = numbers_beside words traces s kept.numbers n c x r at.lock at.rq quiet.numbers;
         matched = matched_beside words traces s kept.matched n c x r at.lock grows quiet.matched;
         queued = queued_beside words traces s kept.queued n c x r at.lock at.queue at.cpu at.rq quiet.queued;
+        exclusives = exclusives;
         put_there = put_beside words traces s kept.put_there n c x r at.queue at.cpu at.rq quiet.put_there;
         ended = ended;
         counts = counts_put words n c x kept.counts at.count;
@@ -133,13 +135,14 @@ module _ (shape : Shape) (words : ℕ → ℕ → ℕ) (homes homes' : Homes) (t
   -- .. that changes neither the current task nor a body
   pub quiet_beside : Kept shape words homes traces → homes'.ended ≡ homes.ended → (n c x : ℕ) (r : Rec) → IsBeside c
       → (c ≡ STATE → x < 2 ^ 16) → IsQuiet r (traces s) → IsSteady r (traces s) → IsOutside r (traces s)
+      → ExclusivesHold (put_at words n c x) homes'.wait (put traces s (r ∷ traces s))
       → Holds (core_after shape (put_at words n c x) homes' traces s r)
       → RunsHold (put_at words n c x) (put traces s (r ∷ traces s))
       → Kept shape (put_at words n c x) homes' (put traces s (r ∷ traces s))
-  quiet_beside kept same n c x r at small quiet steady outside holds runs =
+  quiet_beside kept same n c x r at small quiet steady outside exclusives holds runs =
       let before : EndedHolds homes'.ended traces
       = subst (λ (f : ℕ → Bool). EndedHolds f traces) (sym same) kept.ended in
-      beside_kept kept n c x r at small quiet holds
+      beside_kept kept n c x r at small quiet exclusives holds
       (current_quiet words traces s kept.current n c x r at.rq steady.current steady.stays)
       (ended_still homes'.ended traces s before r steady.current outside.ended)
       runs
@@ -148,11 +151,12 @@ module _ (shape : Shape) (words : ℕ → ℕ → ℕ) (homes homes' : Homes) (t
   -- a step that changes no word, and not the current task
   pub still_kept : Kept shape words homes traces → (r : Rec) → IsQuiet r (traces s) → IsSteady r (traces s)
       → may_run s (r ∷ traces s) ≡ may_run s (traces s)
+      → ExclusivesHold words homes'.wait (put traces s (r ∷ traces s))
       → Holds (core_after shape words homes' traces s r)
       → EndedHolds homes'.ended (put traces s (r ∷ traces s))
       → BodiesKnown (put traces s (r ∷ traces s))
       → Kept shape words homes' (put traces s (r ∷ traces s))
-  still_kept kept r quiet steady same holds ended known =
+  still_kept kept r quiet steady same exclusives holds ended known =
       record {
         holds = holds;
         moving = moving_still shape words homes traces s kept.moving r quiet.moving;
@@ -160,6 +164,7 @@ module _ (shape : Shape) (words : ℕ → ℕ → ℕ) (homes homes' : Homes) (t
         numbers = numbers_still words traces s kept.numbers r quiet.numbers;
         matched = matched_still words traces s kept.matched r quiet.matched;
         queued = queued_still words traces s kept.queued r quiet.queued;
+        exclusives = exclusives;
         put_there = put_still words traces s kept.put_there r quiet.put_there;
         ended = ended;
         counts = kept.counts;

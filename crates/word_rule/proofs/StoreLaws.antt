@@ -24,6 +24,7 @@ use Rattle.word_rule.specs.May.{MaySetBusyWord, MayClearBusyWord, MayOwnWord, Ma
 use Rattle.word_rule.specs.Standing.{RunsHold}
 use Rattle.word_steps.proofs.CurrentKept.{current_quiet, set_busy_current}
 use Rattle.word_steps.proofs.EndedKept.{ended_still, set_busy_ended, counts_put}
+use Rattle.word_steps.proofs.ExclusivesKept.{exclusives_beside, exclusives_state, set_busy_exclusives, own_state_exclusives, store_cpu_exclusives}
 use Rattle.word_steps.proofs.Keeps.{bump_keeps, set_busy_keeps, clear_busy_keeps, own_state_keeps, claim_keeps, release_keeps, store_cpu_keeps}
 use Rattle.word_steps.proofs.MatchedKept.{matched_beside, grows_beside}
 use Rattle.word_steps.proofs.MovingKept.{states_put}
@@ -32,6 +33,7 @@ use Rattle.word_steps.proofs.NumbersKept.{numbers_beside}
 use Rattle.word_steps.proofs.PutKept.{store_cpu_put}
 use Rattle.word_steps.proofs.QueuedKept.{store_cpu_queued}
 use Rattle.word_steps.specs.Decode.{Homes, core_of, core_after}
+use Rattle.word_steps.specs.Exclusives.{ExclusivesHold}
 use Rattle.word_steps.specs.Folds.{body_held, task_held, ended_known}
 use Rattle.word_steps.specs.Records.{Rec, SetBusy, ClearedBusy, StoredOwn, Claimed, Released, StoredCpu, Bumped}
 use Rattle.word_steps.specs.Words.{LOCK, STATE, RQ, BUSY, CPU, COND}
@@ -62,6 +64,8 @@ module _ (shape : Shape) (words : ℕ → ℕ → ℕ) (homes : Homes) (traces :
           off = λ t e. e;
         })
         (record { current = λ j. refl; stays = refl }) (record { ended = refl; body = refl })
+        (exclusives_beside words homes.wait traces s kept.exclusives n COND ((words n COND + 1) % 2 ^ 64) bump_note
+        (λ e. omega (arith, e)) (λ e. omega (arith, e)) (λ t k e. e) refl refl)
         (bump_keeps shape words homes traces s n kept.holds (record { seat = seat; condition = condition }))
         (runs_beside words traces s kept.runs n COND ((words n COND + 1) % 2 ^ 64) bump_note
         cond_beside.queue cond_beside.cpu cond_beside.rq (λ e. omega (arith, e)) refl refl)),
@@ -92,6 +96,8 @@ module _ (shape : Shape) (words : ℕ → ℕ → ℕ) (homes : Homes) (traces :
             standing = refl;
             off = renewed words traces s kept.off n;
           })
+          (set_busy_exclusives words homes.wait traces s kept.exclusives n s (words n BUSY / 2) y BUSY
+          (λ e. omega (arith, e)) (λ e. omega (arith, e)))
           (set_busy_keeps shape words homes traces s s n y q (omega (arith, may.after))
           (omega (arith, may.after)) kept.holds core)
           (set_busy_current words traces s kept.current shape homes kept.holds s n (words n BUSY / 2) y q core)
@@ -128,6 +134,8 @@ module _ (shape : Shape) (words : ℕ → ℕ → ℕ) (homes : Homes) (traces :
             off = renewed words traces s kept.off n;
           })
           (record { current = λ j. refl; stays = refl }) (record { ended = refl; body = refl })
+          (exclusives_beside words homes.wait traces s kept.exclusives n BUSY y clear_note
+          (λ e. omega (arith, e)) (λ e. omega (arith, e)) (λ t k e. e) refl refl)
           (clear_busy_keeps shape words homes traces s n y next.0 next.1 kept.holds core)
           (runs_beside words traces s kept.runs n BUSY y clear_note busy_beside.queue busy_beside.cpu busy_beside.rq
           (λ e. omega (arith, e)) refl refl)
@@ -136,12 +144,13 @@ module _ (shape : Shape) (words : ℕ → ℕ → ℕ) (homes : Homes) (traces :
 
   -- a store of it that tells nothing new of what stands beside the invariant
   quiet_state : (x : ℕ) (r : Rec) → x < 2 ^ 16 → IsQuiet r (traces s) → IsSteady r (traces s) → IsOutside r (traces s)
+      → ExclusivesHold (put_at words n STATE x) homes.wait (put traces s (r ∷ traces s))
       → Holds (core_after shape (put_at words n STATE x) homes traces s r)
       → RunsHold (put_at words n STATE x) (put traces s (r ∷ traces s))
       → Kept shape (put_at words n STATE x) homes (put traces s (r ∷ traces s))
-  quiet_state x r small quiet steady outside holds runs =
+  quiet_state x r small quiet steady outside exclusives holds runs =
       quiet_beside shape words homes homes traces s kept refl n STATE x r state_beside
-      (λ e. small) quiet steady outside holds runs
+      (λ e. small) quiet steady outside exclusives holds runs
 
   pub own_state_law : n < shape.tasks → MayOwnWord s (traces s) n (words n STATE) y
       → Kept shape (put_at words n STATE y) homes (put traces s (StoredOwn n (record { 0 = y }) ∷ traces s)) × Unit {0}
@@ -158,6 +167,7 @@ module _ (shape : Shape) (words : ℕ → ℕ → ℕ) (homes : Homes) (traces :
               off = renewed words traces s kept.off n;
             })
             (record { current = λ j. refl; stays = refl }) (record { ended = refl; body = refl })
+            (own_state_exclusives words homes.wait traces s kept.exclusives shape homes kept.holds n y may.current)
             (own_state_keeps shape words homes traces s n (record { 0 = y }) kept.holds core)
             (own_state_runs words traces s kept.runs shape homes n (record { 0 = y }) core),
         tt,
@@ -196,6 +206,8 @@ module _ (shape : Shape) (words : ℕ → ℕ → ℕ) (homes : Homes) (traces :
             off = renewed words traces s kept.off n;
           })
           (record { current = λ j. refl; stays = refl }) (record { ended = refl; body = refl })
+          (exclusives_state words homes.wait traces s kept.exclusives n 0x200 (Claimed n (words n RQ / 4)) (λ t k e. e) refl
+          refl (λ k e sleeps. absurd (grind (arith, nat_tests, e))))
           (claim_keeps shape words homes traces s n kept.holds core)
           (claim_runs words traces s kept.runs shape homes kept.holds n (words n RQ / 4) core)
 
@@ -216,6 +228,8 @@ module _ (shape : Shape) (words : ℕ → ℕ → ℕ) (homes : Homes) (traces :
               off = renewed words traces s kept.off n;
             })
             (record { current = λ j. refl; stays = refl }) (record { ended = refl; body = refl })
+            (exclusives_state words homes.wait traces s kept.exclusives n 0 (Released n) (λ t k e. e) refl refl
+            (λ k e sleeps. absurd (grind (arith, nat_tests, e))))
             (release_keeps shape words homes traces s n kept.holds core)
             (release_runs words traces s kept.runs shape homes kept.holds n kept.put_there)),
         tt,
@@ -234,6 +248,7 @@ module _ (shape : Shape) (words : ℕ → ℕ → ℕ) (homes : Homes) (traces :
       matched = matched_beside words traces s kept.matched n CPU y (StoredCpu n y) lock
           (grows_beside words traces s kept.matched n CPU y rq) refl;
       queued = store_cpu_queued words traces s kept.queued shape homes n y core;
+      exclusives = store_cpu_exclusives words homes.wait traces s kept.exclusives shape homes kept.holds n y core.placeable;
       put_there = store_cpu_put words traces s kept.put_there shape homes kept.holds n y core;
       ended = ended_still homes.ended traces s kept.ended (StoredCpu n y) (λ j. refl) refl;
       counts = counts_put words n CPU y kept.counts (λ e. omega (arith, e));

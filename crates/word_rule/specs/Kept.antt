@@ -6,6 +6,7 @@ use Rattle.word_rule.specs.Bodies.{BodiesKnown}
 use Rattle.word_rule.specs.Standing.{StandingHolds, RunsHold, OffHolds, GrownHolds}
 use Rattle.word_steps.specs.Beside.{MovingHolds, CurrentHolds, NumbersHold, MatchedHolds, QueuedHolds, PutHolds, EndedHolds, CountsZero, StatesFit}
 use Rattle.word_steps.specs.Decode.{Homes, core_of}
+use Rattle.word_steps.specs.Exclusives.{ExclusivesHold}
 use Rattle.word_steps.specs.Records.{Rec}
 
 -- the invariant of the core that they show, and what stands beside it
@@ -16,6 +17,7 @@ pub record Kept (shape : Shape) (words : ℕ → ℕ → ℕ) (homes : Homes) (t
   pub numbers : NumbersHold words traces
   pub matched : MatchedHolds words traces
   pub queued : QueuedHolds words traces
+  pub exclusives : ExclusivesHold words homes.wait traces
   pub put_there : PutHolds words traces
   pub ended : EndedHolds homes.ended traces
   pub counts : CountsZero words

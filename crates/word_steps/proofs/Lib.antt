@@ -1,6 +1,7 @@
 pub mod Conditions
 pub mod CurrentKept
 pub mod EndedKept
+pub mod ExclusivesKept
 pub mod FirstCore
 mod Flats
 pub mod FlatWords

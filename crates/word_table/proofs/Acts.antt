@@ -11,13 +11,14 @@ use Rattle.core_data.specs.Table.{put}
 use Rattle.core_stores.proofs.Columns.{put_there, put_other}
 use Rattle.core_data.specs.Entries.{has_entry}
 use Rattle.core_data.specs.declared.values.WaitEntry.{WaitEntry}
+use Rattle.word_steps.specs.Exclusives.{exclusive_entry}
 use Rattle.word_rule.specs.Kept.{Kept}
 use Rattle.word_rule.specs.Sorts.{OfWait}
 use Rattle.word_steps.specs.Records.{Rec}
 use Rattle.word_steps.specs.Words.{words_of}
 use Rattle.word_steps.specs.declared.val.Val.TheVariants as val
 use Rattle.word_table.proofs.Exclusives.{TellsAll, told_still, told_gone, told_put}
-use Rattle.word_table.specs.Exclusives.{exclusive_entry, gave_exclusive, ExclusivesTold}
+use Rattle.word_table.specs.Exclusives.{gave_exclusive, ExclusivesTold}
 use Rattle.word_table.specs.Layout.{SLOTS, BODY_SLOT, rows_of, slot_of, slot_at}
 use Rattle.word_table.specs.Outs.{has_out}
 use Rattle.word_table.specs.Parts.{Known}

@@ -10,13 +10,14 @@ use Rattle.core_data.specs.Entries.{has_entry}
 use Rattle.core_data.specs.Table.{put}
 use Rattle.core_data.specs.declared.values.WaitEntry.{WaitEntry}
 use Rattle.core_stores.proofs.Columns.{put_there, put_other}
+use Rattle.word_steps.specs.Exclusives.{exclusive_entry}
 use Rattle.word_rule.specs.Sorts.{Sort, OfWait, some_of}
 use Rattle.word_steps.specs.Records.{Rec, Gave}
 use Rattle.word_steps.specs.declared.val.Val.{Val}
 use Rattle.word_steps.specs.declared.val.Val.TheVariants as val
 use Rattle.word_table.proofs.Decoded.{value_there}
 use Rattle.word_table.proofs.Slotted.{low_slot}
-use Rattle.word_table.specs.Exclusives.{exclusive_entry, gives_exclusive, gave_exclusive, ExclusivesTold}
+use Rattle.word_table.specs.Exclusives.{gives_exclusive, gave_exclusive, ExclusivesTold}
 use Rattle.word_table.specs.Layout.{slot_of, slot_at}
 use Rattle.word_table.specs.Ruled.{val_in, wait_of, homes_of}
 use Rattle.word_table.specs.declared.slot.Slot.{Slot}

@@ -25,7 +25,7 @@ use Rattle.word_steps.specs.Words.{STRIDE, words_of}
 use Rattle.word_steps.specs.declared.val.Val.TheVariants as val
 use Rattle.word_table.proofs.Exclusives.{first_empty}
 use Rattle.word_table.proofs.Laying.{past}
-use Rattle.word_table.specs.Exclusives.{exclusive_entry}
+use Rattle.word_steps.specs.Exclusives.{exclusive_entry}
 use Rattle.word_table.specs.Begin.{body_slot, row, IsLaid}
 use Rattle.word_table.specs.Layout.{SLOTS, rows_of, slot_at}
 use Rattle.word_table.specs.Outs.{by_column, has_out}

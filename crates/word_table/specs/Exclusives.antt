@@ -2,11 +2,9 @@
 use Rattle.std.specs.Prelude.{◌≡◌, ℕ, ◌==◌, ◌&&◌, ◌||◌, Bool, true, false, List, [], ◌∷◌, Option, Some}
 use Rattle.core_data.specs.Entries.{has_entry}
 use Rattle.core_data.specs.declared.values.WaitEntry.{WaitEntry}
+use Rattle.word_steps.specs.Exclusives.{exclusive_entry}
 use Rattle.word_steps.specs.Records.{Rec, Gave}
 use Rattle.word_steps.specs.declared.val.Val.TheVariants as val
-
-abbrev pub exclusive_entry : ℕ → WaitEntry
-exclusive_entry t = record { t = t; exclusive = true }
 
 -- the step gives the wait queue of k with an exclusive entry of t
 abbrev pub gives_exclusive : Rec → ℕ → ℕ → Bool

@@ -20,6 +20,9 @@ pub close-requires-clause-idle : goal.close-requires-clause-idle
 close-requires-clause-idle g c κs live =
     subst (All IsIdle) (sym c.gather-gathered.ensures.tokens) (all_tokens IsIdle c.args.passes.items c.requires.done)
 
+pub returns-clause-end : goal.returns-clause-end
+returns-clause-end g c = same_end c.self.view_is c.gather-gathered.ensures.tokens c.close.ensures.end
+
 pub returns-clause-ended : goal.returns-clause-ended
 returns-clause-ended g c =
     let end = same_end c.self.view_is c.gather-gathered.ensures.tokens c.close.ensures.end in
