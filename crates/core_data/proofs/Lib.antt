@@ -1,5 +1,1 @@
-pub mod ActLemmas
-pub mod EntryLemmas
-pub mod FoundLemmas
 pub mod QueueLemmas
-pub mod Tables

@@ -1,12 +1,9 @@
-ghost use Rattle.std.specs.Prelude.{◌≡◌, OnOk, IsTrue, ◌↔◌, true, false, if◌then◌else◌};
-ghost use Rattle.core_data.specs.Acts.{is_act, since, since_from, with_act};
-
-use handoff_data::{CondNo, CpuNo, NoMemory, TaskNo};
+use handoff_data::{CondNo, CpuNo, TaskNo};
 
 /// A step of a seat that a later condition may look back at. A seat keeps the latest of each, oldest first;
 /// what it may rely on is that one of them came after another: a task was passed since a wait queue's lock
 /// was taken, or nothing was stored since a state was read.
-#[derive(Clone, Copy, Debug, PartialEq, Eq)]
+#[derive(Clone, Copy, PartialEq, Eq)]
 pub enum Act {
     /// It took the task's lock.
     TookTask { t: TaskNo },
@@ -48,51 +45,4 @@ pub enum Act {
     Bumped { k: CondNo },
     /// It gave the lock of the condition's wait queue after it had passed every entry taken.
     Walked { k: CondNo },
-}
-
-/// Whether both are the same step.
-fn is_same(a: &Act, b: &Act) -> bool
-    ensures { result ≡ is_act a.now b.now }
-{
-    let same = is_equal(a, b);
-    same
-}
-
-fn is_equal(a: &Act, b: &Act) -> bool
-    ensures { IsTrue result ↔ (a.now ≡ b.now) }
-{
-    *a == *b
-}
-
-/// What is known of `fact` after one step more.
-fn known_after(known: bool, fact: &Act, end: &Act, act: &Act) -> bool
-    ensures { result ≡ (if is_act fact.now act.now then true else if is_act end.now act.now then false else known) }
-{
-    if is_same(fact, act) {
-        true
-    } else if is_same(end, act) {
-        false
-    } else {
-        known
-    }
-}
-
-/// Whether the step `fact` is there, and `end` isn't there after it.
-pub fn is_since(acts: &[Act], fact: Act, end: Act) -> bool
-    ensures { result ≡ since fact end acts.now }
-{
-    let mut known = false;
-    for act in acts {
-        known = known_after(known, &fact, &end, act);
-    }
-    known
-}
-
-/// Makes a step the latest.
-pub fn note_act(acts: &mut Vec<Act>, act: Act) -> Result<(), NoMemory>
-    ensures { OnOk result (acts.new.items ≡ with_act acts.old.items act) }
-{
-    acts.retain(|x| !is_same(&act, x));
-    acts.push(act)?;
-    Ok(())
 }

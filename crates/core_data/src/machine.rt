@@ -3,7 +3,7 @@ use crate::words::{CondWords, CpuWords, TaskWords};
 use handoff_data::Shape;
 
 /// A whole machine between two atomic steps. The seats are those of the processors, then those of the agents.
-#[derive(Debug, Drop)]
+#[derive(Drop)]
 pub struct Core {
     pub shape: Shape,
     pub tasks: Vec<TaskWords>,

@@ -12,7 +12,7 @@ use std::marker::Model;
 /// that runs, and the last one that was switched out. Contracts see a `Queue`.
 ///
 /// Room for 200 waiting tasks, the most that a shape has, is reserved from the start, so `push` takes no memory.
-#[derive(Debug, Drop)]
+#[derive(Drop)]
 pub struct QueueVal {
     waiting: VecDeque<TaskNo>,
     pub cur: Option<TaskNo>,

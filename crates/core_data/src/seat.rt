@@ -3,7 +3,7 @@ use crate::pos::Pos;
 use handoff_data::{Journal, TaskNo};
 
 /// One seat: its words, its current task, what it has out, its position and its journal.
-#[derive(Debug, Drop)]
+#[derive(Drop)]
 pub struct SeatCore {
     pub mark: bool,
     pub done: bool,

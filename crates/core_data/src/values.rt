@@ -5,7 +5,7 @@ use std::marker::Model;
 
 /// What a task's lock guards, after the fields of Linux's `struct task_struct` that `p->pi_lock` and the
 /// affinity code guard.
-#[derive(Clone, Copy, Debug, PartialEq, Eq)]
+#[derive(Clone, Copy)]
 pub struct TaskVal {
     /// The affinity mask in force.
     pub mask: CpuMask,
@@ -24,7 +24,7 @@ pub struct TaskVal {
 }
 
 /// One sleeper in a wait queue, after Linux's `struct wait_queue_entry`.
-#[derive(Clone, Copy, Debug, PartialEq, Eq)]
+#[derive(Clone, Copy)]
 pub struct WaitEntry {
     pub t: TaskNo,
     /// Whether a walk may stop behind it once its task is woken, as Linux's WQ_FLAG_EXCLUSIVE says.
@@ -32,7 +32,7 @@ pub struct WaitEntry {
 }
 
 /// What a wait queue's lock guards: its entries, the head first. Contracts see that list.
-#[derive(Debug, Drop)]
+#[derive(Drop)]
 pub struct WaitVal {
     pub entries: Vec<WaitEntry>,
 }
@@ -47,14 +47,14 @@ impl Model for WaitVal {
 }
 
 /// A stop work: the task to be moved, and the seat whose affinity record asks for it.
-#[derive(Clone, Copy, Debug, PartialEq, Eq)]
+#[derive(Clone, Copy, PartialEq, Eq)]
 pub struct WorkItem {
     pub t: TaskNo,
     pub rec: SeatNo,
 }
 
 /// What a stopper's lock guards: its works, the oldest first. Contracts see that list.
-#[derive(Debug, Drop)]
+#[derive(Drop)]
 pub struct WorksVal {
     pub items: Vec<WorkItem>,
 }
@@ -69,7 +69,7 @@ impl Model for WorksVal {
 }
 
 /// What a remote list's lock guards: its tasks, the oldest first. Contracts see that list.
-#[derive(Debug, Drop)]
+#[derive(Drop)]
 pub struct ListVal {
     pub tasks: Vec<TaskNo>,
 }

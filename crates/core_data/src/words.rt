@@ -19,7 +19,7 @@ use crate::values::{ListVal, TaskVal, WaitVal, WorksVal};
 use handoff_data::{CpuNo, SeatNo, State};
 
 /// The words of a task, after Linux's `struct task_struct`, its lock, the value under it, and its body.
-#[derive(Clone, Copy, Debug, PartialEq, Eq)]
+#[derive(Clone, Copy)]
 pub struct TaskWords {
     pub state: State,
     /// 0 off its queue, 1 queued, 2 on its way to another queue.
@@ -43,7 +43,7 @@ pub struct TaskWords {
 }
 
 /// Where a processor stands in an outage, after the states of Linux 6.6 `kernel/cpu.c`.
-#[derive(Clone, Copy, Debug, PartialEq, Eq)]
+#[derive(Clone, Copy)]
 pub enum Phase {
     Live,
     Leaving,
@@ -53,7 +53,7 @@ pub enum Phase {
 }
 
 /// The words of a processor, after Linux's `struct rq`, its locks, and the values under them.
-#[derive(Debug, Drop)]
+#[derive(Drop)]
 pub struct CpuWords {
     pub hint: u32,
     pub pinned: u32,
@@ -69,7 +69,7 @@ pub struct CpuWords {
 }
 
 /// The counter of a condition, the lock of its wait queue, and the value under it.
-#[derive(Debug, Drop)]
+#[derive(Drop)]
 pub struct CondWords {
     pub cond: u64,
     pub wait_lock: Option<SeatNo>,

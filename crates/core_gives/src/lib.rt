@@ -1,12 +1,3 @@
-//! The gives of queues, wait queues and works: whether a seat may give one back with a value, and what that changes.
+//! The gives of queues, wait queues and works: when a seat may give one back with a value, and what that changes
+//! (`specs/`), with lemmas on lists that others cite.
 #![tactic(auto)]
-
-mod fits;
-mod queues;
-mod switch;
-mod waits;
-mod works;
-
-pub use queues::{give_queue, may_give_queue};
-pub use waits::{give_wait, may_give_wait};
-pub use works::may_give_works;

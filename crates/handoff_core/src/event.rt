@@ -2,7 +2,7 @@ use crate::step::StepKind;
 use handoff_data::SeatNo;
 
 /// One atomic step by one seat.
-#[derive(Debug, Drop)]
+#[derive(Drop)]
 pub struct Event {
     /// The seat that makes the step.
     pub seat: SeatNo,

@@ -1,7 +1,7 @@
 //! The core of the hand-off: a machine of shared words, lock values and seats, in which each atomic step of a seat
 //! is one event. `step_core` says what an event leads to, `law_run` what a list of events leads to.
 //!
-//! A core begins as `Core::start` makes it. Which events are possible, and what they change, is said by `May` and
+//! A core begins as `start_core` makes it. Which events are possible, and what they change, is said by `May` and
 //! `after` of `specs/Steps.antt`, one line a kind of step.
 #![tactic(auto)]
 
@@ -23,6 +23,4 @@ pub use laws::{
 };
 pub use run::{CoreRun, law_run, step_core};
 pub use step::StepKind;
-
-#[cfg(test)]
-mod tests;
+pub use step_data::start_core;

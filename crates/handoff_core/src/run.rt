@@ -9,9 +9,11 @@ ghost use Rattle.handoff_core.specs.declared.event.Event.{Event};
 
 use crate::event::Event;
 use crate::step::StepKind;
-use core_data::{Core, copy_core};
-use core_gives::{give_queue, give_wait, may_give_queue, may_give_wait, may_give_works};
-use core_kinds::{
+use core_data::Core;
+use handoff_data::{NoMemory, SeatNo};
+use step_data::{copy_core, copy_wait, copy_works};
+use step_gives::{give_queue, give_wait, may_give_queue, may_give_wait, may_give_works};
+use step_kinds::{
     body_home, body_out, bump, claim, clear_busy, dequeue_task, give_task, give_works, load_busy,
     load_cond, load_cpu, load_rq, load_state, may_body_home, may_body_out, may_bump, may_claim,
     may_clear_busy, may_dequeue, may_give_task, may_load, may_load_state, may_move, may_own_state,
@@ -19,7 +21,6 @@ use core_kinds::{
     may_take_wait, may_take_works, move_task, own_state, queue_task, release, set_busy, store_cpu,
     take_queue, take_task, take_wait, take_works,
 };
-use handoff_data::{NoMemory, SeatNo};
 
 /// Whether an event is possible.
 fn may_happen(core: &Core, event: &Event) -> bool
@@ -79,18 +80,18 @@ fn happen(core: &mut Core, event: &Event) -> Result<(), NoMemory>
         }
         StepKind::TakeQueue { c } => take_queue(core, s, *c),
         StepKind::GiveQueue { c, val } => {
-            let val = val.clone()?;
+            let val = val.copy()?;
             give_queue(core, s, *c, val);
             Ok(())
         }
         StepKind::TakeWait { k } => take_wait(core, s, *k),
         StepKind::GiveWait { k, val } => {
-            let val = val.clone()?;
+            let val = copy_wait(val)?;
             give_wait(core, s, *k, val)
         }
         StepKind::TakeWorks { c } => take_works(core, s, *c),
         StepKind::GiveWorks { c, val } => {
-            let val = val.clone()?;
+            let val = copy_works(val)?;
             give_works(core, s, *c, val);
             Ok(())
         }
@@ -133,7 +134,7 @@ pub fn step_core(core: &Core, event: &Event) -> Result<Option<Core>, NoMemory>
 }
 
 /// What a run of events came to: the core after those that were taken, and how many these are.
-#[derive(Debug, Drop)]
+#[derive(Drop)]
 pub struct CoreRun {
     pub core: Core,
     pub taken: usize,

@@ -5,7 +5,7 @@ use handoff_data::{CondNo, CpuNo, SeatNo, State, TaskNo};
 /// it has at that step. What a load reads is no part of it: that is what the core has. Taking and giving a lock
 /// is a kind for each sort of lock, a store of `on_rq` one for each value, and a store of another task's state
 /// one for each of its two values.
-#[derive(Debug, Drop)]
+#[derive(Drop)]
 pub enum StepKind {
     /// Takes the lock of a task, with its value.
     TakeTask {

@@ -8,7 +8,7 @@ use std::alloc::Global;
 use std::marker::Model;
 
 /// What a task's lock guards on the shared table. Contracts see the value itself.
-#[derive(Debug, Drop)]
+#[derive(Drop)]
 pub struct TaskBox {
     inner: Box<TaskVal>,
 }
@@ -48,7 +48,7 @@ impl TaskBox {
 }
 
 /// What the lock of a processor's queue guards on the shared table. Contracts see the `Queue`.
-#[derive(Debug, Drop)]
+#[derive(Drop)]
 pub struct QueueBox {
     inner: Box<QueueVal>,
 }
@@ -122,7 +122,7 @@ impl QueueBox {
 }
 
 /// What the lock of a processor's works guards on the shared table. Contracts see the works, the oldest first.
-#[derive(Debug, Drop)]
+#[derive(Drop)]
 pub struct WorksBox {
     inner: Box<WorksVal>,
 }

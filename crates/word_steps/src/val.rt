@@ -9,7 +9,7 @@ use crate::wait::WaitQueue;
 
 /// The value that a lock guards; its kind is the lock's kind. A slot of the shared table and a record of a trace have
 /// such a value.
-#[derive(Debug, Drop)]
+#[derive(Drop)]
 pub enum Val {
     /// What a task's lock guards.
     Task(TaskBox),

@@ -15,7 +15,7 @@ use std::marker::Model;
 ///
 /// Room for 200 entries, one for each task of the largest shape, is reserved from the start, so that putting one in takes
 /// no memory. It is in a box, so that a lock which is taken, or given, moves no more than an address.
-#[derive(Debug, Drop)]
+#[derive(Drop)]
 pub struct WaitQueue {
     entries: Box<VecDeque<WaitEntry>>,
 }

@@ -1,7 +1,0 @@
-use Rattle.std.proofs.Common.{sym, ap, ◌∙◌}
-use Rattle.std.specs.Prelude.{is_some}
-use Rattle.core_stores.proofs.Writes.{get-queue}
-use Rattle.core_stores.proofs.cpu_stores.has_queue.Goals as goal
-
-pub returns : goal.returns
-returns c = c.is_some.ensures ∙ ap is_some (sym (get-queue c.args.core.now c.args.c c.index-row.result.now c.requires c.index-row.ensures))

@@ -1,6 +1,0 @@
-use Rattle.std.proofs.Common.{sym}
-use Rattle.core_stores.proofs.Writes.{get-works_lock}
-use Rattle.core_stores.proofs.cpu_stores.works_lock.Goals as goal
-
-pub returns : goal.returns
-returns c = sym (get-works_lock c.args.core.now c.args.c c.index-row.result.now c.requires c.index-row.ensures)

@@ -1,6 +1,0 @@
-use Rattle.std.proofs.Common.{ℕ, Bool, ap, sym, ◌∙◌}
-use Rattle.core_stores.proofs.Writes.{get-matched}
-use Rattle.core_stores.proofs.facts.matched.Goals as goal
-
-pub returns : goal.returns
-returns c = c.is_since.ensures ∙ ap (λ (f : ℕ → Bool). f c.args.t) (sym (get-matched c.args.core.now c.args.s c.index-row.result.now c.requires c.index-row.ensures))

@@ -1,6 +1,0 @@
-use Rattle.std.proofs.Common.{ℕ, Bool, ap, sym, ◌∙◌}
-use Rattle.core_stores.proofs.Writes.{get-rest_state}
-use Rattle.core_stores.proofs.facts.rest_state.Goals as goal
-
-pub returns : goal.returns
-returns c = c.is_since.ensures ∙ ap (λ (f : ℕ → Bool). f c.args.t) (sym (get-rest_state c.args.core.now c.args.s c.index-row.result.now c.requires c.index-row.ensures))

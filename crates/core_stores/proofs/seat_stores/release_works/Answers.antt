@@ -1,5 +1,0 @@
-use Rattle.core_stores.proofs.Stores.{release_works_lem}
-use Rattle.core_stores.proofs.seat_stores.release_works.Goals as goal
-
-pub returns : goal.returns
-returns c = release_works_lem c.args.core.now c.args.s c.index_mut-row.result.now _ c.args.c c.requires c.index_mut-row.ensures.value c.release_works.ensures

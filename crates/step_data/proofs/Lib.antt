@@ -1,0 +1,4 @@
+pub mod ActLemmas
+pub mod EntryLemmas
+pub mod FoundLemmas
+pub mod Tables

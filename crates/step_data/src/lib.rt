@@ -1,0 +1,12 @@
+//! What makes a core run: the reads and changes of what a seat has out and knows, the opening core, and copies.
+#![tactic(auto)]
+
+mod act;
+mod copies;
+pub mod held;
+mod opening;
+pub mod pos;
+
+pub use copies::{copy_core, copy_wait, copy_works};
+pub use opening::start_core;
+pub use pos::{has_entry, is_gone};

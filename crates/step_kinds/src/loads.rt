@@ -1,0 +1,289 @@
+//! Loads, which change nothing but what the seat knows and notes; and the conditions' counters.
+
+ghost use Rattle.std.specs.Prelude.{◌≡◌, ◌<◌, ◌==◌, ◌&&◌, ◌+◌, ◌%◌, ◌^◌, ◌↔◌, IsTrue, OnOk, Some, None, is_some, nat_lt, if◌then◌else◌};
+ghost use mathlib.Core.Bool.{not};
+ghost use Rattle.core_data.specs.Noted.{noted};
+ghost use Rattle.core_data.specs.Table.{Table, table, put, put_at};
+ghost use Rattle.core_kinds.specs.Steps.{is_match};
+ghost use Rattle.core_kinds.specs.Waking.{MayLoad, IsMask, MayLoadState, is_own_read, is_matched, is_refused, load_state, load_this, state_read, load_rq, load_rq_so, rq_read, load_busy, load_busy_so, busy_read, load_cpu, cpu_read, MayBump, bump, load_cond, test_by};
+
+use crate::common::is_of_shape;
+use crate::notes::{log_if, note_if, see_if, test_if};
+use core_data::{Act, Core, Rq, TaskReads};
+use handoff_data::{CondNo, Entry, NoMemory, SeatNo, State, TaskNo};
+use step_stores::{
+    cond, conds, cpus, current, note, put_cond, queue_lock, reads, rest_off, rest_state, seats,
+    set_reads, slept, task_words, unstored,
+};
+
+/// Whether seat s may load a word of task t.
+pub fn may_load(core: &Core, s: SeatNo, t: TaskNo) -> bool
+    ensures { IsTrue result ↔ MayLoad (table core.now) s t }
+{
+    is_of_shape(core, s, t)
+}
+
+/// Whether a mask has only bits of TASK_NORMAL and TASK_WAKEKILL.
+fn is_mask(mask: Option<State>) -> bool
+    ensures { IsTrue result ↔ IsMask mask }
+{
+    match mask {
+        Some(mask) => mask.0 & 0x103 == mask.0,
+        None => true,
+    }
+}
+
+/// Whether seat s may load the state of task t with this mask.
+pub fn may_load_state(core: &Core, s: SeatNo, t: TaskNo, mask: Option<State>) -> bool
+    ensures { IsTrue result ↔ MayLoadState (table core.now) s t mask }
+{
+    is_of_shape(core, s, t) && is_mask(mask)
+}
+
+fn is_match(state: State, mask: State) -> bool
+    ensures { result ≡ is_match state mask }
+{
+    state.0 & mask.0 != 0
+}
+
+fn is_matched(state: State, mask: Option<State>) -> bool
+    ensures { result ≡ is_matched state mask }
+{
+    match mask {
+        Some(mask) => is_match(state, mask),
+        None => false,
+    }
+}
+
+fn is_refused(state: State, mask: Option<State>) -> bool
+    ensures { result ≡ is_refused state mask }
+{
+    match mask {
+        Some(mask) => !is_match(state, mask),
+        None => false,
+    }
+}
+
+/// Whether the seat reads its own current task under the lock of its own queue.
+fn is_own_read(core: &Core, s: SeatNo, t: TaskNo) -> bool
+    requires { s < (table core.now).seats }
+    ensures { result ≡ is_own_read (table core.now) s t }
+{
+    (s as usize) < cpus(core) && current(core, s) == Some(t) && queue_lock(core, s) == Some(s)
+}
+
+fn read_state(core: &mut Core, s: SeatNo, t: TaskNo, state: State) -> Result<(), NoMemory>
+    requires { s < (table core.old).seats }
+    ensures { OnOk result (table core.new ≡ record (table core.old) { reads = put_at (table core.old).reads s t (state_read t state ((table core.old).reads s t)) }) }
+{
+    let old = reads(core, s, t);
+    set_reads(
+        core,
+        s,
+        TaskReads {
+            t,
+            state: Some(state),
+            rq: None,
+            busy: None,
+            number: old.number,
+            cpu: old.cpu,
+        },
+    )?;
+    Ok(())
+}
+
+/// Loads the state of task t: what the seat notes of it, and Refused where it doesn't match the mask.
+pub fn load_state(
+    core: &mut Core,
+    s: SeatNo,
+    t: TaskNo,
+    mask: Option<State>,
+) -> Result<(), NoMemory>
+    requires { (s < (table core.old).seats) × (t < (table core.old).tasks) }
+    ensures { OnOk result (table core.new ≡ load_state (table core.old) s t mask) }
+{
+    let state = task_words(core, t).state;
+    let own = is_own_read(core, s, t);
+    load_this(core, s, t, mask, own, state)?;
+    Ok(())
+}
+
+fn load_this(
+    core: &mut Core,
+    s: SeatNo,
+    t: TaskNo,
+    mask: Option<State>,
+    own: bool,
+    state: State,
+) -> Result<(), NoMemory>
+    requires { s < (table core.old).seats }
+    ensures { OnOk result (table core.new ≡ load_this (table core.old) s t mask own ((table core.old).reads s t) state) }
+{
+    read_state(core, s, t, state)?;
+    see_if(core, s, state, own);
+    note_if(core, s, Act::Matched { t }, is_matched(state, mask))?;
+    note_if(core, s, Act::SawRest { t }, state.0 != 0x200)?;
+    note_if(
+        core,
+        s,
+        Act::Passed { t },
+        !is_match(state, State::TASK_NORMAL),
+    )?;
+    log_if(
+        core,
+        s,
+        Entry::Refused { t, state },
+        is_refused(state, mask),
+    )?;
+    Ok(())
+}
+
+fn read_rq(core: &mut Core, s: SeatNo, t: TaskNo, on: u8, m: u64) -> Result<(), NoMemory>
+    requires { s < (table core.old).seats }
+    ensures { OnOk result (table core.new ≡ record (table core.old) { reads = put_at (table core.old).reads s t (rq_read t on m ((table core.old).reads s t)) }) }
+{
+    let old = reads(core, s, t);
+    let rq = if old.state.is_some() {
+        Some(Rq { on, m })
+    } else {
+        None
+    };
+    let reads = TaskReads {
+        t,
+        state: old.state,
+        rq,
+        busy: None,
+        number: Some(m),
+        cpu: old.cpu,
+    };
+    set_reads(core, s, reads)?;
+    Ok(())
+}
+
+fn load_rq_so(
+    core: &mut Core,
+    s: SeatNo,
+    t: TaskNo,
+    fresh: bool,
+    rests: bool,
+    on: u8,
+    m: u64,
+) -> Result<(), NoMemory>
+    requires { s < (table core.old).seats }
+    ensures { OnOk result (table core.new ≡ load_rq_so (table core.old) s t fresh rests ((table core.old).reads s t) on m) }
+{
+    read_rq(core, s, t, on, m)?;
+    note_if(core, s, Act::SawOff { t }, on == 0 && fresh)?;
+    note_if(core, s, Act::SawRestOff { t }, on == 0 && rests)?;
+    Ok(())
+}
+
+/// Loads `on_rq` of task t, with the number of its changes.
+pub fn load_rq(core: &mut Core, s: SeatNo, t: TaskNo) -> Result<(), NoMemory>
+    requires { (s < (table core.old).seats) × (t < (table core.old).tasks) }
+    ensures { OnOk result (table core.new ≡ load_rq (table core.old) s t) }
+{
+    let words = task_words(core, t);
+    let fresh = unstored(core, s, t);
+    let rests = rest_state(core, s, t);
+    load_rq_so(core, s, t, fresh, rests, words.on_rq, words.changes)?;
+    Ok(())
+}
+
+fn read_busy(core: &mut Core, s: SeatNo, t: TaskNo, busy: bool) -> Result<(), NoMemory>
+    requires { s < (table core.old).seats }
+    ensures { OnOk result (table core.new ≡ record (table core.old) { reads = put_at (table core.old).reads s t (busy_read t busy ((table core.old).reads s t)) }) }
+{
+    let old = reads(core, s, t);
+    let read = if old.rq.is_some() { Some(busy) } else { None };
+    let reads = TaskReads {
+        t,
+        state: old.state,
+        rq: old.rq,
+        busy: read,
+        number: old.number,
+        cpu: old.cpu,
+    };
+    set_reads(core, s, reads)?;
+    Ok(())
+}
+
+fn load_busy_so(
+    core: &mut Core,
+    s: SeatNo,
+    t: TaskNo,
+    rests: bool,
+    busy: bool,
+) -> Result<(), NoMemory>
+    requires { s < (table core.old).seats }
+    ensures { OnOk result (table core.new ≡ load_busy_so (table core.old) s t rests ((table core.old).reads s t) busy) }
+{
+    read_busy(core, s, t, busy)?;
+    note_if(core, s, Act::SawClear { t }, !busy)?;
+    note_if(core, s, Act::SawRestIdle { t }, !busy && rests)?;
+    Ok(())
+}
+
+/// Loads the busy word of task t.
+pub fn load_busy(core: &mut Core, s: SeatNo, t: TaskNo) -> Result<(), NoMemory>
+    requires { (s < (table core.old).seats) × (t < (table core.old).tasks) }
+    ensures { OnOk result (table core.new ≡ load_busy (table core.old) s t) }
+{
+    let busy = task_words(core, t).on_cpu;
+    let rests = rest_off(core, s, t);
+    load_busy_so(core, s, t, rests, busy)?;
+    Ok(())
+}
+
+/// Loads the processor of task t.
+pub fn load_cpu(core: &mut Core, s: SeatNo, t: TaskNo) -> Result<(), NoMemory>
+    requires { (s < (table core.old).seats) × (t < (table core.old).tasks) }
+    ensures { OnOk result (table core.new ≡ load_cpu (table core.old) s t) }
+{
+    let cpu = task_words(core, t).cpu;
+    let old = reads(core, s, t);
+    let reads = TaskReads {
+        t,
+        state: old.state,
+        rq: old.rq,
+        busy: old.busy,
+        number: old.number,
+        cpu: Some(cpu),
+    };
+    set_reads(core, s, reads)?;
+    Ok(())
+}
+
+/// Whether seat s may raise condition k.
+pub fn may_bump(core: &Core, s: SeatNo, k: CondNo) -> bool
+    ensures { IsTrue result ↔ MayBump (table core.now) s k }
+{
+    (s as usize) < seats(core) && (k as usize) < conds(core)
+}
+
+/// Raises condition k, whose counter wraps; the seat owes it a walk.
+pub fn bump(core: &mut Core, s: SeatNo, k: CondNo) -> Result<(), NoMemory>
+    requires { MayBump (table core.old) s k }
+    ensures { OnOk result (table core.new ≡ bump (table core.old) s k) }
+{
+    let v = cond(core, k);
+    put_cond(core, k, v.wrapping_add(1));
+    note(core, s, Act::Bumped { k })?;
+    Ok(())
+}
+
+/// Loads the counter of condition k: the current task has tested it, where it has stored a sleep state.
+pub fn load_cond(core: &mut Core, s: SeatNo, k: CondNo) -> Result<(), NoMemory>
+    requires { MayBump (table core.old) s k }
+    ensures { OnOk result (table core.new ≡ load_cond (table core.old) s k) }
+{
+    let v = cond(core, k);
+    match current(core, s) {
+        Some(t) => {
+            let sleeps = slept(core, s, t);
+            test_if(core, s, t, k, v, sleeps)?;
+            Ok(())
+        }
+        None => Ok(()),
+    }
+}

@@ -1,0 +1,308 @@
+//! Running steps: a task's queue word, its busy word and its body, after `activate_task`, `deactivate_task`,
+//! `move_queued_task`, `prepare_task` and `finish_task` of Linux 6.6 (`kernel/sched/core.c`).
+
+ghost use Rattle.std.specs.Prelude.{◌≡◌, ◌≢◌, ◌<◌, ◌^◌, ◌+◌, ◌++◌, ◌∷◌, [], ◌⊎◌, ◌↔◌, ◌==◌, IsTrue, OnOk, Some, None, true, false, if◌then◌else◌};
+ghost use Rattle.core_data.specs.Noted.{noted};
+ghost use Rattle.core_data.specs.Queue.{times_in};
+ghost use Rattle.core_data.specs.Table.{Table, table, put, put_at};
+ghost use Rattle.core_data.specs.declared.act.Act.TheVariants.{Queued, Dequeued, Picked};
+ghost use Rattle.handoff_data.specs.declared.entry.Entry.TheVariants.{Pick, Finish};
+ghost use Rattle.core_kinds.specs.Steps.{waking, IsRunnable, stored_word};
+ghost use Rattle.core_kinds.specs.Running.{store_rq, IsReady, MayQueue, queue_entry, queue_task, MayLeave, MayDequeue, dequeue_entry, dequeue_task, MayMove, move_task, MaySetBusy, set_busy, MayClearBusy, clear_busy, MayBodyOut, body_out, MayBodyHome, body_home};
+
+use crate::common::{END, is_of_shape, is_runnable, is_sleep, renew};
+use core_data::{Act, Core, QueueVal, TaskReads, TaskWords};
+use handoff_data::{CpuNo, Entry, NoMemory, SeatNo, State, TaskNo};
+use step_stores::{
+    body_out as body_out_of, clear, cpus, current, forget_sleep, idle, log, note, put_body,
+    put_body_out, put_busy, put_current, put_rq, put_seen, put_to_clear, queue_lock, reads, seen,
+    set_reads, take_body, task_words, to_clear,
+};
+
+/// Whether seat s has the lock of the queue of processor c, and all three are of the shape.
+fn has_queue_lock(core: &Core, s: SeatNo, c: CpuNo, t: TaskNo) -> bool
+    ensures { IsTrue result ↔ ((s < (table core.now).seats) × (t < (table core.now).tasks) × (c < (table core.now).cpus) × ((table core.now).queue_lock c ≡ Some s)) }
+{
+    is_of_shape(core, s, t) && (c as usize) < cpus(core) && queue_lock(core, c) == Some(s)
+}
+
+/// Stores `on_rq` of task t with the next number, and its entry.
+fn store_rq(core: &mut Core, s: SeatNo, t: TaskNo, on: u8, entry: Entry) -> Result<(), NoMemory>
+    requires { (s < (table core.old).seats) × (t < (table core.old).tasks) × ((table core.old).changes t < 2 ^ 60) }
+    ensures { OnOk result (table core.new ≡ store_rq (table core.old) s t on entry) }
+{
+    let m = task_words(core, t).changes + 1;
+    let old = reads(core, s, t);
+    put_rq(core, t, on, m);
+    log(core, s, entry)?;
+    set_reads(
+        core,
+        s,
+        TaskReads {
+            t,
+            state: None,
+            rq: None,
+            busy: None,
+            number: Some(m),
+            cpu: old.cpu,
+        },
+    )?;
+    note(core, s, Act::Renewed { t })?;
+    note(core, s, Act::StoredWord { t })?;
+    Ok(())
+}
+
+/// Whether a seat may put a task on a queue: a new one, one that it wakes and has read as not busy since, or one
+/// that it moves.
+fn is_ready(words: TaskWords, is_clear: bool) -> bool
+    ensures { IsTrue result ↔ ((words.changes ≡ 0) ⊎ (((words.on_rq ≡ 0) × (words.state ≡ waking) × (is_clear ≡ true)) ⊎ (words.on_rq ≡ 2))) }
+{
+    words.changes == 0
+        || (words.on_rq == 0 && words.state == State::TASK_WAKING && is_clear)
+        || words.on_rq == 2
+}
+
+/// Whether seat s may store 1 in `on_rq` of task t, on the queue of processor c.
+pub fn may_queue(core: &Core, s: SeatNo, c: CpuNo, t: TaskNo) -> bool
+    ensures { IsTrue result ↔ MayQueue (table core.now) s c t }
+{
+    if !has_queue_lock(core, s, c, t) {
+        return false;
+    }
+    let words = task_words(core, t);
+    let ready = is_ready(words, clear(core, s, t));
+    words.lock == Some(s) && words.cpu == c && words.on_rq != 1 && ready && words.changes < END
+}
+
+fn queue_entry(words: TaskWords, t: TaskNo, c: CpuNo) -> Entry
+    requires { words.changes < 2 ^ 60 }
+    ensures { result ≡ queue_entry words.changes words.on_rq t c }
+{
+    let m = words.changes + 1;
+    if words.changes == 0 {
+        Entry::New { t, m, c }
+    } else if words.on_rq == 2 {
+        Entry::In { t, m, c }
+    } else {
+        Entry::Enq {
+            t,
+            m,
+            c,
+            by_list: false,
+        }
+    }
+}
+
+/// Queues task t.
+pub fn queue_task(core: &mut Core, s: SeatNo, c: CpuNo, t: TaskNo) -> Result<(), NoMemory>
+    requires { MayQueue (table core.old) s c t }
+    ensures { OnOk result (table core.new ≡ queue_task (table core.old) s c t) }
+{
+    let entry = queue_entry(task_words(core, t), t, c);
+    store_rq(core, s, t, 1, entry)?;
+    note(core, s, Act::Queued { t })?;
+    Ok(())
+}
+
+/// Whether a task may leave its queue by the state that was read, with this migrate-disable level.
+fn may_leave(state: Option<State>, count: u32) -> bool
+    ensures { IsTrue result ↔ MayLeave state count }
+{
+    match state {
+        Some(state) => is_sleep(state) || (state == State::TASK_DEAD && count == 0),
+        None => false,
+    }
+}
+
+/// Whether seat s may store 0 in `on_rq` of task t: its current task sleeps or dies.
+pub fn may_dequeue(core: &Core, s: SeatNo, c: CpuNo, t: TaskNo) -> bool
+    ensures { IsTrue result ↔ MayDequeue (table core.now) s c t }
+{
+    if s != c || !has_queue_lock(core, s, c, t) {
+        return false;
+    }
+    let words = task_words(core, t);
+    let leaves = may_leave(seen(core, s), words.count);
+    current(core, s) == Some(t)
+        && words.on_rq == 1
+        && words.cpu == c
+        && leaves
+        && words.changes < END
+}
+
+fn dequeue_entry(state: Option<State>, changes: u64, t: TaskNo, c: CpuNo) -> Entry
+    requires { changes < 2 ^ 60 }
+    ensures { result ≡ dequeue_entry state changes t c }
+{
+    let m = changes + 1;
+    match state {
+        Some(state) => {
+            if state.0 == 0x80 {
+                Entry::Die { t, m, c }
+            } else {
+                Entry::Sleep { t, m, c }
+            }
+        }
+        None => Entry::Sleep { t, m, c },
+    }
+}
+
+/// Takes the current task off its queue.
+pub fn dequeue_task(core: &mut Core, s: SeatNo, c: CpuNo, t: TaskNo) -> Result<(), NoMemory>
+    requires { MayDequeue (table core.old) s c t }
+    ensures { OnOk result (table core.new ≡ dequeue_task (table core.old) s c t) }
+{
+    let entry = dequeue_entry(seen(core, s), task_words(core, t).changes, t, c);
+    store_rq(core, s, t, 0, entry)?;
+    note(core, s, Act::Dequeued { t })?;
+    Ok(())
+}
+
+/// Whether seat s may store 2 in `on_rq` of task t, which waits on the queue of processor c.
+pub fn may_move(core: &Core, s: SeatNo, c: CpuNo, t: TaskNo, val: &QueueVal) -> bool
+    ensures { IsTrue result ↔ MayMove (table core.now) s c t val.now }
+{
+    if !has_queue_lock(core, s, c, t) || !val.contains(t) {
+        return false;
+    }
+    let words = task_words(core, t);
+    let runnable = is_runnable(words.state);
+    let free = current(core, s) != Some(t) && idle(core, s, c, t);
+    words.lock == Some(s)
+        && words.on_rq == 1
+        && words.cpu == c
+        && runnable
+        && free
+        && words.changes < END
+}
+
+/// Takes task t off its queue, to be moved.
+pub fn move_task(
+    core: &mut Core,
+    s: SeatNo,
+    c: CpuNo,
+    t: TaskNo,
+    val: &QueueVal,
+) -> Result<(), NoMemory>
+    requires { MayMove (table core.old) s c t val.now }
+    ensures { OnOk result (table core.new ≡ move_task (table core.old) s c t) }
+{
+    let m = task_words(core, t).changes + 1;
+    store_rq(core, s, t, 2, Entry::Out { t, m, c })?;
+    note(core, s, Act::Dequeued { t })?;
+    Ok(())
+}
+
+/// Whether seat s may set the busy word of task t, which its own queue has as its next.
+pub fn may_set_busy(core: &Core, s: SeatNo, c: CpuNo, t: TaskNo, val: &QueueVal) -> bool
+    ensures { IsTrue result ↔ MaySetBusy (table core.now) s c t val.now }
+{
+    if s != c || !has_queue_lock(core, s, c, t) {
+        return false;
+    }
+    let words = task_words(core, t);
+    let runnable = is_runnable(words.state);
+    let free = current(core, s).is_none() && to_clear(core, s).is_none();
+    val.cur == Some(t)
+        && words.on_rq == 1
+        && words.cpu == c
+        && runnable
+        && !words.on_cpu
+        && free
+        && words.runs < END
+}
+
+/// Whether seat s may clear the busy word of task t, which it has just given up.
+pub fn may_clear_busy(core: &Core, s: SeatNo, t: TaskNo) -> bool
+    ensures { IsTrue result ↔ MayClearBusy (table core.now) s t }
+{
+    if !is_of_shape(core, s, t) {
+        return false;
+    }
+    to_clear(core, s) == Some(t) && current(core, s) != Some(t) && task_words(core, t).runs < END
+}
+
+/// Clears the busy word of task t.
+pub fn clear_busy(core: &mut Core, s: SeatNo, t: TaskNo) -> Result<(), NoMemory>
+    requires { MayClearBusy (table core.old) s t }
+    ensures { OnOk result (table core.new ≡ clear_busy (table core.old) s t) }
+{
+    let n = task_words(core, t).runs + 1;
+    finish(core, s, t, n)?;
+    renew(core, s, t)?;
+    Ok(())
+}
+
+fn finish(core: &mut Core, s: SeatNo, t: TaskNo, n: u64) -> Result<(), NoMemory>
+    requires { (s < (table core.old).seats) × (t < (table core.old).tasks) }
+    ensures { OnOk result (table core.new ≡ record (table core.old) { on_cpu = put (table core.old).on_cpu t false; runs = put (table core.old).runs t n; to_clear = put (table core.old).to_clear s None; journal = put (table core.old).journal s ((table core.old).journal s ++ Finish t n s ∷ []) }) }
+{
+    put_busy(core, t, false, n);
+    put_to_clear(core, s, None);
+    log(core, s, Entry::Finish { t, n, c: s })?;
+    Ok(())
+}
+
+fn pick(core: &mut Core, s: SeatNo, c: CpuNo, t: TaskNo, n: u64) -> Result<(), NoMemory>
+    requires { (s < (table core.old).seats) × (t < (table core.old).tasks) }
+    ensures { OnOk result (table core.new ≡ record (table core.old) { on_cpu = put (table core.old).on_cpu t true; runs = put (table core.old).runs t n; current = put (table core.old).current s (Some t); seen = put (table core.old).seen s None; test = put (table core.old).test s (λ u l. if u == t then None else (table core.old).test s u l); asleep = put (table core.old).asleep s (λ u l. if u == t then false else (table core.old).asleep s u l); journal = put (table core.old).journal s ((table core.old).journal s ++ Pick t n c ∷ []) }) }
+{
+    put_busy(core, t, true, n);
+    put_current(core, s, Some(t));
+    put_seen(core, s, None);
+    forget_sleep(core, s, t);
+    log(core, s, Entry::Pick { t, n, c })?;
+    Ok(())
+}
+
+/// Sets the busy word of task t, which becomes the seat's current task.
+pub fn set_busy(core: &mut Core, s: SeatNo, c: CpuNo, t: TaskNo) -> Result<(), NoMemory>
+    requires { (s < (table core.old).seats) × (t < (table core.old).tasks) × ((table core.old).runs t < 2 ^ 60) }
+    ensures { OnOk result (table core.new ≡ set_busy (table core.old) s c t) }
+{
+    let n = task_words(core, t).runs + 1;
+    pick(core, s, c, t, n)?;
+    renew(core, s, t)?;
+    note(core, s, Act::Picked { t })?;
+    Ok(())
+}
+
+/// Whether seat s may take the body of its current task out.
+pub fn may_body_out(core: &Core, s: SeatNo, t: TaskNo) -> bool
+    ensures { IsTrue result ↔ MayBodyOut (table core.now) s t }
+{
+    if !is_of_shape(core, s, t) {
+        return false;
+    }
+    current(core, s) == Some(t) && task_words(core, t).body
+}
+
+/// Takes the body of task t out.
+pub fn body_out(core: &mut Core, s: SeatNo, t: TaskNo)
+    requires { (s < (table core.old).seats) × (t < (table core.old).tasks) }
+    ensures { table core.new ≡ body_out (table core.old) s t }
+{
+    take_body(core, t);
+    put_body_out(core, s, Some(t));
+}
+
+/// Whether seat s may put the body of its current task home.
+pub fn may_body_home(core: &Core, s: SeatNo, t: TaskNo, ended: bool) -> bool
+    ensures { IsTrue result ↔ MayBodyHome (table core.now) s t ended }
+{
+    if !is_of_shape(core, s, t) {
+        return false;
+    }
+    current(core, s) == Some(t)
+        && body_out_of(core, s) == Some(t)
+        && (ended || !task_words(core, t).ended)
+}
+
+/// Puts the body of task t home.
+pub fn body_home(core: &mut Core, s: SeatNo, t: TaskNo, ended: bool)
+    requires { (s < (table core.old).seats) × (t < (table core.old).tasks) }
+    ensures { table core.new ≡ body_home (table core.old) s t ended }
+{
+    put_body(core, t, ended);
+    put_body_out(core, s, None);
+}

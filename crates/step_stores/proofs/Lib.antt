@@ -1,0 +1,4 @@
+pub mod FoundLemmas
+pub mod Notes
+pub mod Stores
+pub mod Writes

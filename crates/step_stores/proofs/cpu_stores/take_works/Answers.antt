@@ -1,0 +1,10 @@
+use Rattle.std.proofs.Common.{sym, ◌∙◌}
+use Rattle.step_stores.proofs.Stores.{take_works_lem}
+use Rattle.step_stores.proofs.Writes.{get-works}
+use Rattle.step_stores.proofs.cpu_stores.take_works.Goals as goal
+
+pub returns-clause-value : goal.returns-clause-value
+returns-clause-value c = c.take.ensures.value ∙ sym (get-works c.args.core.now c.args.c c.index_mut-row.result.now c.requires c.index_mut-row.ensures.value)
+
+pub returns-clause-after : goal.returns-clause-after
+returns-clause-after c = take_works_lem c.args.core.now c.args.c c.index_mut-row.result.now _ c.requires c.index_mut-row.ensures.value c.take.ensures.after
