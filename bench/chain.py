@@ -3,7 +3,7 @@
 it, beside `tr a-z A-Z | nl` on the same text, in one run.
 
 Usage: bench/chain.py [bytes of a line ..]     (default: 60 4)
-The program must have been built: `./wakerun run < examples/hello.wake` does it.
+The program must have been built: `rt ci` does it.
 """
 import os
 import sys

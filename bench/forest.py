@@ -3,7 +3,7 @@
 `number`, `upper` and `tally`; a script near the limit of 16 MiB through `upper` and `keep`; and 200 tasks in a row.
 
 Usage: bench/forest.py
-The program must have been built: `./wakerun run < examples/hello.wake` does it.
+The program must have been built: `rt ci` does it.
 """
 import os
 import tempfile

@@ -1,7 +1,7 @@
 #!/bin/sh
 # What the built program prints to standard error and with what status it ends, for each answer that a command can show;
-# the report of each script in examples/, and the answer on
-# each text of journals in examples/journals/.
+# the report of each script in examples/, and the answer on each text of journals in examples/journals/;
+# and both ways of the wrapper `wakerun`, by the proved program and by `rt try`.
 # Run it after `rt ci`, which leaves the program in crates/wakerun/out.
 top=$(CDPATH='' cd -- "$(dirname -- "$0")/.." && pwd) || exit 1
 program=$top/crates/wakerun/out/wakerun
@@ -89,6 +89,54 @@ run "$top/examples/journals/no_wake.journal" /dev/full check
 expect 'illegal journals, and a full device' 6 'wakerun: illegal seat 0 entry 4 rule 4'
 run "$work/hi" "$work/out" check
 expect 'a script in the place of journals' 6 'wakerun: journal line 1'
+
+# The wrapper, from another folder and through two symbolic links: it becomes the proved program.
+ln -s "$top/wakerun" "$work/first"
+ln -s first "$work/second"
+own=$program
+program=$work/second
+cd "$work" || exit 1
+run "$work/hi" "$work/out" run
+expect 'the wrapper' 0 ''
+printf 'a: hi\n' | cmp -s - "$work/out" || { failed=$((failed + 1)); echo 'the wrapper: wrong report'; }
+run "$work/bad" "$work/out" run
+expect 'the wrapper, no script' 1 'wakerun: line 2: 2 UnknownWord'
+
+# A checkout in which nothing was proved: the wrapper has the sources run.
+mkdir "$work/new"
+(cd "$top" && tar cf - --exclude=out crates crates.txt HANDLES wakerun) | (cd "$work/new" && tar xf -)
+program=$work/new/wakerun
+unproved="wakerun: running the sources with checks and without proof, in about a minute: 'rt ci' proves and builds them"
+run "$work/hi" "$work/out" run
+expect 'nothing proved' 0 "$unproved"
+printf 'a: hi\n' | cmp -s - "$work/out" || { failed=$((failed + 1)); echo 'nothing proved: wrong report'; }
+run "$work/bad" "$work/out" run
+expect 'nothing proved, no script' 1 "$unproved
+wakerun: line 2: 2 UnknownWord"
+[ ! -s "$work/out" ] || { failed=$((failed + 1)); echo 'nothing proved, no script: something was written'; }
+printf 'cpus 1\ntask a count 200000\nend\n' >"$work/long"
+run "$work/long" "$work/out" run
+expect 'nothing proved, a long report' 125 "$unproved
+wakerun: no answer from 'rt try', which gives none past 60 seconds or 1 MiB of output: this wants the proved program, \
+which 'rt ci' builds"
+[ ! -s "$work/out" ] || { failed=$((failed + 1)); echo 'nothing proved, a long report: something was written'; }
+
+# The program there, an older one and a newer one than an edit: of a crate that it isn't made of, and of one that it is.
+# What stands in for `rt` here shows that it was asked.
+mkdir "$work/bin" "$work/new/crates/wakerun/out"
+printf '#!/bin/sh\necho "wakerun: $*" >&2\necho "checked: ended status=9" >&2\necho "run=ended status=9 " >&2\n' >"$work/bin/rt"
+cp "$own" "$work/new/crates/wakerun/out/wakerun"
+chmod +x "$work/bin/rt"
+PATH=$work/bin:$PATH
+touch -d '1 minute ago' "$work/new/crates/wakerun/out/wakerun"
+find "$work/new/crates" -name '*.rt' -o -name '*.antt' | xargs touch -d '2 minutes ago'
+touch "$work/new/crates/bench_pipes/src/main.rt"
+run "$work/hi" "$work/out" run
+expect 'an edit of another crate' 0 ''
+touch "$work/new/crates/handoff_data/specs/Rules.antt"
+run "$work/hi" "$work/out" run two 'and three'
+expect 'an edit below the program' 9 "$unproved
+wakerun: try -- run two and three"
 
 echo "statuses: $passed passed, $failed failed"
 [ "$failed" = 0 ]

@@ -3,6 +3,7 @@
 #![tactic(auto)]
 
 mod entry;
+mod kept;
 mod line;
 mod lines;
 mod mask;
@@ -13,6 +14,7 @@ mod shape;
 mod state;
 
 pub use entry::{Entry, Journal, Journals};
+pub use kept::Kept;
 pub use line::{Line, is_line};
 pub use lines::Lines;
 pub use mask::CpuMask;

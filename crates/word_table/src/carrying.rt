@@ -10,13 +10,14 @@ ghost use Rattle.word_table.specs.Views.{IsOf, IsSame};
 
 use crate::lock::Lock;
 use crate::plays::{HandOver, TakeBack};
-use crate::slot::{Kept, Slot};
+use crate::slot::Slot;
 use crate::taken::{BodyOut, Taken};
 use crate::token::Token;
 use crate::values::{acquire, put_body, release, slot_under, take_body};
 use crate::view::View;
 use crate::words::Words;
 use atomic_table::{Badge, Seat};
+use handoff_data::Kept;
 use std::mem;
 use std::sync::Wait;
 

@@ -16,9 +16,9 @@ ghost use Rattle.word_table.specs.declared.slot.Slot.TheVariants.{Body, Room};
 use crate::gathered::Gathered;
 use crate::layout::{BODY_SLOT, COND, SLOTS, STATE, STRIDE, rows_of};
 use crate::rule::Board;
-use crate::slot::{Kept, Slot};
+use crate::slot::Slot;
 use crate::words::Words;
-use handoff_data::State;
+use handoff_data::{Kept, State};
 use std::alloc::Global;
 
 /// What a table leaves: by task its body and its state, and by condition its counter.

@@ -5,11 +5,12 @@ ghost use Rattle.word_table.specs.Plays.{sat};
 ghost use Rattle.word_table.specs.Views.{IsOf};
 
 use crate::plays::{Enter, Gather};
-use crate::slot::{Kept, Slot};
+use crate::slot::Slot;
 use crate::token::Token;
 use crate::view::View;
 use crate::words::Words;
 use atomic_table::Seat;
+use handoff_data::Kept;
 use std::marker::Model;
 
 /// The tokens that a table has taken back, as one seat. It has no `Drop`, so it ends in `Words::close`. Contracts see its

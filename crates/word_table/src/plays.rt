@@ -4,9 +4,10 @@ ghost use Rattle.word_table.specs.Ruled.{but_first, first_alone, joined, none_ke
 
 use crate::kind::Kind;
 use crate::lock::Lock;
-use crate::slot::{Kept, Slot};
+use crate::slot::Slot;
 use crate::view::View;
 use atomic_table::{Join, Play, Split};
+use handoff_data::Kept;
 use std::marker::PhantomData;
 
 pub struct Loads<K> {

@@ -4,9 +4,9 @@ ghost use Rattle.word_steps.specs.Words.{STRIDE};
 ghost use Rattle.word_table.specs.Layout.{rows_of};
 
 use crate::layout::STRIDE;
-use crate::slot::Kept;
 use crate::words::Words;
 use crossbeam_utils::Backoff;
+use handoff_data::Kept;
 use std::sync::Wait;
 use std::time::Duration;
 

@@ -1,9 +1,10 @@
 //! The rule of the table.
 ghost use Rattle.word_table.specs.Ruled.{Ruled, first_view};
 
-use crate::slot::{Kept, Key, Slot};
+use crate::slot::{Key, Slot};
 use crate::view::View;
 use atomic_table::{Table, TableRule};
+use handoff_data::Kept;
 use std::alloc::Global;
 use std::marker::PhantomData;
 

@@ -1,27 +1,9 @@
 //! What a slot holds, and what the table is told when it is made.
-ghost use Rattle.std.specs.Prelude.{ℕ, List, [], Bool, true};
-
-use handoff_data::{NoMemory, Shape};
+use handoff_data::{Kept, NoMemory, Shape};
 use std::alloc::Global;
 use std::marker::Model;
 use std::snapshot::Snapshot;
 use word_steps::Val;
-
-/// A task's body.
-pub trait Kept: Send + Drop {
-    /// What it keeps for good.
-    ghost lasting: { Self → List ℕ };
-
-    /// Whether it has ended.
-    ghost ended: { Self → Bool };
-}
-
-/// A body that does nothing, and has ended.
-impl Kept for () {
-    ghost lasting = { λ _. [] };
-
-    ghost ended = { λ _. true };
-}
 
 /// A slot of the table. One whose lock is taken, and one of a body that is out, is in the hand of a seat of its own.
 #[derive(Drop)]

@@ -7,11 +7,12 @@ ghost use Rattle.word_table.specs.Views.{IsOf, IsSame};
 use crate::kind::Kind;
 use crate::layout::STRIDE;
 use crate::plays::{Adds, Loads, Stores, Tries};
-use crate::slot::{Kept, Slot};
+use crate::slot::Slot;
 use crate::token::Token;
 use crate::view::View;
 use crate::words::Words;
 use atomic_table::{Badge, Seat};
+use handoff_data::Kept;
 use std::mem;
 
 /// Loads the word of `n` in the column, with no seat. It tells nothing.

@@ -5,10 +5,11 @@ ghost use Rattle.std.specs.Borrow.{sem};
 ghost use Rattle.word_steps.specs.Lending.{IsTask, IsQueue, IsWorks, IsWait};
 ghost use Rattle.word_steps.specs.declared.val.Val.TheVariants as val;
 
-use crate::slot::{Kept, Slot};
+use crate::slot::Slot;
 use crate::view::View;
 use crate::words::Words;
 use atomic_table::Seat;
+use handoff_data::Kept;
 use std::marker::Model;
 use word_steps::{QueueBox, TaskBox, WaitQueue, WorksBox};
 

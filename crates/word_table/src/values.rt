@@ -14,11 +14,12 @@ use crate::layout::{BODY, BODY_SLOT, SLOTS, STRIDE};
 use crate::lock::Lock;
 use crate::plays::{Come, Give, Leave, Take};
 use crate::resting::rest;
-use crate::slot::{Kept, Slot};
+use crate::slot::Slot;
 use crate::view::View;
 use crate::words::Words;
 use atomic_table::Seat;
 use crossbeam_utils::Backoff;
+use handoff_data::Kept;
 use std::sync::Wait;
 use word_steps::Val;
 

@@ -3,8 +3,7 @@ ghost use Rattle.std.specs.Prelude.{◌≡◌};
 ghost use Rattle.handoff_data.specs.Shape.{IsShape};
 
 use crate::rule::Board;
-use crate::slot::Kept;
-use handoff_data::{Shape, State};
+use handoff_data::{Kept, Shape, State};
 use std::marker::Model;
 
 /// The words and slots of a machine. Contracts see its name, its shape, and what each task's body keeps for good.
