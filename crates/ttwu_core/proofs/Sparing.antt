@@ -3,6 +3,7 @@ use Rattle.std.proofs.Common.{◌≡◌, ℕ, ◌+◌, ◌-◌, ◌≤◌, ap, a
 use Rattle.handoff_data.specs.declared.entry.Entry.{Entry}
 use Rattle.handoff_data.specs.declared.shape.Shape.{Shape}
 use Rattle.handoff_data.specs.declared.state.State.{State}
+use Rattle.run_queue.proofs.Sparing.{spare_same, spare_once}
 use Rattle.task_words.specs.Views.{PassView, TurnView, logged}
 use Rattle.ttwu_core.specs.Own.{DidWakeOwn}
 use Rattle.ttwu_core.specs.Wakes.{DidWake}
@@ -10,15 +11,9 @@ use Rattle.ttwu_core.specs.declared.answers.How.TheVariants as how
 use Rattle.ttwu_core.specs.declared.answers.Wake.{Wake}
 use Rattle.ttwu_core.specs.declared.answers.Wake.TheVariants as wake
 
-spare_once : (e : Entry) (old new : TurnView) → new ≡ logged e old → old.spare ≤ new.spare + 1
-spare_once e old new same = let left : new.spare ≡ old.spare - 1 = ap (λ (z : TurnView). z.spare) same in omega arith
-
 spare_twice : (e f : Entry) (old new : TurnView) → new ≡ logged e (logged f old) → old.spare ≤ new.spare + 2
 spare_twice e f old new same =
     let left : new.spare ≡ old.spare - 1 - 1 = ap (λ (z : TurnView). z.spare) same in omega arith
-
-spare_same : (old new : TurnView) → new ≡ old → old.spare ≤ new.spare
-spare_same old new same = let left : new.spare ≡ old.spare = ap (λ (z : TurnView). z.spare) same in omega arith
 
 pub spare_own : (mask : State) (old new : PassView) (answer : Wake) → DidWakeOwn mask old new answer
     → old.turn.spare ≤ new.turn.spare + 1

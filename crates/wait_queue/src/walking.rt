@@ -72,7 +72,6 @@ pub fn wake_some<B: Kept, R: Wait>(
 
 /// Raises a condition by one, modulo 2^64, and wakes each task with an entry there; how many it woke. After it the pass
 /// owes the condition no walk.
-#[tactic(auto, using(crate::proofs::Settling::bumped_settles))]
 pub fn bump_and_wake<B: Kept, R: Wait>(rt: &R, wk: &Wk<B>, pass: &mut Pass, k: CondNo) -> u32
     requires of { IsOf wk.now pass.old }
     requires condition { k < wk.now.shape.conds }

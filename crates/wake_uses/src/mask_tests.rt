@@ -55,14 +55,23 @@ fn masks<B: Kept, R: Wait + Abort>(rt: &R, wk: &Wk<B>, own: &mut Pass, other: &m
     let seen = State::TASK_UNINTERRUPTIBLE;
     let interrupt = State::TASK_INTERRUPTIBLE;
     assert_eq!(rt; answer(rt, wk, other, interrupt), Wake::NoMatch { seen });
-    assert_eq!(rt; answer(rt, wk, other, State::TASK_WAKEKILL), Wake::NoMatch { seen });
+    assert_eq!(rt;
+        answer(rt, wk, other, State::TASK_WAKEKILL),
+        Wake::NoMatch { seen }
+    );
     let how = How::Runnable;
-    assert_eq!(rt; answer(rt, wk, other, State::TASK_KILLABLE), Wake::Woke { how });
+    assert_eq!(rt;
+        answer(rt, wk, other, State::TASK_KILLABLE),
+        Wake::Woke { how }
+    );
     set_state(wk, own, State::TASK_INTERRUPTIBLE);
     own.clear_turn();
     assert!(rt; switch_out(rt, wk, own, 0));
     let seen = State::TASK_INTERRUPTIBLE;
-    assert_eq!(rt; answer(rt, wk, other, State::TASK_KILLABLE), Wake::NoMatch { seen });
+    assert_eq!(rt;
+        answer(rt, wk, other, State::TASK_KILLABLE),
+        Wake::NoMatch { seen }
+    );
     let how = How::Queued(0);
     assert_eq!(rt; answer(rt, wk, other, State(0x101)), Wake::Woke { how });
 }
@@ -81,7 +90,10 @@ fn dead<R: Wait + Abort>(rt: &R, wk: &Wk<()>, own: &mut Pass, other: &mut Pass)
     own.clear_turn();
     assert!(rt; die(rt, wk, own, 0));
     let seen = State::TASK_DEAD;
-    assert_eq!(rt; answer(rt, wk, other, State::TASK_NORMAL), Wake::NoMatch { seen });
+    assert_eq!(rt;
+        answer(rt, wk, other, State::TASK_NORMAL),
+        Wake::NoMatch { seen }
+    );
     assert_eq!(rt; answer(rt, wk, own, State(0x103)), Wake::NoMatch { seen });
 }
 
