@@ -51,3 +51,5 @@ pub record ShapesHold (core : Table) : Type 0 where
   pub task_values : HoldsOfValues _ (IsTaskVal core.cpus core.seats) core.val core.task_out
   pub queue_values : HoldsOfValues _ (IsQueueVal core.tasks) core.queue core.queue_out
   pub wait_values : HoldsOfValues _ (IsWaitVal core.tasks) core.wait core.wait_out
+  -- who owes a walk is a seat, and what it owes is a condition
+  pub owes : (s k : ℕ) → core.owes s k ≡ true → (s < core.seats) × (k < core.conds)

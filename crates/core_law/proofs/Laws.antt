@@ -6,10 +6,9 @@ use Rattle.core_data.specs.Table.{Table}
 use Rattle.core_gives.specs.Queues.{is_at}
 use Rattle.core_invariant.specs.Invariant.{Holds}
 use Rattle.core_invariant.specs.Journals.{RulesKept}
-use Rattle.core_invariant.specs.Sleepers.{IsOwed, IsSafeSleeper}
+use Rattle.core_invariant.specs.Sleepers.{IsOwed, IsSafeSleeper, IsAwake}
 use Rattle.core_journals.specs.Places.{place_of, q_of}
-use Rattle.core_kinds.specs.Steps.{is_sleep, running, waking, dead}
-use Rattle.core_law.specs.Laws.{OneRunAtATime, StandsOnce, WakesQueueAtMostOnce, NoLostWake, journals_of}
+use Rattle.core_law.specs.Laws.{OneRunAtATime, StandsOnce, WakesQueueAtMostOnce, NoLostWake, IsOwedByASeat, SleepersWait, SleepsOnItsProcessor, journals_of}
 use Rattle.handoff_data.specs.declared.entry.Entry.{Entry}
 use Rattle.handoff_data.specs.declared.entry.Entry.TheVariants as entry
 use Rattle.handoff_data.specs.declared.place.Q.TheVariants as q
@@ -42,34 +41,45 @@ wakes-queue_at_most_once core holds =
     record {
       one_queueing = λ t m s i s' i' c c' b b' at at'. one-position j rules (Change t m) s i s' i' _ _ at at' refl refl;
       woken = woken j rules;
+      woken_ahead = λ t m c s i at. let cause = holds.journals.rules.caused s i (entry.Enq t m c false) at in (cause.0, cause.1);
       one_wake = λ t m s i s' i' at at'. one-position j rules (Waking t m) s i s' i' _ _ at at' refl refl;
     }
 
 -- ---- sleepers
 
-asleep-only : (state : State) → is_sleep state ≡ true → (state ≡ running) ⊎ ((state ≡ waking) ⊎ (state ≡ dead)) → ⊥
-asleep-only state asleep awake =
-    elim awake [
-      | inl a ↦ grind (arith, nat_tests, asleep, a)
-      | inr b ↦ elim b [ inl a ↦ grind (arith, nat_tests, asleep, a) | inr a ↦ grind (arith, nat_tests, asleep, a) ]
-    ]
+-- who owes a walk is a seat of the shape
+owed_by : (core : Table) (k t : ℕ) → Holds core → IsOwed core.owes core.retaken core.passed k t → IsOwedByASeat core k t
+owed_by core k t holds owed = (owed.0, (holds.shapes.owes owed.0 k owed.1).0, owed.1, owed.2)
 
-owed : (core : Table) (k t tested : ℕ) → IsSafeSleeper core k t → is_sleep (core.state t) ≡ true → core.test (core.cpu t) t k ≡ Some tested → tested ≢ core.cond k
-    → IsOwed core.owes core.retaken core.passed k t
-owed core k t tested safe asleep test other =
+owed : (core : Table) (k t tested : ℕ) → Holds core → IsSafeSleeper core k t → (IsAwake (core.state t) → ⊥) → core.test (core.cpu t) t k ≡ Some tested → tested ≢ core.cond k
+    → IsOwedByASeat core k t
+owed core k t tested holds safe asleep test other =
     elim safe [
-      | inl awake ↦ absurd (asleep-only (core.state t) asleep awake)
+      | inl awake ↦ absurd (asleep awake)
       | inr (inl right) ↦ absurd (elim right [ inl a ↦ grind (arith, test, a) | inr a ↦ grind (arith, test, a, other) ])
-      | inr (inr is) ↦ is
+      | inr (inr is) ↦ owed_by core k t holds is
     ]
 
 pub no-lost_wake : (core : Table) → Holds core → NoLostWake core
 no-lost_wake core holds =
-    λ k t tested waits off asleep test other.
+    λ k t tested waits asleep test other.
     elim waits [
-      | inl home ↦ owed core k t tested (holds.sleepers.safe_home k t home.0 home.1 home.2) asleep test other
-      | inr out ↦ owed core k t tested (holds.sleepers.safe_out out.0 k t out.1 out.2 out.3) asleep test other
+      | inl home ↦ owed core k t tested holds (holds.sleepers.safe_home k t home.0 home.1 home.2) asleep test other
+      | inr out ↦ owed core k t tested holds (holds.sleepers.safe_out out.0 k t out.1 out.2 out.3) asleep test other
     ]
+
+pub sleepers-wait : (core : Table) → Holds core → SleepersWait core
+sleepers-wait core holds =
+    record {
+      home = λ k t entries asleep state is. holds.sleepers.entry_home k t entries asleep state is;
+      out = λ s k t taken asleep state is. holds.sleepers.entry_out s k t taken asleep state is;
+    }
+
+pub sleeps-on_its_processor : (core : Table) → Holds core → SleepsOnItsProcessor core
+sleeps-on_its_processor core holds =
+    λ t off asleep.
+    holds.journals.last_changes.asleep t (λ new. grind (arith, nat_tests, holds.places.new_states.runnable t new, asleep)) off
+    (λ h. grind (arith, nat_tests, asleep, h)) (λ h. grind (arith, nat_tests, asleep, h))
 
 -- ---- queues
 

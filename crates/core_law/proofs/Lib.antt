@@ -1,2 +1,7 @@
+pub mod EachStep
 pub mod Kept
 pub mod Laws
+pub mod Reached
+pub mod SameWords
+pub mod StepLaws
+pub mod Stores

@@ -5,13 +5,14 @@ use Rattle.core_data.specs.Queue.{Queue}
 use Rattle.core_data.specs.Table.{Table}
 use Rattle.core_data.specs.declared.values.WaitEntry.{WaitEntry}
 use Rattle.core_gives.specs.Queues.{times}
+use Rattle.core_gives.specs.Waits.{has_task}
 use Rattle.core_invariant.specs.Histories.{history}
-use Rattle.core_invariant.specs.Sleepers.{IsOwed, shared_entry}
+use Rattle.core_invariant.specs.Sleepers.{IsAwake, shared_entry}
 use Rattle.core_journals.specs.Places.{place_of}
 use Rattle.core_kinds.specs.Steps.{is_sleep}
 use Rattle.handoff_data.specs.History.{History}
 use Rattle.handoff_data.specs.Numbers.{run_of}
-use Rattle.handoff_data.specs.Positions.{Stands, IsSomewhere}
+use Rattle.handoff_data.specs.Positions.{Stands, IsIn, IsBefore, IsSomewhere}
 use Rattle.handoff_data.specs.declared.entry.Entry.TheVariants as entry
 use Rattle.handoff_data.specs.declared.place.Q.TheVariants as q
 use Rattle.journal_laws.specs.Laws.{AreNumbered, IsRun}
@@ -43,11 +44,14 @@ pub record StandsOnce (core : Table) : Type 0 where
   pub nowhere_else_out : (s t c : ℕ) (taken : Queue) → core.queue_out s c ≡ Some taken → core.added s c t ≡ false → core.dropped s c t ≡ false
       → (place_of core t).q ≢ q.On c → times taken t ≡ 0
 
--- For each wake there is at most one queueing with the next number, and none of another wake.
+-- For each wake there is at most one queueing with the next number, and each queueing has its wake, with the number
+-- before. Where it isn't by a list, that wake stands ahead of it in the same journal.
 pub record WakesQueueAtMostOnce (j : History) : Type 0 where
   pub one_queueing : (t m seat index seat' index' c c' : ℕ) (by_list by_list' : Bool)
       → Stands j seat index (entry.Enq t m c by_list) → Stands j seat' index' (entry.Enq t m c' by_list') → (seat ≡ seat') × (index ≡ index')
   pub woken : (t m c : ℕ) (by_list : Bool) → IsSomewhere j (entry.Enq t m c by_list) → (0 < m) × IsSomewhere j (entry.Wake t (m - 1))
+  pub woken_ahead : (t m c seat index : ℕ) → Stands j seat index (entry.Enq t m c false)
+      → (0 < m) × IsBefore j seat index (entry.Wake t (m - 1))
   pub one_wake : (t m seat index seat' index' : ℕ) → Stands j seat index (entry.Wake t m) → Stands j seat' index' (entry.Wake t m)
       → (seat ≡ seat') × (index ≡ index')
 
@@ -57,10 +61,29 @@ Waits core k t =
     ((entries : List WaitEntry) × (core.wait k ≡ Some entries) × (has_entry entries (shared_entry t) ≡ true))
     ⊎ ((s : ℕ) × (taken : List WaitEntry) × (core.wait_out s k ≡ Some taken) × (has_entry taken (shared_entry t) ≡ true))
 
--- No lost wake: where such a task is off its queue in a sleep state, and what it tested differs from the condition, some
--- seat owes the condition, and since it last raised it, hasn't taken the lock of the wait queue, or hasn't passed the
--- task since it last took that lock.
+-- some seat of the shape owes k a walk: since it last raised k, it hasn't taken the lock of the wait queue, or hasn't
+-- passed t since it last took that lock
+abbrev pub IsOwedByASeat : Table → ℕ → ℕ → Type 0
+IsOwedByASeat core k t =
+    (x : ℕ) × (x < core.seats) × (core.owes x k ≡ true) × ((core.retaken x k ≡ false) ⊎ (core.passed x k t ≡ false))
+
+-- No lost wake: where such a task isn't awake (running, on its way to a queue, or dead, by its state), and what it tested
+-- since it last stored a sleep state differs from the condition, a seat owes it a wake.
 abbrev pub NoLostWake : Table → Type 0
 NoLostWake core =
-    (k t tested : ℕ) → Waits core k t → core.on_rq t ≡ 0 → is_sleep (core.state t) ≡ true
-    → core.test (core.cpu t) t k ≡ Some tested → tested ≢ core.cond k → IsOwed core.owes core.retaken core.passed k t
+    (k t tested : ℕ) → Waits core k t → (IsAwake (core.state t) → ⊥)
+    → core.test (core.cpu t) t k ≡ Some tested → tested ≢ core.cond k → IsOwedByASeat core k t
+
+-- A task that was put to sleep at k, and is in a sleep state, has its entry in the wait queue of k, at home and out.
+pub record SleepersWait (core : Table) : Type 0 where
+  pub home : (k t : ℕ) (entries : List WaitEntry) → core.asleep (core.cpu t) t k ≡ true → is_sleep (core.state t) ≡ true
+      → core.wait k ≡ Some entries → has_task entries t ≡ true
+  pub out : (s k t : ℕ) (taken : List WaitEntry) → core.asleep (core.cpu t) t k ≡ true → is_sleep (core.state t) ≡ true
+      → core.wait_out s k ≡ Some taken → has_task taken t ≡ true
+
+-- Whose test and whose sleep these are: a task that is off its queue in a sleep state went to sleep on its processor, by
+-- its last change, which stands in the journal of that processor's seat.
+abbrev pub SleepsOnItsProcessor : Table → Type 0
+SleepsOnItsProcessor core =
+    (t : ℕ) → core.on_rq t ≡ 0 → is_sleep (core.state t) ≡ true
+    → IsIn (journals_of core) (core.cpu t) (entry.Sleep t (core.changes t) (core.cpu t))

@@ -1,1 +1,5 @@
 pub mod Laws
+pub mod Reached
+pub mod Runs
+pub mod StepLaws
+pub mod Steps

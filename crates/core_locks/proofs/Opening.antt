@@ -5,7 +5,7 @@ use Rattle.std.proofs.lemmas.List.{length-replicate}
 use Rattle.std.proofs.lemmas.Bool.Decides.{nat_tests}
 use Rattle.core_data.specs.Opening.{IsStart, first_task, first_cpu, first_cond, first_seat, no_tasks}
 use Rattle.core_data.specs.Queue.{Queue}
-use Rattle.core_data.specs.Table.{Table, column, table_of, current_of, to_clear_of, task_out_of, queue_out_of, list_out_of, works_out_of, wait_out_of, body_out_of, added_of, dropped_of}
+use Rattle.core_data.specs.Table.{Table, column, table_of, current_of, to_clear_of, task_out_of, queue_out_of, list_out_of, works_out_of, wait_out_of, body_out_of, added_of, dropped_of, owes_of}
 use Rattle.core_data.specs.declared.values.TaskVal.{TaskVal}
 use Rattle.core_data.specs.declared.values.WaitEntry.{WaitEntry}
 use Rattle.core_data.specs.declared.words.CondWords.{CondWords}
@@ -165,6 +165,9 @@ no_entries tasks val e =
     let r : IsWaitVal tasks [] = λ x h. absurd (grind (arith, h)) in
     subst (IsWaitVal tasks) (some_same _ val e) r
 
+none_owed : (shape : Shape) (mask : CpuMask) (s k : ℕ) → (opening shape mask).owes s k ≡ false
+none_owed shape mask s k = each_word (λ (g : ℕ → Bool). g k ≡ false) owes_of (λ l. false) (shape.cpus + shape.agents) first_seat s refl refl
+
 opening-shapes : (shape : Shape) (mask : CpuMask) → IsShape shape → ((c : ℕ) → HasCpu mask c → c < shape.cpus) → ShapesHold (opening shape mask)
 opening-shapes shape mask is all =
     let cpus : length (replicate shape.cpus first_cpu) ≡ shape.cpus = length-replicate shape.cpus first_cpu in
@@ -190,6 +193,7 @@ opening-shapes shape mask is all =
           (λ v e. no_named (length (replicate shape.tasks (first_task mask))) v e) (λ k. refl);
       wait_values = all_home _ _ _ (IsWaitVal (length (replicate shape.tasks (first_task mask)))) (λ (w : CondWords). w.wait) shape.conds first_cond wait_out_of (shape.cpus + shape.agents) first_seat
           (λ v e. no_entries (length (replicate shape.tasks (first_task mask))) v e) (λ k. refl);
+      owes = λ s k e. absurd (grind (arith, none_owed shape mask s k, e));
     }
 
 pub ShapesHold-start : (shape : Shape) (core : Table) → IsShape shape → IsStart shape core → ShapesHold core

@@ -1,6 +1,6 @@
 -- What words and values name stays within the shape.
 use Rattle.std.proofs.Common.{◌≡◌, ◌≢◌, ℕ, ◌<◌, inl, inr, List, Bool, true, false, Some, None, Option, sym, subst, ◌∙◌, arith}
-use Rattle.std.specs.Prelude.{if◌then◌else◌, ◌&&◌, is_none}
+use Rattle.std.specs.Prelude.{if◌then◌else◌, ◌==◌, ◌&&◌, is_none}
 use Rattle.std.proofs.lemmas.Bool.{cases_eq}
 use Rattle.std.proofs.lemmas.Bool.Decides.{nat_tests}
 use Rattle.core_data.specs.Queue.{Queue}
@@ -85,8 +85,25 @@ ShapesHold-give_queue core s c queue holds may = given_queue (gives_up s c queue
 pub ShapesHold-take_wait : (core : Table) (s k : ℕ) → Holds core → MayTakeWait core s k → ShapesHold (take_wait core s k)
 ShapesHold-take_wait core s k holds may = assumption (holds.shapes, HoldsOfValues-take _ (IsWaitVal core.tasks) core.wait core.wait_out s k holds.shapes.wait_values)
 
+-- a condition is owed by one seat more, or by one less
+abbrev AreOwed : ℕ → ℕ → (ℕ → ℕ → Bool) → Type 0
+AreOwed seats conds owes = (x l : ℕ) → owes x l ≡ true → (x < seats) × (l < conds)
+
+owed_more : (seats conds : ℕ) (owes : ℕ → ℕ → Bool) (s k : ℕ) → AreOwed seats conds owes → s < seats → k < conds → AreOwed seats conds (put owes s (λ l. if l == k then true else owes s l))
+owed_more seats conds owes s k p seat there x l h =
+    elim (cases_eq x s) [
+      | inl q ↦ elim (cases_eq l k) [
+        | inl r ↦ (subst (λ z. z < seats) (sym q) seat, subst (λ z. z < conds) (sym r) there)
+        | inr r ↦ p x l (grind (arith, nat_tests, h, q, r))
+      ]
+      | inr q ↦ p x l (grind (arith, nat_tests, h, q))
+    ]
+
+owed_less : (seats conds : ℕ) (owes : ℕ → ℕ → Bool) (s k : ℕ) → AreOwed seats conds owes → AreOwed seats conds (put owes s (λ l. if l == k then false else owes s l))
+owed_less seats conds owes s k p x l h = p x l (grind (arith, nat_tests, h))
+
 walked : (b : Bool) (core : Table) (s k : ℕ) → ShapesHold core → ShapesHold (walked_if b core s k)
-walked true core s k shapes = assumption (shapes)
+walked true core s k shapes = assumption (shapes, owed_less core.seats core.conds core.owes s k shapes.owes)
 walked false core s k shapes = shapes
 
 given_wait : (core : Table) (s k : ℕ) (given : List WaitEntry) (o : Option (List WaitEntry)) → ShapesHold core → IsWaitVal core.tasks given → ShapesHold (give_by core s k given o)
@@ -167,7 +184,7 @@ ShapesHold-store_cpu core s t c holds may =
     assumption (holds.shapes, here)
 
 pub ShapesHold-bump : (core : Table) (s k : ℕ) → Holds core → MayBump core s k → ShapesHold (bump core s k)
-ShapesHold-bump core s k holds may = assumption (holds.shapes)
+ShapesHold-bump core s k holds may = assumption (holds.shapes, owed_more core.seats core.conds core.owes s k holds.shapes.owes may.seat may.condition)
 
 pub ShapesHold-load_cond : (core : Table) (s k : ℕ) → Holds core → MayBump core s k → ShapesHold (load_cond core s k)
 ShapesHold-load_cond core s k holds may = load_cond-keeps ShapesHold core s k (λ next x p. assumption (p)) holds.shapes

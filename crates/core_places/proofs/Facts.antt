@@ -37,6 +37,10 @@ ready_state core s t holds (inl new) = inl (holds.places.new_states.runnable t n
 ready_state core s t holds (inr (inl w)) = inr w.1
 ready_state core s t holds (inr (inr moving)) = inl (holds.places.moving.runnable t moving)
 
+-- .. nor dead
+pub ready_alive : (core : Table) (s t : ℕ) → Holds core → IsReady core s t → core.state t ≢ dead
+ready_alive core s t holds ready d = elim (ready_state core s t holds ready) [ inl a ↦ grind (arith, nat_tests, a, d) | inr a ↦ grind (arith, a, d) ]
+
 -- a task that leaves its queue sleeps or is dead
 pub leaves : (core : Table) (s c t : ℕ) → Holds core → MayDequeue core s c t → (is_sleep (core.state t) ≡ true) ⊎ (core.state t ≡ dead)
 leaves core s c t holds may = by (core.seen s) refl may.seen

@@ -1,20 +1,12 @@
 -- What holds of a seat's last reads of a task, and of the words that it has stored, step by step.
-use Rattle.std.proofs.Common.{◌≡◌, ◌≢◌, ℕ, ◌⊎◌, inl, inr, Bool, true, Option, Some, None, refl, sym, ap, ◌∙◌, subst, arith}
+use Rattle.std.proofs.Common.{◌≡◌, ◌≢◌, ℕ, ◌⊎◌, inl, inr, Bool, true, Option, Some, None, sym, ap, ◌∙◌, arith}
 use Rattle.std.proofs.lemmas.Bool.{cases_eq}
 use Rattle.std.proofs.lemmas.Bool.Decides.{nat_tests}
 use Rattle.core_data.specs.Table.{put, put_at}
-use Rattle.core_data.specs.declared.pos.Rq.{Rq}
 use Rattle.core_data.specs.declared.pos.TaskReads.{TaskReads}
-use Rattle.core_invariant.proofs.Logs.{Logged, somewhere-old}
 use Rattle.core_invariant.proofs.Puts.{put_here, put_there}
-use Rattle.core_invariant.specs.Positions.{ReadsTold}
 use Rattle.core_kinds.specs.Steps.{waking}
 use Rattle.core_places.proofs.Marks.{mark, renew, mark_keeps, lock_taken, lock_given}
-use Rattle.handoff_data.specs.History.{History}
-use Rattle.handoff_data.specs.Positions.{IsSomewhere}
-use Rattle.handoff_data.specs.Rules.{IsQueued}
-use Rattle.handoff_data.specs.declared.entry.Entry.{Entry}
-use Rattle.handoff_data.specs.declared.entry.Entry.TheVariants as entry
 use Rattle.handoff_data.specs.declared.state.State.{State}
 
 -- the reads of seat s of task t, and those of another seat or task
@@ -86,93 +78,6 @@ CpusRead-store cpu lock reads s t d r p locked stored k u c l e =
           put_here cpu t d u q ∙ grind (arith, is)
       | inr q ↦ put_there cpu t d u q ∙ p k u c l (ap (λ (x : TaskReads). x.cpu) (sym (reads_there reads s t r k u (inr q))) ∙ e)
     ]
-
--- the words that a read of `on_rq` tells, as they were
-told : (j : History) (cpu : ℕ → ℕ) (lock : ℕ → Option ℕ) (reads : ℕ → ℕ → TaskReads) (next_cpu : ℕ → ℕ) (next_lock : ℕ → Option ℕ) (next : ℕ → ℕ → TaskReads) → ReadsTold j cpu lock reads
-    → ((k u : ℕ) (rq : Rq) → next_lock u ≡ Some k → (next k u).rq ≡ Some rq → (lock u ≡ Some k) × ((reads k u).rq ≡ Some rq) × (cpu u ≡ next_cpu u))
-    → ReadsTold j next_cpu next_lock next
-told j cpu lock reads next_cpu next_lock next p old =
-    record {
-      queued = λ k u rq l e on. let o = old k u rq l e in subst (IsQueued j u rq.m) o.2 (p.queued k u rq o.0 o.1 on);
-      off = λ k u rq l e on some. let o = old k u rq l e in p.off k u rq o.0 o.1 on some;
-    }
-
-pub ReadsTold-take : (j : History) (cpu : ℕ → ℕ) (lock : ℕ → Option ℕ) (reads : ℕ → ℕ → TaskReads) (s t : ℕ) (r : TaskReads) → ReadsTold j cpu lock reads → r.rq ≡ None
-    → ReadsTold j cpu (put lock t (Some s)) (put_at reads s t r)
-ReadsTold-take j cpu lock reads s t r p none =
-    told j cpu lock reads cpu (put lock t (Some s)) (put_at reads s t r) p (λ k u rq l e. elim (reads_cases reads s t r k u) [
-      | inl a ↦ absurd (grind (arith, e, ap (λ (x : TaskReads). x.rq) a.2, none))
-      | inr a ↦ elim (lock_taken lock s t k u l) [
-        | inl b ↦ (b, ap (λ (x : TaskReads). x.rq) (sym a) ∙ e, refl)
-        | inr b ↦ absurd (grind (arith, e, ap (λ (x : TaskReads). x.rq) (reads_here reads s t r k u b.0 b.1), none))
-      ]
-    ])
-
-pub ReadsTold-give : (j : History) (cpu : ℕ → ℕ) (lock : ℕ → Option ℕ) (reads : ℕ → ℕ → TaskReads) (t : ℕ) → ReadsTold j cpu lock reads
-    → ReadsTold j cpu (put lock t None) reads
-ReadsTold-give j cpu lock reads t p = told j cpu lock reads cpu (put lock t None) reads p (λ k u rq l e. (lock_given lock t k u l, e, refl))
-
--- what was read of `on_rq` is forgotten
-pub ReadsTold-forget : (j : History) (cpu : ℕ → ℕ) (lock : ℕ → Option ℕ) (reads : ℕ → ℕ → TaskReads) (s t : ℕ) (r : TaskReads) → ReadsTold j cpu lock reads → r.rq ≡ None
-    → ReadsTold j cpu lock (put_at reads s t r)
-ReadsTold-forget j cpu lock reads s t r p none =
-    told j cpu lock reads cpu lock (put_at reads s t r) p (λ k u rq l e. elim (reads_cases reads s t r k u) [
-      | inl a ↦ absurd (grind (arith, e, ap (λ (x : TaskReads). x.rq) a.2, none))
-      | inr a ↦ (l, ap (λ (x : TaskReads). x.rq) (sym a) ∙ e, refl)
-    ])
-
--- another word is read
-pub ReadsTold-same : (j : History) (cpu : ℕ → ℕ) (lock : ℕ → Option ℕ) (reads : ℕ → ℕ → TaskReads) (s t : ℕ) (r : TaskReads) → ReadsTold j cpu lock reads → r.rq ≡ (reads s t).rq
-    → ReadsTold j cpu lock (put_at reads s t r)
-ReadsTold-same j cpu lock reads s t r p same =
-    told j cpu lock reads cpu lock (put_at reads s t r) p (λ k u rq l e. elim (reads_cases reads s t r k u) [
-      | inl a ↦ (l, ap (λ z. (reads z u).rq) a.0 ∙ (ap (λ z. (reads s z).rq) a.1 ∙ (sym same ∙ (ap (λ (x : TaskReads). x.rq) (sym a.2) ∙ e))), refl)
-      | inr a ↦ (l, ap (λ (x : TaskReads). x.rq) (sym a) ∙ e, refl)
-    ])
-
--- the processor word is stored, and what was read before of this task is forgotten
-pub ReadsTold-store_cpu : (j : History) (cpu : ℕ → ℕ) (lock : ℕ → Option ℕ) (reads between : ℕ → ℕ → TaskReads) (s t c : ℕ) (r : TaskReads) → ReadsTold j cpu lock reads → lock t ≡ Some s → r.rq ≡ None
-    → ((k u : ℕ) → (k ≢ s) ⊎ (u ≢ t) → between k u ≡ reads k u)
-    → ReadsTold j (put cpu t c) lock (put_at between s t r)
-ReadsTold-store_cpu j cpu lock reads between s t c r p locked none other =
-    told j cpu lock reads (put cpu t c) lock (put_at between s t r) p (λ k u rq l e. elim (cases_eq u t) [
-      | inl q ↦ let same : k ≡ s = grind (arith, l, ap lock q, locked) in absurd (grind (arith, e, ap (λ (x : TaskReads). x.rq) (reads_here between s t r k u same q), none))
-      | inr q ↦ (l, ap (λ (x : TaskReads). x.rq) (sym (reads_there between s t r k u (inr q) ∙ other k u (inr q))) ∙ e, sym (put_there cpu t c u q))
-    ])
-
--- `on_rq` is read
-pub ReadsTold-load_rq : (j : History) (cpu : ℕ → ℕ) (lock : ℕ → Option ℕ) (reads : ℕ → ℕ → TaskReads) (s t : ℕ) (r : TaskReads) → ReadsTold j cpu lock reads
-    → ((rq : Rq) → r.rq ≡ Some rq → rq.on ≡ 1 → IsQueued j t rq.m (cpu t))
-    → ((rq : Rq) → r.rq ≡ Some rq → rq.on ≡ 0 → rq.m ≢ 0 → (c : ℕ) × (IsSomewhere j (entry.Sleep t rq.m c) ⊎ IsSomewhere j (entry.Die t rq.m c)))
-    → ReadsTold j cpu lock (put_at reads s t r)
-ReadsTold-load_rq j cpu lock reads s t r p queued off =
-    record {
-      queued = λ k u rq l e on. elim (reads_cases reads s t r k u) [
-        | inl a ↦ subst (λ z. IsQueued j z rq.m (cpu z)) (sym a.1) (queued rq (ap (λ (x : TaskReads). x.rq) (sym a.2) ∙ e) on)
-        | inr a ↦ p.queued k u rq l (ap (λ (x : TaskReads). x.rq) (sym a) ∙ e) on
-      ];
-      off = λ k u rq l e on some. elim (reads_cases reads s t r k u) [
-        | inl a ↦ subst (λ z. (c : ℕ) × (IsSomewhere j (entry.Sleep z rq.m c) ⊎ IsSomewhere j (entry.Die z rq.m c))) (sym a.1) (off rq (ap (λ (x : TaskReads). x.rq) (sym a.2) ∙ e) on some)
-        | inr a ↦ p.off k u rq l (ap (λ (x : TaskReads). x.rq) (sym a) ∙ e) on some
-      ];
-    }
-
--- a journal has one entry more
-queued-log : (j k : History) (s n : ℕ) (e : Entry) → Logged j k s n e → (t m c : ℕ) → IsQueued j t m c → IsQueued k t m c
-queued-log j k s n e l t m c (inl a) = inl (somewhere-old l (entry.New t m c) a)
-queued-log j k s n e l t m c (inr (inl a)) = inr (inl (somewhere-old l (entry.In t m c) a))
-queued-log j k s n e l t m c (inr (inr a)) = inr (inr (a.0, somewhere-old l (entry.Enq t m c a.0) a.1))
-
-left-log : (j k : History) (s n : ℕ) (e : Entry) → Logged j k s n e → (t m c : ℕ) → IsSomewhere j (entry.Sleep t m c) ⊎ IsSomewhere j (entry.Die t m c) → IsSomewhere k (entry.Sleep t m c) ⊎ IsSomewhere k (entry.Die t m c)
-left-log j k s n e l t m c (inl a) = inl (somewhere-old l (entry.Sleep t m c) a)
-left-log j k s n e l t m c (inr a) = inr (somewhere-old l (entry.Die t m c) a)
-
-pub ReadsTold-log : (j k : History) (cpu : ℕ → ℕ) (lock : ℕ → Option ℕ) (reads : ℕ → ℕ → TaskReads) (s n : ℕ) (e : Entry) → Logged j k s n e → ReadsTold j cpu lock reads → ReadsTold k cpu lock reads
-ReadsTold-log j k cpu lock reads s n e l p =
-    record {
-      queued = λ i u rq h r on. queued-log j k s n e l u rq.m (cpu u) (p.queued i u rq h r on);
-      off = λ i u rq h r on some. let o = p.off i u rq h r on some in (o.0, left-log j k s n e l u rq.m o.0 o.1);
-    }
 
 -- while a task is in this state, with this queue word, the holder of its lock has stored a word of it
 abbrev pub WakingStored : (ℕ → State) → (ℕ → ℕ) → (ℕ → Option ℕ) → (ℕ → ℕ → Bool) → Type 0

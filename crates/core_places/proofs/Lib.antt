@@ -11,7 +11,9 @@ pub mod Places
 pub mod PlacesByTests
 pub mod Positions
 pub mod PositionsByTests
+pub mod Released
 pub mod Resting
 pub mod Running
 pub mod Seen
 pub mod StartOfPlaces
+pub mod Told

@@ -1,5 +1,5 @@
 -- The loads of a task's state, of its queue word and of its busy word keep what a seat may rely on.
-use Rattle.std.proofs.Common.{◌≡◌, ◌≢◌, ℕ, ◌<◌, ◌⊎◌, inl, inr, ◌++◌, ◌∷◌, [], length, Bool, true, false, Option, Some, None, refl, sym, ap, ◌∙◌, subst, arith}
+use Rattle.std.proofs.Common.{◌≡◌, ◌≢◌, ℕ, ◌<◌, ◌⊎◌, inl, inr, ◌++◌, ◌∷◌, [], Bool, true, false, Option, Some, None, refl, sym, ap, ◌∙◌, arith}
 use Rattle.std.specs.Prelude.{if◌then◌else◌, ◌==◌, ◌&&◌, nat_lt, is_some, bit_and}
 use mathlib.Core.Bool.{not}
 use Rattle.std.proofs.lemmas.Bool.{cases_eq}
@@ -8,7 +8,7 @@ use Rattle.std.proofs.lemmas.Nat.{and_comm, and_assoc}
 use Rattle.core_data.specs.Table.{Table, put, put_at}
 use Rattle.core_data.specs.declared.act.Act.TheVariants.{Passed, Matched, SawOff, SawClear, SawRest, SawRestOff, SawRestIdle}
 use Rattle.core_data.specs.declared.pos.Rq.{Rq}
-use Rattle.core_invariant.proofs.Logs.{logged}
+use Rattle.core_invariant.proofs.Logs.{logged, somewhere-old}
 use Rattle.core_invariant.specs.Histories.{history}
 use Rattle.core_invariant.specs.Invariant.{Holds}
 use Rattle.core_invariant.specs.Positions.{PositionsHold}
@@ -16,12 +16,13 @@ use Rattle.core_kinds.specs.Steps.{waking, dead, normal, is_match, is_sleep, IsR
 use Rattle.core_kinds.specs.Waking.{MayLoadState, IsMask, load_state, is_own_read, is_some_of, is_matched, is_refused, state_read, rq_read, busy_read, logged_if, noted_if, seen_if, MayLoad, load_rq, load_busy}
 use Rattle.core_places.proofs.Claimed.{ClaimedTasks-saw_clear}
 use Rattle.core_places.proofs.Idle.{IdleTasks-saw_clear}
-use Rattle.core_places.proofs.LastReads.{CpusRead-same, ReadsTold-forget, ReadsTold-same, ReadsTold-load_rq, ReadsTold-log}
+use Rattle.core_places.proofs.LastReads.{CpusRead-same}
 use Rattle.core_places.proofs.Matched.{Meets, MatchedTasks-matched, MatchedTasks-saw_off}
+use Rattle.core_places.proofs.Released.{Released-matched}
 use Rattle.core_places.proofs.Resting.{RestingTasks-state_read, RestingTasks-off_read, RestingTasks-idle_read}
 use Rattle.core_places.proofs.Seen.{SeenStates-load}
+use Rattle.core_places.proofs.Told.{IsLeft, ReadsTold-forget, ReadsTold-load_busy, ReadsTold-load_rq, ReadsTold-log}
 use Rattle.handoff_data.specs.Positions.{IsSomewhere}
-use Rattle.handoff_data.specs.Rules.{IsQueued}
 use Rattle.handoff_data.specs.declared.entry.Entry.{Entry}
 use Rattle.handoff_data.specs.declared.entry.Entry.TheVariants as entry
 use Rattle.handoff_data.specs.declared.state.State.{State}
@@ -93,7 +94,11 @@ note_matched false core s t x r = r
 note_matched true core s t x r =
     let p = r.positions in
     record {
-      positions = assumption (p, MatchedTasks-matched core.state core.on_rq core.changes core.lock core.unstored core.saw_off s t p.matched (r.met refl));
+      positions = assumption (
+        p,
+        MatchedTasks-matched core.state core.on_rq core.changes core.lock core.unstored core.saw_off s t p.matched (r.met refl),
+        Released-matched core.state core.on_rq core.lock core.current core.matched s t p.released (r.met refl).alive,
+      );
       seat = r.seat;
       is = r.is;
       met = r.met;
@@ -120,7 +125,7 @@ note_refused true core s t x m e r =
     let p = r.positions in
     let j = history core.cpus core.tasks core.seats core.journal in
     let k = history core.cpus core.tasks core.seats (put core.journal s (core.journal s ++ e ∷ [])) in
-    assumption (p, ReadsTold-log j k core.cpu core.lock core.reads s (length (core.journal s)) e (logged core.cpus core.tasks core.seats core.journal s e r.seat) p.reads)
+    assumption (p, ReadsTold-log j k core.cpu core.on_rq core.changes core.lock core.reads (somewhere-old (logged core.cpus core.tasks core.seats core.journal s e r.seat)) p.reads)
 
 holds_some : (o : Option ℕ) (k : ℕ) → is_some_of o k ≡ true → o ≡ Some k
 holds_some None k h = absurd (grind (arith, h))
@@ -145,7 +150,7 @@ PositionsHold-load_state core s t mask holds may =
     let read : PositionsHold (record core { reads = put_at core.reads s t r }) = assumption (
       p,
       CpusRead-same core.cpu core.lock core.reads s t r p.cpu refl,
-      ReadsTold-forget j core.cpu core.lock core.reads s t r p.reads refl,
+      ReadsTold-forget j core.cpu core.on_rq core.changes core.lock core.reads s t r p.reads refl refl,
     ) in
     let first : IsRead (record core { reads = put_at core.reads s t r }) s t x m = record { positions = read; seat = may.seat; is = refl; met = meets_mask core t mask holds may.allowed } in
     let own = is_own_read core s t in
@@ -197,24 +202,16 @@ PositionsHold-load_rq core s t holds may =
     let read : PositionsHold (record core { reads = put_at core.reads s t r }) = assumption (
       p,
       CpusRead-same core.cpu core.lock core.reads s t r p.cpu refl,
-      ReadsTold-load_rq j core.cpu core.lock core.reads s t r p.reads (queued) (off),
+      ReadsTold-load_rq j core.cpu core.on_rq core.changes core.lock core.reads s t r p.reads refl refl (λ rq h. words rq h) (holds.journals.last_changes.queued t) (λ off some. left_by core t holds some off),
     ) in
     saw_rest ((on == 0) && core.rest_state s t) ((on == 0) && core.unstored s t) (record core { reads = put_at core.reads s t r }) s t
     (saw ((on == 0) && core.unstored s t) (record core { reads = put_at core.reads s t r }) s t read (zero_test on (core.unstored s t)))
     (zero_test on (core.rest_state s t))
   where
-    queued : (rq : Rq) → (rq_read t (core.on_rq t) (core.changes t) (core.reads s t)).rq ≡ Some rq → rq.on ≡ 1 → IsQueued (history core.cpus core.tasks core.seats core.journal) t rq.m (core.cpu t)
-    queued rq h one =
+    words : (rq : Rq) → (rq_read t (core.on_rq t) (core.changes t) (core.reads s t)).rq ≡ Some rq → (rq.on ≡ core.on_rq t) × (rq.m ≡ core.changes t)
+    words rq h =
         let is = some_of (is_some (core.reads s t).state) (record { on = core.on_rq t; m = core.changes t }) rq h in
-        subst (λ (z : Rq). IsQueued (history core.cpus core.tasks core.seats core.journal) t z.m (core.cpu t)) (sym is)
-        (holds.journals.last_changes.queued t (ap (λ (z : Rq). z.on) (sym is) ∙ one))
-
-    off : (rq : Rq) → (rq_read t (core.on_rq t) (core.changes t) (core.reads s t)).rq ≡ Some rq → rq.on ≡ 0 → rq.m ≢ 0
-        → (c : ℕ) × (IsSomewhere (history core.cpus core.tasks core.seats core.journal) (entry.Sleep t rq.m c) ⊎ IsSomewhere (history core.cpus core.tasks core.seats core.journal) (entry.Die t rq.m c))
-    off rq h zero_on some =
-        let is = some_of (is_some (core.reads s t).state) (record { on = core.on_rq t; m = core.changes t }) rq h in
-        subst (λ (z : Rq). (c : ℕ) × (IsSomewhere (history core.cpus core.tasks core.seats core.journal) (entry.Sleep t z.m c) ⊎ IsSomewhere (history core.cpus core.tasks core.seats core.journal) (entry.Die t z.m c))) (sym is)
-        (left_by core t holds (λ q. some (ap (λ (z : Rq). z.m) is ∙ q)) (ap (λ (z : Rq). z.on) (sym is) ∙ zero_on))
+        (ap (λ (z : Rq). z.on) is, ap (λ (z : Rq). z.m) is)
 
 saw_clear : (b : Bool) (core : Table) (s t : ℕ) → PositionsHold core → (b ≡ true → core.on_cpu t ≡ false) → PositionsHold (noted_if b core s (SawClear t))
 saw_clear false core s t p h = p
@@ -249,8 +246,19 @@ PositionsHold-load_busy core s t holds may =
     let read : PositionsHold (record core { reads = put_at core.reads s t r }) = assumption (
       p,
       CpusRead-same core.cpu core.lock core.reads s t r p.cpu refl,
-      ReadsTold-same j core.cpu core.lock core.reads s t r p.reads refl,
+      ReadsTold-load_busy j core.cpu core.on_rq core.changes core.lock core.reads s t r p.reads refl refl (left),
     ) in
     saw_idle (not busy && core.rest_off s t) (not busy) (record core { reads = put_at core.reads s t r }) s t
     (saw_clear (not busy) (record core { reads = put_at core.reads s t r }) s t read (not_true busy))
     (λ h. let o = both (not busy) (core.rest_off s t) h in (o.1, not_true busy o.0))
+  where
+    -- only a task that is busy is read so
+    is_busy : (b busy : Bool) → (if b then Some busy else None) ≡ Some true → busy ≡ true
+    is_busy true busy h = grind (arith, h)
+    is_busy false busy h = absurd (grind (arith, h))
+
+    left : (busy_read t (core.on_cpu t) (core.reads s t)).busy ≡ Some true → core.on_rq t ≡ 0 → IsLeft (history core.cpus core.tasks core.seats core.journal) t (core.changes t) (core.cpu t)
+    left b off = elim (holds.journals.last_changes.leaving t off (is_busy (is_some (core.reads s t).rq) (core.on_cpu t) b)) [
+      | inl a ↦ inl (core.cpu t, a)
+      | inr a ↦ inr (core.cpu t, a)
+    ]

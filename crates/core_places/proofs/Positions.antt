@@ -1,12 +1,12 @@
 -- Each kind of step keeps what a seat may rely on.
-use Rattle.std.proofs.Common.{◌≡◌, ◌≢◌, ℕ, ◌+◌, ◌<◌, ◌⊎◌, inl, inr, ◌++◌, ◌∷◌, [], length, List, Bool, Some, None, refl, ap, ◌∙◌, arith}
+use Rattle.std.proofs.Common.{◌≡◌, ◌≢◌, ℕ, ◌+◌, ◌<◌, ◌⊎◌, inl, inr, ◌++◌, ◌∷◌, [], List, Bool, Some, None, refl, ap, ◌∙◌, arith}
 use Rattle.core_data.specs.Queue.{Queue}
 use Rattle.core_data.specs.Found.{no_reads}
 use Rattle.core_data.specs.Table.{Table, put, put_at}
 use Rattle.core_data.specs.declared.pos.TaskReads.{TaskReads}
 use Rattle.core_data.specs.declared.values.TaskVal.{TaskVal}
 use Rattle.core_data.specs.declared.values.WorkItem.{WorkItem}
-use Rattle.core_invariant.proofs.Logs.{logged}
+use Rattle.core_invariant.proofs.Logs.{logged, somewhere-old}
 use Rattle.core_invariant.specs.Histories.{history}
 use Rattle.core_invariant.specs.Invariant.{Holds}
 use Rattle.core_invariant.specs.Positions.{PositionsHold, ReadsTold}
@@ -15,14 +15,16 @@ use Rattle.core_kinds.specs.Running.{MayQueue, queue_task, queue_entry, MayDeque
 use Rattle.core_kinds.specs.Steps.{waking, running, dead, kept_reads, numbered_reads}
 use Rattle.core_kinds.specs.Waking.{MayClaim, claim, IsRelease, MayRelease, release, MayLoad, load_cpu, cpu_read, MayStoreCpu, store_cpu, MayBump, bump}
 use Rattle.core_places.proofs.Claimed.{ClaimedTasks-take, ClaimedTasks-give, ClaimedTasks-queue, ClaimedTasks-off, ClaimedTasks-busy, ClaimedTasks-clear, ClaimedTasks-state, ClaimedTasks-claim}
-use Rattle.core_places.proofs.Facts.{idle_apart, ready_idle, leaves, claim_off, free_rests, free_settled, new_rests, leaves_rests, placeable_off}
+use Rattle.core_places.proofs.Facts.{idle_apart, ready_idle, ready_alive, leaves, claim_off, free_rests, free_settled, new_rests, leaves_rests, placeable_off}
 use Rattle.core_places.proofs.Idle.{IdleTasks-take, IdleTasks-queue, IdleTasks-off, IdleTasks-pick, IdleTasks-clear, IdleTasks-cpu}
-use Rattle.core_places.proofs.LastReads.{reads_there, CpusRead-take, CpusRead-give, CpusRead-same, CpusRead-load, CpusRead-store, ReadsTold-take, ReadsTold-give, ReadsTold-forget, ReadsTold-same, ReadsTold-store_cpu}
-use Rattle.core_places.proofs.LastReads.{ReadsTold-log, WakingStored-take, WakingStored-give, WakingStored-stored, WakingStored-change, WakingStored-state, MovingStored-take, MovingStored-give, MovingStored-stored}
+use Rattle.core_places.proofs.LastReads.{reads_here, reads_there, CpusRead-take, CpusRead-give, CpusRead-same, CpusRead-load, CpusRead-store}
+use Rattle.core_places.proofs.LastReads.{WakingStored-take, WakingStored-give, WakingStored-stored, WakingStored-change, WakingStored-state, MovingStored-take, MovingStored-give, MovingStored-stored}
 use Rattle.core_places.proofs.LastReads.{MovingStored-change}
 use Rattle.core_places.proofs.Matched.{MatchedTasks-take, MatchedTasks-give, MatchedTasks-stored, MatchedTasks-change, MatchedTasks-state}
+use Rattle.core_places.proofs.Released.{Released-take, Released-give, Released-change, Released-pick, Released-state}
 use Rattle.core_places.proofs.Resting.{RestingTasks-take, RestingTasks-give, RestingTasks-stored, RestingTasks-change, RestingTasks-busy, RestingTasks-clear, RestingTasks-state}
 use Rattle.core_places.proofs.Seen.{SeenStates-take, SeenStates-queue, SeenStates-off, SeenStates-pick, SeenStates-state}
+use Rattle.core_places.proofs.Told.{ReadsTold-take, ReadsTold-give, ReadsTold-forget, ReadsTold-same, ReadsTold-change, ReadsTold-store_cpu, ReadsTold-log}
 use Rattle.handoff_data.specs.declared.entry.Entry.{Entry}
 use Rattle.handoff_data.specs.declared.entry.Entry.TheVariants.{Wake, Out, Pick, Finish}
 
@@ -35,7 +37,8 @@ PositionsHold-take_task core s t holds may =
       ClaimedTasks-take core.state core.on_rq core.on_cpu core.lock core.claimed core.clear s t p.claimed may.free,
       RestingTasks-take core.state core.on_rq core.on_cpu core.lock core.rest_state core.rest_off core.rest_idle s t p.resting,
       CpusRead-take core.cpu core.lock core.reads s t (no_reads t) p.cpu refl,
-      ReadsTold-take j core.cpu core.lock core.reads s t (no_reads t) p.reads refl,
+      ReadsTold-take j core.cpu core.on_rq core.changes core.lock core.reads s t (no_reads t) p.reads refl refl,
+      Released-take core.state core.on_rq core.lock core.current core.matched s t p.released,
       WakingStored-take core.state core.on_rq core.lock core.stored s t p.waking_stored (free_rests core t holds may.free),
       MovingStored-take core.on_rq core.lock core.stored s t p.moving_stored (free_settled core t holds may.free),
     )
@@ -49,7 +52,8 @@ PositionsHold-give_task core s t val stood done holds may =
       ClaimedTasks-give core.state core.on_rq core.on_cpu core.lock core.claimed core.clear t p.claimed may.settled.1,
       RestingTasks-give core.state core.on_rq core.on_cpu core.lock core.rest_state core.rest_off core.rest_idle t p.resting,
       CpusRead-give core.cpu core.lock core.reads t p.cpu,
-      ReadsTold-give j core.cpu core.lock core.reads t p.reads,
+      ReadsTold-give j core.cpu core.on_rq core.changes core.lock core.reads t p.reads,
+      Released-give core.state core.on_rq core.lock core.current core.matched t p.released,
       WakingStored-give core.state core.on_rq core.lock core.stored t p.waking_stored,
       MovingStored-give core.on_rq core.lock core.stored t p.moving_stored,
     )
@@ -78,13 +82,23 @@ pub PositionsHold-body_home : (core : Table) (s t : ℕ) (ended : Bool) → Hold
 PositionsHold-body_home core s t ended holds may = let p = holds.positions in assumption p
 
 -- the reads of a seat, as its journal has one entry more and it forgets what it read of a task
-told-logged : (core : Table) (s t : ℕ) (e : Entry) (r : TaskReads) → Holds core → s < core.seats → r.rq ≡ None
-    → ReadsTold (history core.cpus core.tasks core.seats (put core.journal s (core.journal s ++ e ∷ []))) core.cpu core.lock (put_at core.reads s t r)
-told-logged core s t e r holds seat none =
+told-logged : (core : Table) (s t : ℕ) (e : Entry) (r : TaskReads) → Holds core → s < core.seats → r.rq ≡ None → r.number ≡ (core.reads s t).number
+    → ReadsTold (history core.cpus core.tasks core.seats (put core.journal s (core.journal s ++ e ∷ []))) core.cpu core.on_rq core.changes core.lock (put_at core.reads s t r)
+told-logged core s t e r holds seat none same =
     let j = history core.cpus core.tasks core.seats core.journal in
     let k = history core.cpus core.tasks core.seats (put core.journal s (core.journal s ++ e ∷ [])) in
-    ReadsTold-forget k core.cpu core.lock core.reads s t r
-    (ReadsTold-log j k core.cpu core.lock core.reads s (length (core.journal s)) e (logged core.cpus core.tasks core.seats core.journal s e seat) holds.positions.reads) none
+    ReadsTold-forget k core.cpu core.on_rq core.changes core.lock core.reads s t r
+    (ReadsTold-log j k core.cpu core.on_rq core.changes core.lock core.reads (somewhere-old (logged core.cpus core.tasks core.seats core.journal s e seat)) holds.positions.reads) none same
+
+-- .. and stores its queue word, with its number
+told-changed : (core : Table) (s t v : ℕ) (e : Entry) → Holds core → s < core.seats → (core.lock t ≡ Some s) ⊎ (core.on_rq t ≡ 1)
+    → ReadsTold (history core.cpus core.tasks core.seats (put core.journal s (core.journal s ++ e ∷ []))) core.cpu (put core.on_rq t v) (put core.changes t (core.changes t + 1)) core.lock
+    (put_at core.reads s t (numbered_reads t (core.changes t + 1) (core.reads s t)))
+told-changed core s t v e holds seat by =
+    let j = history core.cpus core.tasks core.seats core.journal in
+    let k = history core.cpus core.tasks core.seats (put core.journal s (core.journal s ++ e ∷ [])) in
+    ReadsTold-change j k core.cpu core.on_rq core.changes core.lock core.reads s t v (numbered_reads t (core.changes t + 1) (core.reads s t)) holds.positions.reads
+    (somewhere-old (logged core.cpus core.tasks core.seats core.journal s e seat)) by refl refl
 
 pub PositionsHold-queue_task : (core : Table) (s c t : ℕ) → Holds core → MayQueue core s c t → PositionsHold (queue_task core s c t)
 PositionsHold-queue_task core s c t holds may =
@@ -99,7 +113,8 @@ PositionsHold-queue_task core s c t holds may =
       SeenStates-queue core.cpus core.state core.on_rq core.queue_lock core.current core.seen t p.seen (idle_apart core t holds idle),
       IdleTasks-queue core.on_rq core.cpu core.on_cpu core.queue_lock core.current core.idle core.added s t p.idle idle,
       CpusRead-same core.cpu core.lock core.reads s t r p.cpu refl,
-      told-logged core s t e r holds may.seat refl,
+      told-changed core s t 1 e holds may.seat (inl may.task_locked),
+      Released-change core.state core.on_rq core.lock core.current core.matched t 1 p.released (inr (ready_alive core s t holds may.ready)),
       WakingStored-change core.state core.on_rq core.lock core.stored s t 1 p.waking_stored (inl (λ h. omega arith)),
       MovingStored-change core.on_rq core.lock core.stored s t 1 p.moving_stored (inl (λ h. omega arith)),
     )
@@ -116,7 +131,8 @@ PositionsHold-dequeue_task core s c t holds may =
       SeenStates-off core.cpus core.state core.on_rq core.queue_lock core.current core.seen t 0 p.seen (λ h. omega arith),
       IdleTasks-off core.on_rq core.cpu core.on_cpu core.queue_lock core.current core.idle core.added t 0 p.idle (λ h. omega arith),
       CpusRead-same core.cpu core.lock core.reads s t r p.cpu refl,
-      told-logged core s t e r holds may.seat refl,
+      told-changed core s t 0 e holds may.seat (inr may.queued),
+      Released-change core.state core.on_rq core.lock core.current core.matched t 0 p.released (inl (λ h. omega arith)),
       WakingStored-change core.state core.on_rq core.lock core.stored s t 0 p.waking_stored (inr (leaves_rests core s c t holds may)),
       MovingStored-change core.on_rq core.lock core.stored s t 0 p.moving_stored (inl (λ h. omega arith)),
     )
@@ -133,7 +149,8 @@ PositionsHold-move_task core s c t val holds may =
       SeenStates-off core.cpus core.state core.on_rq core.queue_lock core.current core.seen t 2 p.seen (λ h. omega arith),
       IdleTasks-off core.on_rq core.cpu core.on_cpu core.queue_lock core.current core.idle core.added t 2 p.idle (λ h. omega arith),
       CpusRead-same core.cpu core.lock core.reads s t r p.cpu refl,
-      told-logged core s t e r holds may.seat refl,
+      told-changed core s t 2 e holds may.seat (inl may.task_locked),
+      Released-change core.state core.on_rq core.lock core.current core.matched t 2 p.released (inl (λ h. omega arith)),
       WakingStored-change core.state core.on_rq core.lock core.stored s t 2 p.waking_stored (inl (λ h. omega arith)),
       MovingStored-change core.on_rq core.lock core.stored s t 2 p.moving_stored (inr may.task_locked),
     )
@@ -150,7 +167,8 @@ PositionsHold-set_busy core s c t val holds may =
       SeenStates-pick core.cpus core.state core.on_rq core.queue_lock core.current core.seen s t p.seen,
       IdleTasks-pick core.on_rq core.cpu core.on_cpu core.queue_lock core.current core.idle core.added s t p.idle (ap core.queue_lock may.here ∙ may.locked) may.none,
       CpusRead-same core.cpu core.lock core.reads s t r p.cpu refl,
-      told-logged core s t e r holds may.seat refl,
+      told-logged core s t e r holds may.seat refl refl,
+      Released-pick core.state core.on_rq core.lock core.current core.matched s t p.released may.none,
       WakingStored-stored core.state core.on_rq core.lock core.stored s t p.waking_stored,
       MovingStored-stored core.on_rq core.lock core.stored s t p.moving_stored,
     )
@@ -167,7 +185,7 @@ PositionsHold-clear_busy core s t holds may =
       p.seen,
       IdleTasks-clear core.on_rq core.cpu core.on_cpu core.queue_lock core.current core.idle core.added t p.idle,
       CpusRead-same core.cpu core.lock core.reads s t r p.cpu refl,
-      told-logged core s t e r holds may.seat refl,
+      told-logged core s t e r holds may.seat refl refl,
       WakingStored-stored core.state core.on_rq core.lock core.stored s t p.waking_stored,
       MovingStored-stored core.on_rq core.lock core.stored s t p.moving_stored,
     )
@@ -185,7 +203,8 @@ PositionsHold-claim core s t holds may =
       SeenStates-state core.cpus core.state core.on_rq core.queue_lock core.current core.seen t waking p.seen (λ k h q l. omega arith),
       p.idle,
       CpusRead-same core.cpu core.lock core.reads s t r p.cpu refl,
-      told-logged core s t e r holds may.seat refl,
+      told-logged core s t e r holds may.seat refl refl,
+      Released-state core.state core.on_rq core.lock core.current core.matched s t waking p.released (inl (λ h. grind (arith, h))),
       WakingStored-state core.state core.on_rq core.lock core.stored s t waking p.waking_stored (inl may.locked),
       MovingStored-stored core.on_rq core.lock core.stored s t p.moving_stored,
     )
@@ -222,7 +241,8 @@ PositionsHold-release core s t holds may =
       SeenStates-state core.cpus core.state core.on_rq core.queue_lock core.current core.seen t running p.seen (apart core s t holds may.release),
       p.idle,
       CpusRead-same core.cpu core.lock core.reads s t r p.cpu refl,
-      ReadsTold-forget j core.cpu core.lock core.reads s t r p.reads refl,
+      ReadsTold-forget j core.cpu core.on_rq core.changes core.lock core.reads s t r p.reads refl refl,
+      Released-state core.state core.on_rq core.lock core.current core.matched s t running p.released (inl (λ h. grind (arith, h))),
       WakingStored-state core.state core.on_rq core.lock core.stored s t running p.waking_stored (inr awake),
       MovingStored-stored core.on_rq core.lock core.stored s t p.moving_stored,
     )
@@ -235,7 +255,7 @@ PositionsHold-load_cpu core s t holds may =
     assumption (
       p,
       CpusRead-load core.cpu core.lock core.reads s t r p.cpu refl,
-      ReadsTold-same j core.cpu core.lock core.reads s t r p.reads refl,
+      ReadsTold-same j core.cpu core.on_rq core.changes core.lock core.reads s t r p.reads refl refl refl,
     )
 
 pub PositionsHold-store_cpu : (core : Table) (s t c : ℕ) → Holds core → MayStoreCpu core s t c → PositionsHold (store_cpu core s t c)
@@ -250,7 +270,8 @@ PositionsHold-store_cpu core s t c holds may =
       RestingTasks-stored core.state core.on_rq core.on_cpu core.lock core.rest_state core.rest_off core.rest_idle s t p.resting,
       IdleTasks-cpu core.on_rq core.cpu core.on_cpu core.queue_lock core.current core.idle core.added t c p.idle (placeable_off core s t c holds may),
       CpusRead-same (put core.cpu t c) core.lock between s t (kept_reads t (between s t)) (CpusRead-store core.cpu core.lock core.reads s t c r p.cpu may.locked refl) refl,
-      ReadsTold-store_cpu j core.cpu core.lock core.reads between s t c (kept_reads t (between s t)) p.reads may.locked refl (reads_there core.reads s t r),
+      ReadsTold-store_cpu j core.cpu core.on_rq core.changes core.lock core.reads between s t c (kept_reads t (between s t)) p.reads may.locked refl
+          (ap (λ (x : TaskReads). x.number) (reads_here core.reads s t r s t refl refl)) (reads_there core.reads s t r),
       WakingStored-stored core.state core.on_rq core.lock core.stored s t p.waking_stored,
       MovingStored-stored core.on_rq core.lock core.stored s t p.moving_stored,
     )

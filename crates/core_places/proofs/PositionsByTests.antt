@@ -1,13 +1,14 @@
 -- Each kind of step whose effect hangs on a test, but for the loads of a task's words, keeps what a seat may rely on.
 use Rattle.std.proofs.Common.{◌≡◌, ◌≢◌, ℕ, ◌⊎◌, inl, inr, List, Bool, true, false, Option, Some, None, refl, ◌∙◌, arith}
+use Rattle.std.specs.Prelude.{if◌then◌else◌}
 use Rattle.std.proofs.lemmas.Bool.{cases_eq}
 use Rattle.std.proofs.lemmas.Bool.Decides.{nat_tests}
 use Rattle.core_data.specs.Noted.{noted}
-use Rattle.core_data.specs.Queue.{Queue}
+use Rattle.core_data.specs.Queue.{Queue, times_in}
 use Rattle.core_data.specs.Table.{Table, put, put_at}
 use Rattle.core_data.specs.declared.act.Act.TheVariants.{OwnStored}
 use Rattle.core_data.specs.declared.values.WaitEntry.{WaitEntry}
-use Rattle.core_gives.specs.Queues.{MayGiveQueue, give_queue, gives_up, give_up_if}
+use Rattle.core_gives.specs.Queues.{MayGiveQueue, give_queue, gives_up, give_up_if, times, is_at}
 use Rattle.core_gives.specs.Waits.{MayGiveWait, give_wait, give_by, walked_if}
 use Rattle.core_invariant.proofs.Puts.{put_there}
 use Rattle.core_invariant.specs.Histories.{history}
@@ -19,10 +20,12 @@ use Rattle.core_kinds.specs.Waking.{MayOwnState, own_state, IsOwnState, slept_if
 use Rattle.core_places.proofs.Claimed.{ClaimedTasks-state}
 use Rattle.core_places.proofs.Facts.{one_seat}
 use Rattle.core_places.proofs.Idle.{IdleTasks-give}
-use Rattle.core_places.proofs.LastReads.{CpusRead-same, ReadsTold-forget, WakingStored-state, MovingStored-stored}
+use Rattle.core_places.proofs.LastReads.{CpusRead-same, WakingStored-state, MovingStored-stored}
 use Rattle.core_places.proofs.Matched.{MatchedTasks-state}
+use Rattle.core_places.proofs.Released.{Released-given_up, Released-state}
 use Rattle.core_places.proofs.Resting.{RestingTasks-state}
 use Rattle.core_places.proofs.Seen.{SeenStates-give, SeenStates-own}
+use Rattle.core_places.proofs.Told.{ReadsTold-forget}
 use Rattle.handoff_data.specs.declared.state.State.{State}
 
 slept : (b : Bool) (core : Table) (s t : ℕ) → PositionsHold core → PositionsHold (slept_if b core s t)
@@ -69,6 +72,11 @@ own_alive core s t state queued (inl a) = inr (queued, λ h. grind (arith, a, h)
 own_alive core s t state queued (inr (inl a)) = inr (queued, λ h. grind (arith, nat_tests, a, h))
 own_alive core s t state queued (inr (inr a)) = inl a.1
 
+own_released : (core : Table) (s t : ℕ) (state : State) → core.current s ≡ Some t → IsOwnState core s t state → (state ≢ dead) ⊎ ((core.lock t ≡ Some s) × (core.current s ≡ Some t))
+own_released core s t state current (inl a) = inl (λ h. grind (arith, a, h))
+own_released core s t state current (inr (inl a)) = inl (λ h. grind (arith, nat_tests, a, h))
+own_released core s t state current (inr (inr a)) = inr (a.1, current)
+
 pub PositionsHold-own_state : (core : Table) (s t : ℕ) (state : State) → Holds core → MayOwnState core s t state → PositionsHold (own_state core s t state)
 PositionsHold-own_state core s t state holds may =
     let p = holds.positions in
@@ -82,11 +90,34 @@ PositionsHold-own_state core s t state holds may =
       RestingTasks-state core.state core.on_rq core.on_cpu core.lock core.rest_state core.rest_off core.rest_idle s t state p.resting (inr awake),
       SeenStates-own core.cpus core.state core.on_rq core.queue_lock core.current core.seen s t state p.seen (one_seat core s t holds may.current),
       CpusRead-same core.cpu core.lock core.reads s t r p.cpu refl,
-      ReadsTold-forget j core.cpu core.lock core.reads s t r p.reads refl,
+      ReadsTold-forget j core.cpu core.on_rq core.changes core.lock core.reads s t r p.reads refl refl,
+      Released-state core.state core.on_rq core.lock core.current core.matched s t state p.released (own_released core s t state may.current may.allowed),
       WakingStored-state core.state core.on_rq core.lock core.stored s t state p.waking_stored (inr awake),
       MovingStored-stored core.on_rq core.lock core.stored s t p.moving_stored,
     ) in
     ran _ _ s t (slept _ _ s t q)
+
+-- a task that its seat gives up while it is queued waits in that queue, so it may run
+left_alive : (core : Table) (s c : ℕ) (queue : Queue) → gives_up s c queue ≡ true → Holds core → MayGiveQueue core s c queue → (u : ℕ) → core.current s ≡ Some u → core.on_rq u ≡ 1 → core.state u ≢ dead
+left_alive core s c queue up holds may u current queued =
+    by queue.cur refl
+  where
+    own : s ≡ c
+    own = grind (arith, nat_tests, up)
+
+    here : is_at core.on_rq core.cpu c u ≡ true
+    here = let at = holds.busy.runner.current_here s u current in grind (arith, nat_tests, queued, at, own)
+
+    once : (b : Bool) → b ≡ true → ◌≡◌ {A = ℕ} (if b then 1 else 0) 1
+    once true h = refl
+    once false h = absurd (grind (arith, h))
+
+    by : (o : Option ℕ) → queue.cur ≡ o → core.state u ≢ dead
+    by (Some x) q d = absurd (grind (arith, nat_tests, up, q))
+    by None q d =
+        let one : times queue u ≡ 1 = may.fits u ∙ once (is_at core.on_rq core.cpu c u) here in
+        let waits : times_in queue.waiting u ≢ 0 = λ z. grind (arith, nat_tests, one, q, z) in
+        elim (may.runnable.0 u waits) [ inl a ↦ grind (arith, nat_tests, a, d) | inr a ↦ grind (arith, nat_tests, a, d) ]
 
 given_up : (core : Table) (s c : ℕ) (queue : Queue) (b : Bool) → gives_up s c queue ≡ b → Holds core → MayGiveQueue core s c queue → PositionsHold (unseen (give_up_if b (record core {
   queue_lock = put core.queue_lock c None;
@@ -108,6 +139,7 @@ given_up core s c queue true up holds may =
       SeenStates-give core.cpus core.state core.on_rq core.queue_lock core.current (put core.current s None) core.seen s c p.seen may.locked (λ k u h. grind (arith, nat_tests, h)),
       IdleTasks-give core.on_rq core.cpu core.on_cpu core.queue_lock core.current (put core.current s None) core.idle core.added c p.idle
           (λ k u h. elim (cases_eq k s) [ inl q ↦ inr (holds.busy.runner.current_here k u h ∙ (q ∙ own)) | inr q ↦ inl (put_there core.current s None k q ∙ h) ]),
+      Released-given_up core.state core.on_rq core.lock core.current core.matched s p.released (left_alive core s c queue up holds may),
     )
 
 pub PositionsHold-give_queue : (core : Table) (s c : ℕ) (queue : Queue) → Holds core → MayGiveQueue core s c queue → PositionsHold (give_queue core s c queue)

@@ -2,8 +2,11 @@
 use Rattle.std.proofs.Common.{◌≡◌, ℕ, zero, suc, ◌+◌, ◌<◌, ◌⊎◌, inl, inr, length, true, false, Some, None, refl, sym, ap, subst, arith}
 use Rattle.std.specs.Prelude.{◌↔◌, replicate}
 use Rattle.std.proofs.lemmas.List.{length-replicate}
+use Rattle.core_data.specs.Found.{no_reads}
 use Rattle.core_data.specs.Opening.{IsStart, first_task, first_cpu, first_cond, first_seat}
-use Rattle.core_data.specs.Table.{Table, table_of, column, current_of, task_out_of, seen_of, saw_off_of, claimed_of, rest_off_of, rest_idle_of}
+use Rattle.core_data.specs.Table.{Table, table_of, column, current_of, task_out_of, seen_of, saw_off_of, claimed_of, rest_off_of, rest_idle_of, reads_of}
+use Rattle.core_data.specs.declared.pos.Rq.{Rq}
+use Rattle.core_data.specs.declared.pos.TaskReads.{TaskReads}
 use Rattle.core_data.specs.declared.values.TaskVal.{TaskVal}
 use Rattle.core_data.specs.declared.words.CpuWords.{CpuWords}
 use Rattle.core_data.specs.declared.words.TaskWords.{TaskWords}
@@ -74,6 +77,9 @@ rest_off-start shape mask s t = ap (λ f. f t) (column-blank rest_off_of (λ u. 
 rest_idle-start : (shape : Shape) (mask : CpuMask) (s t : ℕ) → (opening shape mask).rest_idle s t ≡ false
 rest_idle-start shape mask s t = ap (λ f. f t) (column-blank rest_idle_of (λ u. false) (shape.cpus + shape.agents) first_seat s refl)
 
+reads-start : (shape : Shape) (mask : CpuMask) (s t : ℕ) → (opening shape mask).reads s t ≡ no_reads t
+reads-start shape mask s t = ap (λ f. f t) (column-blank reads_of (λ u. no_reads u) (shape.cpus + shape.agents) first_seat s refl)
+
 state-runnable : (shape : Shape) (mask : CpuMask) (t : ℕ) → IsRunnable ((opening shape mask).state t)
 state-runnable shape mask t =
     elim (column-either (λ (w : TaskWords). w.state) running shape.tasks (first_task mask) t) [
@@ -128,6 +134,7 @@ PositionsHold-opening shape mask =
         saw_after = λ s t h. absurd (grind (arith, saw_off-start shape mask s t, h));
         off = λ s t l h. on_rq-start shape mask t;
       };
+      released = λ s t l h q c. absurd (locked t s l);
       claimed = record {
         locked = λ s t h. absurd (claims s t h);
         off = λ s t h. on_rq-start shape mask t;
@@ -147,13 +154,26 @@ PositionsHold-opening shape mask =
       };
       idle = record { read = λ s c t l h e here. inl (on_cpu-start shape mask t); put = λ s c t l h e here. inl (on_cpu-start shape mask t) };
       cpu = λ s t c l e. absurd (locked t s l);
-      reads = record { queued = λ s t rq l e on. absurd (locked t s l); off = λ s t rq l e on some. absurd (locked t s l) };
+      reads = record {
+        queued = λ s t rq l e on. absurd (locked t s l);
+        off = λ s t rq l e on some. absurd (locked t s l);
+        still = λ s t rq l e on. absurd (locked t s l);
+        busy = λ s t rq l e on b. absurd (locked t s l);
+        number = λ s t rq e. absurd (no_rq s t rq e);
+        past = λ s t m e. absurd (no_number s t m e);
+      };
       waking_stored = λ s t l e w. absurd (locked t s l);
       moving_stored = λ s t l e. absurd (locked t s l);
     }
   where
     locked : (t s : ℕ) → (opening shape mask).lock t ≡ Some s → ⊥
     locked t s h = grind (arith, lock-start shape mask t, h)
+
+    no_rq : (s t : ℕ) (rq : Rq) → ((opening shape mask).reads s t).rq ≡ Some rq → ⊥
+    no_rq s t rq e = let none = ap (λ (x : TaskReads). x.rq) (reads-start shape mask s t) in grind (arith, none, e)
+
+    no_number : (s t m : ℕ) → ((opening shape mask).reads s t).number ≡ Some m → ⊥
+    no_number s t m e = let none = ap (λ (x : TaskReads). x.number) (reads-start shape mask s t) in grind (arith, none, e)
 
     claims : (s t : ℕ) → (opening shape mask).claimed s t ≡ true → ⊥
     claims s t h = grind (arith, claimed-start shape mask s t, h)

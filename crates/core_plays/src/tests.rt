@@ -1,7 +1,10 @@
 //! Lists of events that are possible from the opening core, and events that are impossible where they stand.
 
+mod looks;
 mod parts;
+mod passes;
 mod play;
+mod sleeps;
 mod stops;
 mod words;
 

@@ -2,13 +2,10 @@
 use Rattle.std.proofs.Common.{◌≡◌, ℕ, ◌+◌, ◌<◌, length, take, get_or, sym, ◌∙◌, List, [], ◌∷◌, ◌++◌, subst, ap}
 use Rattle.std.proofs.lemmas.List.{take_more}
 use Rattle.core_data.specs.Table.{Table}
-use Rattle.handoff_core.specs.Runs.{Ran}
-use Rattle.handoff_core.specs.Steps.{May, after}
-use Rattle.handoff_core.specs.declared.event.Event.{Event}
-
-Ran-push : (core : Table) (events : List Event) (mid : Table) (e : Event) → Ran core events mid → May mid e.seat e.step → Ran core (events ++ e ∷ []) (after mid e.seat e.step)
-Ran-push core [] mid e ran may = (subst (λ (x : Table). May x e.seat e.step) ran may, ap (λ (x : Table). after x e.seat e.step) ran)
-Ran-push core (x ∷ events) mid e ran may = (ran.0, Ran-push (after core x.seat x.step) events mid e ran.1 may)
+use Rattle.core_law.proofs.Reached.{Ran-push}
+use Rattle.core_law.specs.Runs.{Ran}
+use Rattle.core_law.specs.Steps.{May, after}
+use Rattle.core_law.specs.declared.event.Event.{Event}
 
 pub taken_one : (events : List Event) (i : ℕ) (e : Event) → i < length events → e ≡ get_or events i e → take i events ++ e ∷ [] ≡ take (i + 1) events
 taken_one events i e h is = ap (λ (x : Event). take i events ++ x ∷ []) is ∙ sym (take_more events i e h)

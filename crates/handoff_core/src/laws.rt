@@ -1,20 +1,19 @@
 //! What holds of every core that a machine can come to, as laws: each function's contract is the sentence over all
 //! cores and all lists of events, and there is nothing to run.
 
-ghost use Rattle.core_data.specs.Opening.{IsStart};
 ghost use Rattle.core_data.specs.Table.{Table};
 ghost use Rattle.core_invariant.specs.Invariant.{Holds};
 ghost use Rattle.core_journals.specs.Places.{OneMoveOrNone};
-ghost use Rattle.core_law.specs.Laws.{OneRunAtATime, StandsOnce, WakesQueueAtMostOnce, NoLostWake, journals_of};
-ghost use Rattle.handoff_core.specs.Reached.{IsReached};
-ghost use Rattle.handoff_core.specs.Steps.{Step};
-ghost use Rattle.handoff_core.specs.declared.event.Event.{Event};
+ghost use Rattle.core_law.specs.Laws.{OneRunAtATime, StandsOnce, WakesQueueAtMostOnce, NoLostWake, SleepersWait, SleepsOnItsProcessor, journals_of};
+ghost use Rattle.core_law.specs.Reached.{IsReached, IsOpening};
+ghost use Rattle.core_law.specs.Steps.{Step};
+ghost use Rattle.core_law.specs.declared.event.Event.{Event};
 ghost use Rattle.handoff_data.specs.Shape.{IsShape};
 ghost use Rattle.handoff_data.specs.declared.shape.Shape.{Shape};
 
-/// The opening core of every shape meets the invariant.
+/// An opening core of every shape meets the invariant, whichever bodies have ended.
 pub fn opening_core_holds()
-    ensures { (shape : Shape) (core : Table) → IsShape shape → IsStart shape core → Holds core }
+    ensures { (shape : Shape) (core : Table) → IsShape shape → IsOpening shape core → Holds core }
 {}
 
 /// Each possible event leads from a core that meets the invariant to one that does, and is one move of one task by
@@ -34,14 +33,27 @@ pub fn stands_once()
     ensures { (core : Table) → IsReached core → StandsOnce core }
 {}
 
-/// For each wake there is at most one queueing with the next number, and none of another wake.
+/// For each wake there is at most one queueing with the next number, and each queueing has its wake, with the number
+/// before, ahead of it in the same journal.
 pub fn wakes_queue_at_most_once()
     ensures { (core : Table) → IsReached core → WakesQueueAtMostOnce (journals_of core) }
 {}
 
 /// A sleeper whose test differs from its condition has a seat that owes it a wake: a task with an entry that isn't
-/// exclusive, off its queue in a sleep state, whose test isn't the condition's value, has a seat that raised the
-/// condition and since then hasn't taken the wait queue's lock, or hasn't passed the task since it last did.
+/// exclusive, and that isn't running, on its way to a queue or dead by its state, whose test isn't the condition's
+/// value, has a seat of the machine that raised the condition and since then hasn't taken the wait queue's lock, or
+/// hasn't passed the task since it last did. It holds too of a task that hasn't left its queue yet.
 pub fn no_lost_wake()
     ensures { (core : Table) → IsReached core → NoLostWake core }
+{}
+
+/// A task that was put to sleep in a wait queue, and is in a sleep state, has its entry there.
+pub fn sleepers_wait()
+    ensures { (core : Table) → IsReached core → SleepersWait core }
+{}
+
+/// A task that is off its queue in a sleep state went to sleep by its last change, which stands in the journal of its
+/// processor's seat: that is the seat whose test counts.
+pub fn sleeps_on_its_processor()
+    ensures { (core : Table) → IsReached core → SleepsOnItsProcessor core }
 {}

@@ -2,13 +2,12 @@
 //! is one event. `step_core` says what an event leads to, `law_run` what a list of events leads to.
 //!
 //! A core begins as `start_core` makes it. Which events are possible, and what they change, is said by `May` and
-//! `after` of `specs/Steps.antt`, one line a kind of step.
+//! `after` of `core_law/specs/Steps.antt`, one line a kind of step.
 #![tactic(auto)]
 
-mod event;
 mod laws;
 mod run;
-mod step;
+mod step_laws;
 
 pub use core_data::{
     Act, ActiveRead, Asleep, Completing, CondWords, Core, CountRead, CpuWords, Due, Held, HeldList,
@@ -16,11 +15,14 @@ pub use core_data::{
     QueueVal, Rq, SeatCore, Served, TaskReads, TaskVal, TaskWords, Test, Ticket, WaitEntry,
     WaitVal, WorkItem, WorksVal,
 };
-pub use event::Event;
+pub use core_law::{Event, StepKind};
 pub use laws::{
     each_step_keeps_the_invariant, no_lost_wake, one_run_at_a_time, opening_core_holds,
-    stands_once, wakes_queue_at_most_once,
+    sleepers_wait, sleeps_on_its_processor, stands_once, wakes_queue_at_most_once,
 };
 pub use run::{CoreRun, law_run, step_core};
-pub use step::StepKind;
 pub use step_data::start_core;
+pub use step_laws::{
+    each_seat_stores_its_states, each_store_ends_reads, gives_keep, loads_tell,
+    no_step_wakes_the_dead, passes_are_kept, refusals_are_told, sleeps_are_kept, words_mean,
+};

@@ -1,16 +1,15 @@
 //! Events and runs of events.
 
-ghost use Rattle.std.specs.Prelude.{◌≡◌, ◌↔◌, ◌≤◌, Some, IsTrue, OnOk, IfOk, MatchOption, take, length, slice_get};
+ghost use Rattle.std.specs.Prelude.{◌≡◌, ◌↔◌, ◌≤◌, ℕ, Some, IsTrue, OnOk, IfOk, MatchOption, take, length, slice_get};
 ghost use Rattle.core_data.specs.Table.{Table, table};
 ghost use Rattle.core_invariant.specs.Invariant.{Holds};
-ghost use Rattle.handoff_core.specs.Runs.{Ran, EachMoves};
-ghost use Rattle.handoff_core.specs.Steps.{May, after, Step};
-ghost use Rattle.handoff_core.specs.declared.event.Event.{Event};
+ghost use Rattle.core_law.specs.Runs.{Ran, EachMoves};
+ghost use Rattle.core_law.specs.Steps.{May, after, Step};
+ghost use Rattle.core_law.specs.declared.event.Event.{Event};
 
-use crate::event::Event;
-use crate::step::StepKind;
 use core_data::Core;
-use handoff_data::{NoMemory, SeatNo};
+use core_law::{Event, StepKind};
+use handoff_data::NoMemory;
 use step_data::{copy_core, copy_wait, copy_works};
 use step_gives::{give_queue, give_wait, may_give_queue, may_give_wait, may_give_works};
 use step_kinds::{
@@ -140,12 +139,13 @@ pub struct CoreRun {
     pub taken: usize,
 }
 
-/// Takes events up to the first impossible one.
+/// Takes events up to the first impossible one. The invariant, where it holds of the core, holds after each event taken.
 pub fn law_run(mut core: Core, events: &[Event]) -> Result<CoreRun, NoMemory>
     ensures ran { IfOk result (λ run. Ran (table core) (take run.taken events.now) (table run.core)) }
     ensures within { IfOk result (λ run. run.taken ≤ length events.now) }
     ensures stops { IfOk result (λ run. (e : Event) → slice_get events.now run.taken ≡ Some e → May (table run.core) e.seat e.step → ⊥) }
     ensures kept { IfOk result (λ run. Holds (table core) → Holds (table run.core)) }
+    ensures kept_after_each { IfOk result (λ run. Holds (table core) → (n : ℕ) → n ≤ run.taken → (mid : Table) × Ran (table core) (take n events.now) mid × Holds mid) }
     ensures moves { IfOk result (λ run. Holds (table core) → EachMoves (table core) (take run.taken events.now)) }
 {
     let mut taken = 0;

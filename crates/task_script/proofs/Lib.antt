@@ -4,3 +4,5 @@ pub mod SoFarLaws
 pub mod ScriptLaws
 pub mod ForestLaws
 pub mod NameLaws
+pub mod ValidLaws
+pub mod EqualLaws

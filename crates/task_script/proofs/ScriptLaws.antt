@@ -156,7 +156,7 @@ passes_on number s before f (line ∷ front) (form ∷ forms) all =
 
 -- ---- what the reader keeps
 
-abbrev OnState : (State → Type 0) → Result State ScriptFault → Type 0
+abbrev pub OnState : (State → Type 0) → Result State ScriptFault → Type 0
 OnState P (Err fault) = ⊤
 OnState P (Ok t) = P t
 
@@ -250,7 +250,7 @@ judged_keeps over lines (Err fault) k = tt
 judged_keeps true lines (Ok t) k = tt
 judged_keeps false lines (Ok t) k = ended_keeps t.ended t (fault_at (lines + 1) 11) k
 
-verdict_keeps : (bytes : List ℕ) (s : State) → verdict bytes ≡ Ok s → Keeps s
+pub verdict_keeps : (bytes : List ℕ) (s : State) → verdict bytes ≡ Ok s → Keeps s
 unfolding verdict
 verdict_keeps bytes s e =
     subst (OnState Keeps) e (judged_keeps (is_over bytes) (length (judged_lines bytes)) (run 1 start (judged_lines bytes)) (run_keeps 1 start start_keeps (judged_lines bytes)))
@@ -500,7 +500,7 @@ fault_verdict bytes line code h =
 
 -- ---- each input is one script, or has one first fault
 
-script_at_end : State → Script
+unfoldable pub script_at_end : State → Script
 script_at_end s = record { shape = shape_of (unwrap_or s.cpus 1) s.caches (length s.tasks); room = unwrap_or s.room 4; tasks = s.tasks }
 
 some_verdict : (bytes : List ℕ) (r : Result State ScriptFault) → VerdictHolds bytes r → ((s : Script) × IsScript bytes s) ⊎ ((f : ScriptFault) × FirstFault bytes f.line f.code)

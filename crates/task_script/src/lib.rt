@@ -1,6 +1,7 @@
 //! Scripts of text tasks: what a script is, and which bytes are one.
 #![tactic(auto)]
 
+mod equal;
 mod form;
 mod law;
 mod lists;

@@ -1,3 +1,4 @@
+use crate::equal::same_tasks;
 use crate::script::TaskDef;
 use handoff_data::TaskNo;
 use std::marker::Model;
@@ -17,7 +18,7 @@ impl Model for Sources {
 }
 
 impl Sources {
-    ghost use Rattle.std.specs.Prelude.{◌≡◌};
+    ghost use Rattle.std.specs.Prelude.{◌≡◌, ◌↔◌, IsTrue};
 
     /// The sources of a `Vec`, for which no memory is taken.
     pub fn from_vec(list: Vec<TaskNo>) -> Sources
@@ -31,6 +32,13 @@ impl Sources {
         ensures { result.now ≡ self.now }
     {
         self.list.as_slice()
+    }
+
+    /// Whether both are the same tasks by side.
+    pub fn equals(&self, other: &Sources) -> bool
+        ensures { IsTrue result ↔ (self.now ≡ other.now) }
+    {
+        self.list.as_slice() == other.list.as_slice()
     }
 }
 
@@ -50,7 +58,7 @@ impl Model for Tasks {
 }
 
 impl Tasks {
-    ghost use Rattle.std.specs.Prelude.{◌≡◌};
+    ghost use Rattle.std.specs.Prelude.{◌≡◌, ◌↔◌, IsTrue};
 
     /// The tasks of a `Vec`, for which no memory is taken.
     pub fn from_vec(list: Vec<TaskDef>) -> Tasks
@@ -64,6 +72,13 @@ impl Tasks {
         ensures { result.now ≡ self.now }
     {
         self.list.as_slice()
+    }
+
+    /// Whether both are the same tasks in the same order.
+    pub fn equals(&self, other: &Tasks) -> bool
+        ensures { IsTrue result ↔ (self.now ≡ other.now) }
+    {
+        same_tasks(self.list.as_slice(), other.list.as_slice())
     }
 
     /// The tasks as a `Vec`, for which no memory is taken.

@@ -1,3 +1,4 @@
+use crate::equal::same_lines;
 use handoff_data::{Line, Lines};
 
 /// What a text task puts out, for what it reads. A plan changes with each line that it takes. Counts are of 64 bits,
@@ -26,4 +27,57 @@ pub enum Plan {
     /// Each line. Its task is to be migration-disabled while `on`, which is from its first line on, for as many lines as
     /// `left` says at the beginning or until the input ends; `left` of them are still to come.
     Pin { left: u64, on: bool },
+}
+
+impl Plan {
+    ghost use Rattle.std.specs.Prelude.{◌≡◌, ◌↔◌, IsTrue};
+
+    /// Whether both plans are the same, and at the same place of their work.
+    pub fn equals(&self, other: &Plan) -> bool
+        ensures { IsTrue result ↔ (self.now ≡ other.now) }
+    {
+        match (self, other) {
+            (Plan::Lines { left }, Plan::Lines { left: other_left }) => {
+                same_lines(left, other_left)
+            }
+            (
+                Plan::Count { next, last },
+                Plan::Count {
+                    next: other_next,
+                    last: other_last,
+                },
+            ) => *next == *other_next && *last == *other_last,
+            (Plan::Upper, Plan::Upper) => true,
+            (Plan::Number { next }, Plan::Number { next: other_next }) => *next == *other_next,
+            (
+                Plan::Keep { prefix },
+                Plan::Keep {
+                    prefix: other_prefix,
+                },
+            ) => prefix.equals(other_prefix),
+            (
+                Plan::Drop { prefix },
+                Plan::Drop {
+                    prefix: other_prefix,
+                },
+            ) => prefix.equals(other_prefix),
+            (Plan::Tally { n }, Plan::Tally { n: other_n }) => *n == *other_n,
+            (Plan::Cat { side }, Plan::Cat { side: other_side }) => *side == *other_side,
+            (
+                Plan::Weave { side, ended },
+                Plan::Weave {
+                    side: other_side,
+                    ended: other_ended,
+                },
+            ) => *side == *other_side && *ended == *other_ended,
+            (
+                Plan::Pin { left, on },
+                Plan::Pin {
+                    left: other_left,
+                    on: other_on,
+                },
+            ) => *left == *other_left && *on == *other_on,
+            _ => false,
+        }
+    }
 }

@@ -14,6 +14,19 @@ pub struct TaskDef {
     pub from: Sources,
 }
 
+impl TaskDef {
+    ghost use Rattle.std.specs.Prelude.{◌≡◌, ◌↔◌, IsTrue};
+
+    /// Whether both tasks have the same name and plan, and read the same tasks.
+    pub fn equals(&self, other: &TaskDef) -> bool
+        ensures { IsTrue result ↔ (self.now ≡ other.now) }
+    {
+        self.name.equals(&other.name)
+            && self.plan.equals(&other.plan)
+            && self.from.equals(&other.from)
+    }
+}
+
 /// A script: a machine, and the tasks that run on it.
 #[derive(Drop)]
 pub struct Script {
@@ -24,6 +37,17 @@ pub struct Script {
     pub room: u32,
     /// The tasks, in the order of the script.
     pub tasks: Tasks,
+}
+
+impl Script {
+    ghost use Rattle.std.specs.Prelude.{◌≡◌, ◌↔◌, IsTrue};
+
+    /// Whether both scripts have the same machine, room and tasks.
+    pub fn equals(&self, other: &Script) -> bool
+        ensures { IsTrue result ↔ (self.now ≡ other.now) }
+    {
+        self.shape == other.shape && self.room == other.room && self.tasks.equals(&other.tasks)
+    }
 }
 
 /// Where bytes fail to be a script.

@@ -206,3 +206,50 @@ fn a_script_has_its_tasks(rt: HostRuntime) -> Result<(), Fail> {
     assert_eq!(rt; seen, (true, true));
     Ok(())
 }
+
+#[test]
+fn spellings_of_a_script_are_one_script(rt: HostRuntime) -> Result<(), Fail> {
+    let plain =
+        "cpus 2\nroom 4\ntask a lines\n| x\n| y\ntask b pin 2 from a\ntask c keep x from b\nend\n";
+    let script = read_script(rt.alloc(), plain.as_bytes())?;
+    for (text, same) in [
+        (
+            " cpus 02\r\n# c\ntask\ta lines\n|x\n\n\t| y\r\ntask b pin 0002 from  a\ntask c keep x from b\nend",
+            true,
+        ),
+        (
+            "cpus 2\ntask a lines\n| x\ntask b pin 2 from a\ntask c keep x from b\nend\n",
+            false,
+        ),
+        (
+            "cpus 2\ntask a lines\n| x\n| z\ntask b pin 2 from a\ntask c keep x from b\nend\n",
+            false,
+        ),
+        (
+            "cpus 2\ntask a lines\n| x\n| y\ntask b pin 3 from a\ntask c keep x from b\nend\n",
+            false,
+        ),
+        (
+            "cpus 2\ntask a lines\n| x\n| y\ntask b pin 2 from a\ntask c drop x from b\nend\n",
+            false,
+        ),
+        (
+            "cpus 2\ntask a lines\n| x\n| y\ntask b pin 2 from a\ntask d keep x from b\nend\n",
+            false,
+        ),
+        (
+            "cpus 2\nroom 5\ntask a lines\n| x\n| y\ntask b pin 2 from a\ntask c keep x from b\nend\n",
+            false,
+        ),
+        (
+            "cpus 3\ntask a lines\n| x\n| y\ntask b pin 2 from a\ntask c keep x from b\nend\n",
+            false,
+        ),
+        ("cpus 2\nend\n", false),
+    ] {
+        let other = read_script(rt.alloc(), text.as_bytes())?;
+        assert_eq!(rt; script.equals(&other), same, "{text}");
+        assert_eq!(rt; other.equals(&script), same, "{text}");
+    }
+    Ok(())
+}

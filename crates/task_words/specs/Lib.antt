@@ -1,3 +1,4 @@
+pub mod Between
 pub mod Bodies
 pub mod Closing
 pub mod Gives

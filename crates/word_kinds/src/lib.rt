@@ -1,11 +1,14 @@
-//! The kinds of step on one word, each as a type with its record, its condition and its law.
+//! The kinds of step on one word, each as a type with its record, its condition and its laws; and the same laws of the
+//! steps that take values and bodies out and bring them home.
 #![tactic(auto)]
 
+mod laws;
 mod loads;
 mod masks;
 mod runs;
 mod stores;
 
+pub use laws::{bodies_make_events, locks_make_events};
 pub use loads::{LoadBusy, LoadCond, LoadCpu, LoadRq, LoadState};
 pub use masks::{
     Interruptible, InterruptibleKill, Killable, Mask, MatchState, NoBits, Normal, NormalKill,

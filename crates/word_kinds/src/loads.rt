@@ -8,7 +8,7 @@ impl Kind for LoadState {
     ghost use Rattle.std.specs.Prelude.{◌≡◌, ◌<◌, ◌^◌, None, refl};
     ghost use Rattle.std.proofs.Common.{lit<};
     ghost use Rattle.word_kinds.specs.Rows.{tasks_rows};
-    ghost use Rattle.word_rule.proofs.LoadLaws.{load_state_law};
+    ghost use Rattle.word_rule.proofs.LoadLaws.{load_state_law, load_state_is_event};
     ghost use Rattle.word_steps.specs.Records.{LoadedState};
     ghost use Rattle.word_steps.specs.Words.{STATE};
 
@@ -28,6 +28,8 @@ impl Kind for LoadState {
 
     ghost quiet = { λ s trace t y x. record { task = refl; queue = refl; works = refl; wait = refl; body = refl } };
 
+    ghost event = { load_state_is_event };
+
     ghost keep = { load_state_law };
 
     fn column() -> usize {
@@ -42,7 +44,7 @@ impl Kind for LoadRq {
     ghost use Rattle.std.specs.Prelude.{◌≡◌, ◌≢◌, ◌/◌, ◌%◌, true, IsSome, refl};
     ghost use Rattle.std.proofs.Common.{lit<};
     ghost use Rattle.word_kinds.specs.Rows.{tasks_rows};
-    ghost use Rattle.word_rule.proofs.LoadLaws.{load_rq_law};
+    ghost use Rattle.word_rule.proofs.LoadLaws.{load_rq_law, load_rq_is_event};
     ghost use Rattle.word_steps.specs.Folds.{task_held, is_matched_by};
     ghost use Rattle.word_steps.specs.Records.{LoadedRq};
     ghost use Rattle.word_steps.specs.Words.{RQ};
@@ -64,6 +66,8 @@ impl Kind for LoadRq {
 
     ghost quiet = { λ s trace t y x. record { task = refl; queue = refl; works = refl; wait = refl; body = refl } };
 
+    ghost event = { load_rq_is_event };
+
     ghost keep = { load_rq_law };
 
     fn column() -> usize {
@@ -78,7 +82,7 @@ impl Kind for LoadBusy {
     ghost use Rattle.std.specs.Prelude.{◌≡◌, ◌/◌, refl};
     ghost use Rattle.std.proofs.Common.{lit<};
     ghost use Rattle.word_kinds.specs.Rows.{tasks_rows};
-    ghost use Rattle.word_rule.proofs.LoadLaws.{load_busy_law};
+    ghost use Rattle.word_rule.proofs.LoadLaws.{load_busy_law, load_busy_is_event};
     ghost use Rattle.word_steps.specs.Records.{LoadedBusy};
     ghost use Rattle.word_steps.specs.Words.{BUSY, is_set};
 
@@ -98,6 +102,8 @@ impl Kind for LoadBusy {
 
     ghost quiet = { λ s trace t y x. record { task = refl; queue = refl; works = refl; wait = refl; body = refl } };
 
+    ghost event = { load_busy_is_event };
+
     ghost keep = { load_busy_law };
 
     fn column() -> usize {
@@ -112,7 +118,7 @@ impl Kind for LoadCpu {
     ghost use Rattle.std.specs.Prelude.{◌≡◌, ◌<◌, refl};
     ghost use Rattle.std.proofs.Common.{lit<};
     ghost use Rattle.word_kinds.specs.Rows.{tasks_rows};
-    ghost use Rattle.word_rule.proofs.LoadLaws.{load_cpu_law};
+    ghost use Rattle.word_rule.proofs.LoadLaws.{load_cpu_law, load_cpu_is_event};
     ghost use Rattle.word_steps.specs.Records.{LoadedCpu};
     ghost use Rattle.word_steps.specs.Words.{CPU};
 
@@ -132,6 +138,8 @@ impl Kind for LoadCpu {
 
     ghost quiet = { λ s trace t y x. record { task = refl; queue = refl; works = refl; wait = refl; body = refl } };
 
+    ghost event = { load_cpu_is_event };
+
     ghost keep = { load_cpu_law };
 
     fn column() -> usize {
@@ -146,7 +154,7 @@ impl Kind for LoadCond {
     ghost use Rattle.std.specs.Prelude.{◌≡◌, refl};
     ghost use Rattle.std.proofs.Common.{lit<};
     ghost use Rattle.word_kinds.specs.Rows.{conds_rows};
-    ghost use Rattle.word_rule.proofs.LoadLaws.{load_cond_law};
+    ghost use Rattle.word_rule.proofs.LoadLaws.{load_cond_law, load_cond_is_event};
     ghost use Rattle.word_steps.specs.Records.{LoadedCond};
     ghost use Rattle.word_steps.specs.Words.{COND};
 
@@ -165,6 +173,8 @@ impl Kind for LoadCond {
     ghost rows = { conds_rows };
 
     ghost quiet = { λ s trace k y x. record { task = refl; queue = refl; works = refl; wait = refl; body = refl } };
+
+    ghost event = { load_cond_is_event };
 
     ghost keep = { load_cond_law };
 

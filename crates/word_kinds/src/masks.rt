@@ -22,7 +22,7 @@ impl<M: Mask> Kind for MatchState<M> {
     ghost use Rattle.std.specs.Prelude.{◌≡◌, ◌<◌, ◌^◌, Some, refl};
     ghost use Rattle.std.proofs.Common.{lit<};
     ghost use Rattle.word_kinds.specs.Rows.{tasks_rows};
-    ghost use Rattle.word_rule.proofs.LoadLaws.{load_masked_law};
+    ghost use Rattle.word_rule.proofs.LoadLaws.{load_masked_law, load_masked_is_event};
     ghost use Rattle.word_steps.specs.Records.{LoadedState};
     ghost use Rattle.word_steps.specs.Words.{STATE};
 
@@ -41,6 +41,8 @@ impl<M: Mask> Kind for MatchState<M> {
     ghost rows = { tasks_rows };
 
     ghost quiet = { λ s trace t y x. record { task = refl; queue = refl; works = refl; wait = refl; body = refl } };
+
+    ghost event = { load_masked_is_event (record { 0 = M.bits }) M.allowed };
 
     ghost keep = { load_masked_law (record { 0 = M.bits }) M.allowed };
 

@@ -8,7 +8,7 @@ impl Kind for QueueTask {
     ghost use Rattle.std.specs.Prelude.{◌/◌, ◌%◌, refl};
     ghost use Rattle.std.proofs.Common.{lit<};
     ghost use Rattle.word_kinds.specs.Rows.{tasks_rows};
-    ghost use Rattle.word_rule.proofs.QueueLaws.{queue_law};
+    ghost use Rattle.word_rule.proofs.QueueLaws.{queue_law, queue_is_event};
     ghost use Rattle.word_rule.specs.May.{MayQueueWord, cpu_read_of};
     ghost use Rattle.word_steps.specs.Records.{Queued};
     ghost use Rattle.word_steps.specs.Words.{RQ};
@@ -29,6 +29,8 @@ impl Kind for QueueTask {
 
     ghost quiet = { λ s trace t y x. record { task = refl; queue = refl; works = refl; wait = refl; body = refl } };
 
+    ghost event = { queue_is_event };
+
     ghost keep = { queue_law };
 
     fn column() -> usize {
@@ -43,7 +45,7 @@ impl Kind for DequeueTask {
     ghost use Rattle.std.specs.Prelude.{◌/◌, refl};
     ghost use Rattle.std.proofs.Common.{lit<};
     ghost use Rattle.word_kinds.specs.Rows.{tasks_rows};
-    ghost use Rattle.word_rule.proofs.QueueLaws.{dequeue_law};
+    ghost use Rattle.word_rule.proofs.QueueLaws.{dequeue_law, dequeue_is_event};
     ghost use Rattle.word_rule.specs.May.{MayDequeueWord};
     ghost use Rattle.word_steps.specs.Records.{Dequeued};
     ghost use Rattle.word_steps.specs.Words.{RQ};
@@ -64,6 +66,8 @@ impl Kind for DequeueTask {
 
     ghost quiet = { λ s trace t y x. record { task = refl; queue = refl; works = refl; wait = refl; body = refl } };
 
+    ghost event = { dequeue_is_event };
+
     ghost keep = { dequeue_law };
 
     fn column() -> usize {
@@ -78,7 +82,7 @@ impl Kind for MoveTask {
     ghost use Rattle.std.specs.Prelude.{◌/◌, refl};
     ghost use Rattle.std.proofs.Common.{lit<};
     ghost use Rattle.word_kinds.specs.Rows.{tasks_rows};
-    ghost use Rattle.word_rule.proofs.QueueLaws.{move_law};
+    ghost use Rattle.word_rule.proofs.QueueLaws.{move_law, move_is_event};
     ghost use Rattle.word_rule.specs.May.{MayMoveWord, cpu_read_of};
     ghost use Rattle.word_steps.specs.Records.{Moved};
     ghost use Rattle.word_steps.specs.Words.{RQ};
@@ -99,6 +103,8 @@ impl Kind for MoveTask {
 
     ghost quiet = { λ s trace t y x. record { task = refl; queue = refl; works = refl; wait = refl; body = refl } };
 
+    ghost event = { move_is_event };
+
     ghost keep = { move_law };
 
     fn column() -> usize {
@@ -113,7 +119,7 @@ impl Kind for SetBusy {
     ghost use Rattle.std.specs.Prelude.{◌/◌, refl};
     ghost use Rattle.std.proofs.Common.{lit<};
     ghost use Rattle.word_kinds.specs.Rows.{tasks_rows};
-    ghost use Rattle.word_rule.proofs.StoreLaws.{set_busy_law};
+    ghost use Rattle.word_rule.proofs.StoreLaws.{set_busy_law, set_busy_is_event};
     ghost use Rattle.word_rule.specs.May.{MaySetBusyWord};
     ghost use Rattle.word_steps.specs.Records.{SetBusy};
     ghost use Rattle.word_steps.specs.Words.{BUSY};
@@ -134,6 +140,8 @@ impl Kind for SetBusy {
 
     ghost quiet = { λ s trace t y x. record { task = refl; queue = refl; works = refl; wait = refl; body = refl } };
 
+    ghost event = { set_busy_is_event };
+
     ghost keep = { set_busy_law };
 
     fn column() -> usize {
@@ -148,7 +156,7 @@ impl Kind for ClearBusy {
     ghost use Rattle.std.specs.Prelude.{◌≡◌, ◌/◌, ◌%◌, ◌<◌, ◌^◌, refl};
     ghost use Rattle.std.proofs.Common.{lit<};
     ghost use Rattle.word_kinds.specs.Rows.{tasks_rows};
-    ghost use Rattle.word_rule.proofs.StoreLaws.{clear_busy_law};
+    ghost use Rattle.word_rule.proofs.StoreLaws.{clear_busy_law, clear_busy_is_event};
     ghost use Rattle.word_rule.specs.May.{MayClearBusyWord};
     ghost use Rattle.word_steps.specs.Records.{ClearedBusy};
     ghost use Rattle.word_steps.specs.Words.{BUSY};
@@ -168,6 +176,8 @@ impl Kind for ClearBusy {
     ghost rows = { tasks_rows };
 
     ghost quiet = { λ s trace t y x. record { task = refl; queue = refl; works = refl; wait = refl; body = refl } };
+
+    ghost event = { clear_busy_is_event };
 
     ghost keep = { clear_busy_law };
 

@@ -8,7 +8,7 @@ impl Kind for StoreOwn {
     ghost use Rattle.std.specs.Prelude.{refl};
     ghost use Rattle.std.proofs.Common.{lit<};
     ghost use Rattle.word_kinds.specs.Rows.{tasks_rows};
-    ghost use Rattle.word_rule.proofs.StoreLaws.{own_state_law};
+    ghost use Rattle.word_rule.proofs.StoreLaws.{own_state_law, own_state_is_event};
     ghost use Rattle.word_rule.specs.May.{MayOwnWord};
     ghost use Rattle.word_steps.specs.Records.{StoredOwn};
     ghost use Rattle.word_steps.specs.Words.{STATE};
@@ -29,6 +29,8 @@ impl Kind for StoreOwn {
 
     ghost quiet = { λ s trace t y x. record { task = refl; queue = refl; works = refl; wait = refl; body = refl } };
 
+    ghost event = { own_state_is_event };
+
     ghost keep = { own_state_law };
 
     fn column() -> usize {
@@ -43,7 +45,7 @@ impl Kind for StoreWaking {
     ghost use Rattle.std.specs.Prelude.{refl};
     ghost use Rattle.std.proofs.Common.{lit<};
     ghost use Rattle.word_kinds.specs.Rows.{tasks_rows};
-    ghost use Rattle.word_rule.proofs.StoreLaws.{claim_law};
+    ghost use Rattle.word_rule.proofs.StoreLaws.{claim_law, claim_is_event};
     ghost use Rattle.word_rule.specs.May.{MayClaimWord, number_of};
     ghost use Rattle.word_steps.specs.Records.{Claimed};
     ghost use Rattle.word_steps.specs.Words.{STATE};
@@ -64,6 +66,8 @@ impl Kind for StoreWaking {
 
     ghost quiet = { λ s trace t y x. record { task = refl; queue = refl; works = refl; wait = refl; body = refl } };
 
+    ghost event = { claim_is_event };
+
     ghost keep = { claim_law };
 
     fn column() -> usize {
@@ -78,7 +82,7 @@ impl Kind for StoreRunning {
     ghost use Rattle.std.specs.Prelude.{refl};
     ghost use Rattle.std.proofs.Common.{lit<};
     ghost use Rattle.word_kinds.specs.Rows.{tasks_rows};
-    ghost use Rattle.word_rule.proofs.StoreLaws.{release_law};
+    ghost use Rattle.word_rule.proofs.StoreLaws.{release_law, release_is_event};
     ghost use Rattle.word_rule.specs.May.{MayReleaseWord};
     ghost use Rattle.word_steps.specs.Records.{Released};
     ghost use Rattle.word_steps.specs.Words.{STATE};
@@ -99,6 +103,8 @@ impl Kind for StoreRunning {
 
     ghost quiet = { λ s trace t y x. record { task = refl; queue = refl; works = refl; wait = refl; body = refl } };
 
+    ghost event = { release_is_event };
+
     ghost keep = { release_law };
 
     fn column() -> usize {
@@ -113,7 +119,7 @@ impl Kind for StoreCpu {
     ghost use Rattle.std.specs.Prelude.{refl};
     ghost use Rattle.std.proofs.Common.{lit<};
     ghost use Rattle.word_kinds.specs.Rows.{tasks_rows};
-    ghost use Rattle.word_rule.proofs.StoreLaws.{store_cpu_law};
+    ghost use Rattle.word_rule.proofs.StoreLaws.{store_cpu_law, store_cpu_is_event};
     ghost use Rattle.word_rule.specs.May.{MayCpuWord};
     ghost use Rattle.word_steps.specs.Records.{StoredCpu};
     ghost use Rattle.word_steps.specs.Words.{CPU};
@@ -134,6 +140,8 @@ impl Kind for StoreCpu {
 
     ghost quiet = { λ s trace t y x. record { task = refl; queue = refl; works = refl; wait = refl; body = refl } };
 
+    ghost event = { store_cpu_is_event };
+
     ghost keep = { store_cpu_law };
 
     fn column() -> usize {
@@ -148,7 +156,7 @@ impl Kind for BumpCond {
     ghost use Rattle.std.specs.Prelude.{◌≡◌, ◌+◌, ◌%◌, ◌^◌, refl};
     ghost use Rattle.std.proofs.Common.{lit<};
     ghost use Rattle.word_kinds.specs.Rows.{conds_rows};
-    ghost use Rattle.word_rule.proofs.StoreLaws.{bump_law};
+    ghost use Rattle.word_rule.proofs.StoreLaws.{bump_law, bump_is_event};
     ghost use Rattle.word_steps.specs.Records.{Bumped};
     ghost use Rattle.word_steps.specs.Words.{COND};
 
@@ -167,6 +175,8 @@ impl Kind for BumpCond {
     ghost rows = { conds_rows };
 
     ghost quiet = { λ s trace k y x. record { task = refl; queue = refl; works = refl; wait = refl; body = refl } };
+
+    ghost event = { bump_is_event };
 
     ghost keep = { bump_law };
 

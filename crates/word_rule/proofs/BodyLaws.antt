@@ -1,14 +1,12 @@
 -- Bodies taken out and put home keep the rule; and a new table keeps it.
-use Rattle.std.proofs.Common.{◌≡◌, ℕ, ◌<◌, ◌+◌, refl, ap, arith, List, [], ◌∷◌}
-use Rattle.std.specs.Prelude.{◌↔◌, Bool, true, false, nat_lt, if◌then◌else◌}
+use Rattle.std.proofs.Common.{◌≡◌, ℕ, ◌<◌, ◌+◌, refl, List, [], ◌∷◌}
+use Rattle.std.specs.Prelude.{◌↔◌, Bool, true, false}
 use Rattle.core_data.specs.Table.{put}
-use Rattle.core_invariant.specs.Invariant.{Holds}
-use Rattle.core_kinds.specs.Steps.{dead}
+use Rattle.core_law.proofs.Reached.{Holds-opening, reached_opening}
 use Rattle.handoff_data.specs.Mask.{HasCpu}
 use Rattle.handoff_data.specs.Shape.{IsShape}
 use Rattle.handoff_data.specs.declared.mask.CpuMask.{CpuMask}
 use Rattle.handoff_data.specs.declared.shape.Shape.{Shape}
-use Rattle.handoff_data.specs.declared.state.State.{State}
 use Rattle.word_rule.proofs.BodiesKept.{known_start, body_out_known, body_home_known}
 use Rattle.word_rule.proofs.GrownKept.{grown_start}
 use Rattle.word_rule.proofs.OffKept.{off_start}
@@ -20,15 +18,16 @@ use Rattle.word_rule.specs.Kept.{Kept}
 use Rattle.word_rule.specs.May.{MayTakeBody, MayReturnBody}
 use Rattle.word_steps.proofs.CurrentKept.{current_start}
 use Rattle.word_steps.proofs.EndedKept.{ended_start, body_out_ended, body_home_ended}
+use Rattle.word_steps.proofs.FirstCore.{first_is_opening}
+use Rattle.word_steps.proofs.Events.{body_out_event, body_home_event}
 use Rattle.word_steps.proofs.ExclusivesKept.{exclusives_start, exclusives_still}
-use Rattle.word_steps.proofs.FirstCore.{first_holds}
-use Rattle.word_steps.proofs.Keeps.{body_out_keeps, body_home_keeps}
 use Rattle.word_steps.proofs.MatchedKept.{matched_start}
 use Rattle.word_steps.proofs.MovingSteps.{moving_start, states_start}
 use Rattle.word_steps.proofs.NumbersKept.{numbers_start}
 use Rattle.word_steps.proofs.PutKept.{put_start}
 use Rattle.word_steps.proofs.QueuedKept.{queued_start}
 use Rattle.word_steps.specs.Decode.{Homes, core_of}
+use Rattle.word_steps.specs.Events.{IsEvent}
 use Rattle.word_steps.specs.Opening.{first_words, first_homes}
 use Rattle.word_steps.specs.Records.{Rec, OutBody, HomeBody}
 
@@ -55,10 +54,16 @@ module _ (shape : Shape) (words : ℕ → ℕ → ℕ) (homes : Homes) (traces :
             })
             (record { current = λ j. refl; stays = refl }) refl
             (exclusives_still words homes.wait traces s kept.exclusives (OutBody t (homes.ended t)) (λ u k e. e) refl refl)
-            (body_out_keeps shape words homes traces s t (homes.ended t) kept.holds core)
+            (body_out_event shape words homes traces s t core)
             (body_out_ended homes.ended traces s kept.ended t (homes.ended t) refl)
             (body_out_known traces s kept.known t (homes.ended t)),
       )
+
+  pub take_body_event : Kept shape words homes traces → s < shape.cpus + shape.agents → t < shape.tasks
+      → MayTakeBody s (traces s) t
+      → IsEvent shape words homes traces s (OutBody t (homes.ended t)) words (record homes { body = put homes.body t false })
+  take_body_event kept seat task may =
+      body_out_event shape words homes traces s t (take_body_possible shape words homes traces s kept seat t task may)
 
   -- the body isn't home, and is told whether it has ended by now
   pub return_body_law : (ended : Bool) → Kept shape words homes traces → s < shape.cpus + shape.agents → t < shape.tasks
@@ -83,42 +88,28 @@ module _ (shape : Shape) (words : ℕ → ℕ → ℕ) (homes : Homes) (traces :
             })
             (record { current = λ j. refl; stays = refl }) refl
             (exclusives_still words homes.wait traces s kept.exclusives (HomeBody t ended) (λ u k e. e) refl refl)
-            (body_home_keeps shape words homes traces s t ended kept.holds core)
+            (body_home_event shape words homes traces s t ended core)
             (body_home_ended shape words homes traces s kept.holds kept.ended t ended core)
             (body_home_known traces s kept.known t ended),
       )
 
-new_lives : (b : Bool) → ◌≡◌ {A = State} (record { 0 = if b then 0x800 else 0 }) dead → ⊥
-new_lives true e = let n : 0x800 ≡ 0x80 = ap (λ (w : State). w.0) e in omega (arith, n)
-new_lives false e = let n : 0 ≡ 0x80 = ap (λ (w : State). w.0) e in omega (arith, n)
-
--- no task is dead, so the invariant says nothing of which bodies have ended
-start_holds : (shape : Shape) (mask : CpuMask) (ended : ℕ → Bool) → IsShape shape → ((c : ℕ) → HasCpu mask c ↔ (c < shape.cpus))
-    → Holds (core_of shape (first_words shape) (record (first_homes shape mask) { ended = ended }) (λ s. []))
-start_holds shape mask ended is_shape all =
-    let h = first_holds shape mask is_shape all in
-    record {
-      shapes = assumption (h.shapes);
-      locks = assumption (h.locks);
-      queues = assumption (h.queues);
-      busy = record {
-        runner = h.busy.runner;
-        named = h.busy.named;
-        bodies = h.busy.bodies;
-        ended = λ t e. absurd (new_lives (nat_lt t shape.tasks) e);
-      };
-      places = assumption (h.places);
-      positions = assumption (h.positions);
-      journals = assumption (h.journals);
-      sleepers = assumption (h.sleepers);
-    }
+  pub return_body_event : (ended : Bool) → Kept shape words homes traces → s < shape.cpus + shape.agents → t < shape.tasks
+      → MayReturnBody s (traces s) t ended
+      → IsEvent shape words homes traces s (HomeBody t ended) words
+      (record homes { body = put homes.body t true; ended = put homes.ended t ended })
+  return_body_event ended kept seat task may =
+      body_home_event shape words homes traces s t ended
+      (return_body_possible shape words homes traces s kept seat t ended task may)
 
 -- a new table keeps the rule, whichever bodies have ended
 pub start_law : (shape : Shape) (mask : CpuMask) (ended : ℕ → Bool) → IsShape shape → ((c : ℕ) → HasCpu mask c ↔ (c < shape.cpus))
     → Kept shape (first_words shape) (record (first_homes shape mask) { ended = ended }) (λ s. [])
 start_law shape mask ended is_shape all =
+    let core = core_of shape (first_words shape) (record (first_homes shape mask) { ended = ended }) (λ s. []) in
+    let opening = first_is_opening shape mask ended all in
     record {
-      holds = start_holds shape mask ended is_shape all;
+      reached = reached_opening shape core is_shape opening;
+      holds = Holds-opening shape core is_shape opening;
       moving = moving_start shape;
       current = current_start (first_words shape);
       numbers = numbers_start (first_words shape);

@@ -9,14 +9,15 @@ use Rattle.word_rule.proofs.BodiesKept.{known_still}
 use Rattle.word_rule.proofs.GrownKept.{next_grown}
 use Rattle.word_rule.proofs.OffKept.{queue_task_off, dequeue_task_off, move_task_off}
 use Rattle.word_rule.proofs.Possible.{queue_possible, dequeue_possible, move_possible}
+use Rattle.word_rule.proofs.Quiet.{kept_after}
 use Rattle.word_rule.proofs.RunsKept.{queue_task_runs, dequeue_task_runs, move_task_runs}
 use Rattle.word_rule.proofs.StandingKept.{queue_task_standing, dequeue_task_standing, move_task_standing}
 use Rattle.word_rule.specs.Kept.{Kept}
 use Rattle.word_rule.specs.May.{MayQueueWord, MayDequeueWord, MayMoveWord, cpu_read_of}
 use Rattle.word_steps.proofs.CurrentKept.{queue_task_current, dequeue_task_current, move_task_current}
 use Rattle.word_steps.proofs.EndedKept.{ended_still, counts_put}
+use Rattle.word_steps.proofs.Events.{queue_task_event, dequeue_task_event, move_task_event}
 use Rattle.word_steps.proofs.ExclusivesKept.{exclusives_beside}
-use Rattle.word_steps.proofs.Keeps.{queue_task_keeps, dequeue_task_keeps, move_task_keeps}
 use Rattle.word_steps.proofs.MatchedKept.{matched_beside, grows_next}
 use Rattle.word_steps.proofs.MovingKept.{states_put}
 use Rattle.word_steps.proofs.MovingSteps.{queue_task_moves, dequeue_task_moves, move_task_moves}
@@ -24,6 +25,7 @@ use Rattle.word_steps.proofs.NumbersKept.{queue_task_numbers, dequeue_task_numbe
 use Rattle.word_steps.proofs.PutKept.{queue_task_put, dequeue_task_put, move_task_put}
 use Rattle.word_steps.proofs.QueuedKept.{queue_task_queued, dequeue_task_queued, move_task_queued}
 use Rattle.word_steps.specs.Decode.{Homes, core_of}
+use Rattle.word_steps.specs.Events.{IsEvent}
 use Rattle.word_steps.specs.Folds.{last_reads}
 use Rattle.word_steps.specs.Records.{Rec, Queued, Dequeued, Moved}
 use Rattle.word_steps.specs.Words.{RQ}
@@ -41,22 +43,31 @@ module _ (shape : Shape) (words : ℕ → ℕ → ℕ) (homes : Homes) (traces :
   abbrev m : ℕ
   m = words n RQ / 4
 
+  pub queue_is_event : n < shape.tasks → MayQueueWord s (traces s) n (words n RQ) y
+      → IsEvent shape words homes traces s (Queued n (cpu_read_of (traces s) n) (words n RQ % 4) (words n RQ / 4)) (put_at words n RQ y) homes
+  queue_is_event task may =
+      subst (λ (c : ℕ). IsEvent shape words homes traces s (Queued n c on m) (put_at words n RQ y) homes)
+      (read_of (traces s) n may.cpu may.read)
+      (queue_task_event shape words homes traces s may.cpu n y (omega (arith, may.after)) (omega (arith, may.after))
+      (queue_possible shape words homes traces s kept seat n y task may))
+
   pub queue_law : n < shape.tasks → MayQueueWord s (traces s) n (words n RQ) y
       → Kept shape (put_at words n RQ y) homes
       (put traces s (Queued n (cpu_read_of (traces s) n) (words n RQ % 4) (words n RQ / 4) ∷ traces s)) × Unit {0}
   queue_law task may = (
     subst (λ (c : ℕ). Kept shape (put_at words n RQ y) homes (put traces s (Queued n c on m ∷ traces s)))
         (read_of (traces s) n may.cpu may.read)
-        (kept_after may.cpu (omega (arith, may.after)) (omega (arith, may.after))
+        (by_core may.cpu (omega (arith, may.after)) (omega (arith, may.after))
         (queue_possible shape words homes traces s kept seat n y task may)),
     tt,
   )
     where
-      kept_after : (c : ℕ) → y % 4 ≡ 1 → y / 4 ≡ words n RQ / 4 + 1 → MayQueue (core_of shape words homes traces) s c n
+      by_core : (c : ℕ) → y % 4 ≡ 1 → y / 4 ≡ words n RQ / 4 + 1 → MayQueue (core_of shape words homes traces) s c n
           → Kept shape (put_at words n RQ y) homes (put traces s (Queued n c on m ∷ traces s))
-      kept_after c on_is next core =
-          record {
-            holds = queue_task_keeps shape words homes traces s c n y on_is next kept.holds core;
+      by_core c on_is next core =
+          kept_after shape words homes traces s kept (Queued n c on m) (put_at words n RQ y) homes
+          (queue_task_event shape words homes traces s c n y on_is next core)
+          (record {
             moving = queue_task_moves shape words homes traces s kept.moving c n y on_is core;
             current = queue_task_current words traces s kept.current c n on m y on_is;
             numbers = queue_task_numbers words traces s kept.numbers shape homes kept.holds c n on m y core;
@@ -74,21 +85,28 @@ module _ (shape : Shape) (words : ℕ → ℕ → ℕ) (homes : Homes) (traces :
             off = queue_task_off words traces s kept.off shape homes kept.holds c n on m y core;
             grown = next_grown words traces s kept.grown n y (Queued n c on m) next refl;
             known = known_still traces s kept.known (Queued n c on m) refl refl;
-          }
+          })
+
+  pub dequeue_is_event : n < shape.tasks → MayDequeueWord s (traces s) n (words n RQ) y
+      → IsEvent shape words homes traces s (Dequeued n s (words n RQ / 4)) (put_at words n RQ y) homes
+  dequeue_is_event task may =
+      dequeue_task_event shape words homes traces s s n y (omega (arith, may.after)) (omega (arith, may.after))
+      (dequeue_possible shape words homes traces s kept seat n y task may)
 
   pub dequeue_law : n < shape.tasks → MayDequeueWord s (traces s) n (words n RQ) y
       → Kept shape (put_at words n RQ y) homes (put traces s (Dequeued n s (words n RQ / 4) ∷ traces s)) × Unit {0}
   dequeue_law task may = (
-    kept_after (omega (arith, may.after)) (omega (arith, may.after))
+    by_core (omega (arith, may.after)) (omega (arith, may.after))
         (dequeue_possible shape words homes traces s kept seat n y task may),
     tt,
   )
     where
-      kept_after : y % 4 ≡ 0 → y / 4 ≡ words n RQ / 4 + 1 → MayDequeue (core_of shape words homes traces) s s n
+      by_core : y % 4 ≡ 0 → y / 4 ≡ words n RQ / 4 + 1 → MayDequeue (core_of shape words homes traces) s s n
           → Kept shape (put_at words n RQ y) homes (put traces s (Dequeued n s m ∷ traces s))
-      kept_after on_is next core =
-          record {
-            holds = dequeue_task_keeps shape words homes traces s s n y on_is next kept.holds core;
+      by_core on_is next core =
+          kept_after shape words homes traces s kept (Dequeued n s m) (put_at words n RQ y) homes
+          (dequeue_task_event shape words homes traces s s n y on_is next core)
+          (record {
             moving = dequeue_task_moves shape words homes traces s kept.moving s n y on_is core;
             current = dequeue_task_current words traces s kept.current shape homes kept.holds s n m y core;
             numbers = dequeue_task_numbers words traces s kept.numbers shape homes kept.holds s n m y core;
@@ -106,7 +124,15 @@ module _ (shape : Shape) (words : ℕ → ℕ → ℕ) (homes : Homes) (traces :
             off = dequeue_task_off words traces s kept.off shape homes kept.holds s n m y core;
             grown = next_grown words traces s kept.grown n y (Dequeued n s m) next refl;
             known = known_still traces s kept.known (Dequeued n s m) refl refl;
-          }
+          })
+
+  pub move_is_event : n < shape.tasks → MayMoveWord s (traces s) n (words n RQ) y
+      → IsEvent shape words homes traces s (Moved n (cpu_read_of (traces s) n) (words n RQ / 4)) (put_at words n RQ y) homes
+  move_is_event task may =
+      subst (λ (c : ℕ). IsEvent shape words homes traces s (Moved n c m) (put_at words n RQ y) homes)
+      (read_of (traces s) n may.cpu may.read)
+      (move_task_event shape words homes traces s may.cpu n y may.taken (omega (arith, may.after)) (omega (arith, may.after))
+      (move_possible shape words homes traces s kept seat n y task may))
 
   pub move_law : n < shape.tasks → MayMoveWord s (traces s) n (words n RQ) y
       → Kept shape (put_at words n RQ y) homes
@@ -114,17 +140,18 @@ module _ (shape : Shape) (words : ℕ → ℕ → ℕ) (homes : Homes) (traces :
   move_law task may = (
     subst (λ (c : ℕ). Kept shape (put_at words n RQ y) homes (put traces s (Moved n c m ∷ traces s)))
         (read_of (traces s) n may.cpu may.read)
-        (kept_after may.cpu may.taken (omega (arith, may.after)) (omega (arith, may.after))
+        (by_core may.cpu may.taken (omega (arith, may.after)) (omega (arith, may.after))
         (move_possible shape words homes traces s kept seat n y task may)),
     tt,
   )
     where
-      kept_after : (c : ℕ) (q : Queue) → y % 4 ≡ 2 → y / 4 ≡ words n RQ / 4 + 1
+      by_core : (c : ℕ) (q : Queue) → y % 4 ≡ 2 → y / 4 ≡ words n RQ / 4 + 1
           → MayMove (core_of shape words homes traces) s c n q
           → Kept shape (put_at words n RQ y) homes (put traces s (Moved n c m ∷ traces s))
-      kept_after c q on_is next core =
-          record {
-            holds = move_task_keeps shape words homes traces s c n y q on_is next kept.holds core;
+      by_core c q on_is next core =
+          kept_after shape words homes traces s kept (Moved n c m) (put_at words n RQ y) homes
+          (move_task_event shape words homes traces s c n y q on_is next core)
+          (record {
             moving = move_task_moves shape words homes traces s kept.moving c n y q on_is core;
             current = move_task_current words traces s kept.current shape homes kept.holds c n m y q core;
             numbers = move_task_numbers words traces s kept.numbers shape homes kept.holds c n m y q core;
@@ -142,4 +169,4 @@ module _ (shape : Shape) (words : ℕ → ℕ → ℕ) (homes : Homes) (traces :
             off = move_task_off words traces s kept.off shape homes kept.holds c n m y q core;
             grown = next_grown words traces s kept.grown n y (Moved n c m) next refl;
             known = known_still traces s kept.known (Moved n c m) refl refl;
-          }
+          })

@@ -1,8 +1,10 @@
--- Steps that change little of what stands beside the invariant: what else they have to show to keep the rule.
+-- The rule is kept by one lemma, `kept_after`, on which the law of each kind of step builds. A sentence of `Kept` that few
+-- steps touch has a lemma of its own over any event, and a line here; one that many touch stands in `Touched`. Then steps
+-- that change little of what stands beside the invariant: what else they have to show.
 use Rattle.std.proofs.Common.{◌≡◌, ◌≢◌, ℕ, ◌<◌, List, ◌∷◌, sym, subst, arith}
 use Rattle.std.specs.Prelude.{◌^◌, Bool, true, Option}
 use Rattle.core_data.specs.Table.{put, put_at}
-use Rattle.core_invariant.specs.Invariant.{Holds}
+use Rattle.core_law.proofs.Reached.{Holds-step, reached_step}
 use Rattle.handoff_data.specs.declared.shape.Shape.{Shape}
 use Rattle.word_rule.proofs.BodiesKept.{known_still}
 use Rattle.word_rule.proofs.GrownKept.{grown_beside, grown_still}
@@ -11,7 +13,7 @@ use Rattle.word_rule.proofs.RunsKept.{runs_still}
 use Rattle.word_rule.proofs.StandingKept.{standing_beside, standing_still}
 use Rattle.word_rule.specs.Bodies.{BodiesKnown}
 use Rattle.word_rule.specs.Kept.{Kept}
-use Rattle.word_rule.specs.Standing.{RunsHold, standing, may_run}
+use Rattle.word_rule.specs.Standing.{StandingHolds, RunsHold, OffHolds, GrownHolds, standing, may_run}
 use Rattle.word_steps.proofs.CurrentKept.{current_quiet, current_still}
 use Rattle.word_steps.proofs.EndedKept.{ended_still, counts_put}
 use Rattle.word_steps.proofs.MatchedKept.{matched_beside, grows_beside, matched_still}
@@ -20,8 +22,9 @@ use Rattle.word_steps.proofs.MovingSteps.{moving_beside, moving_still}
 use Rattle.word_steps.proofs.NumbersKept.{numbers_beside, numbers_still}
 use Rattle.word_steps.proofs.PutKept.{put_beside, put_still}
 use Rattle.word_steps.proofs.QueuedKept.{queued_beside, queued_still}
-use Rattle.word_steps.specs.Beside.{CurrentHolds, EndedHolds}
-use Rattle.word_steps.specs.Decode.{Homes, core_after}
+use Rattle.word_steps.specs.Beside.{MovingHolds, CurrentHolds, NumbersHold, MatchedHolds, QueuedHolds, PutHolds, EndedHolds, CountsZero, StatesFit}
+use Rattle.word_steps.specs.Decode.{Homes, core_of, core_after}
+use Rattle.word_steps.specs.Events.{IsEvent}
 use Rattle.word_steps.specs.Exclusives.{ExclusivesHold}
 use Rattle.word_steps.specs.Folds.{moving_after, current_task, stays_queued, number_after, number_read, is_matched_by, saw_queued, has_put, ended_known, body_held, saw_off}
 use Rattle.word_steps.specs.Records.{Rec}
@@ -100,21 +103,65 @@ wait_beside = record {
   count = λ e. omega (arith, e);
 }
 
+-- the sentences that steps of many kinds touch, which each kind shows for itself
+pub record Touched (words : ℕ → ℕ → ℕ) (homes : Homes) (traces : ℕ → List Rec) : Type 0 where
+  pub moving : MovingHolds words traces
+  pub current : CurrentHolds words traces
+  pub numbers : NumbersHold words traces
+  pub matched : MatchedHolds words traces
+  pub queued : QueuedHolds words traces
+  pub exclusives : ExclusivesHold words homes.wait traces
+  pub put_there : PutHolds words traces
+  pub ended : EndedHolds homes.ended traces
+  pub counts : CountsZero words
+  pub states : StatesFit words
+  pub standing : StandingHolds words traces
+  pub runs : RunsHold words traces
+  pub off : OffHolds words traces
+  pub grown : GrownHolds words traces
+  pub known : BodiesKnown traces
+
+module _ (shape : Shape) (words : ℕ → ℕ → ℕ) (homes : Homes) (traces : ℕ → List Rec) (s : ℕ) (kept : Kept shape words homes traces) where
+  -- the rule after an event: the core is reached, the sentences that are touched hold, and so does each that isn't
+  pub kept_after : (r : Rec) (words' : ℕ → ℕ → ℕ) (homes' : Homes) → IsEvent shape words homes traces s r words' homes'
+      → Touched words' homes' (put traces s (r ∷ traces s)) → Kept shape words' homes' (put traces s (r ∷ traces s))
+  kept_after r words' homes' event touched =
+      record {
+        reached = reached_step (core_of shape words homes traces) (record { seat = s; step = event.kind })
+            (core_after shape words' homes' traces s r) kept.reached event.event;
+        holds = Holds-step (core_of shape words homes traces) (record { seat = s; step = event.kind })
+            (core_after shape words' homes' traces s r) kept.holds event.event;
+        moving = touched.moving;
+        current = touched.current;
+        numbers = touched.numbers;
+        matched = touched.matched;
+        queued = touched.queued;
+        exclusives = touched.exclusives;
+        put_there = touched.put_there;
+        ended = touched.ended;
+        counts = touched.counts;
+        states = touched.states;
+        standing = touched.standing;
+        runs = touched.runs;
+        off = touched.off;
+        grown = touched.grown;
+        known = touched.known;
+      }
+
 module _ (shape : Shape) (words : ℕ → ℕ → ℕ) (homes homes' : Homes) (traces : ℕ → List Rec) (s : ℕ) where
   -- a step on a word of such a column
   pub beside_kept : Kept shape words homes traces → (n c x : ℕ) (r : Rec) → IsBeside c → (c ≡ STATE → x < 2 ^ 16)
       → IsQuiet r (traces s) → ExclusivesHold (put_at words n c x) homes'.wait (put traces s (r ∷ traces s))
-      → Holds (core_after shape (put_at words n c x) homes' traces s r)
+      → IsEvent shape words homes traces s r (put_at words n c x) homes'
       → CurrentHolds (put_at words n c x) (put traces s (r ∷ traces s))
       → EndedHolds homes'.ended (put traces s (r ∷ traces s))
       → RunsHold (put_at words n c x) (put traces s (r ∷ traces s))
       → BodiesKnown (put traces s (r ∷ traces s))
       → Kept shape (put_at words n c x) homes' (put traces s (r ∷ traces s))
-  beside_kept kept n c x r at small quiet exclusives holds current ended runs known =
+  beside_kept kept n c x r at small quiet exclusives event current ended runs known =
       let numbers = quiet.numbers (number_read (traces s)) in
       let grows = grows_beside words traces s kept.matched n c x at.rq in
-      record {
-        holds = holds;
+      kept_after shape words homes traces s kept r (put_at words n c x) homes' event (record {
         moving = moving_beside shape words homes traces s kept.moving n c x r at.lock at.rq quiet.moving;
         current = current;
         numbers = numbers_beside words traces s kept.numbers n c x r at.lock at.rq quiet.numbers;
@@ -130,19 +177,19 @@ module _ (shape : Shape) (words : ℕ → ℕ → ℕ) (homes homes' : Homes) (t
         off = off_beside words traces s kept.off n c x r at.lock at.rq quiet.off numbers;
         grown = grown_beside words traces s kept.grown n c x r at.rq numbers;
         known = known;
-      }
+      })
 
   -- .. that changes neither the current task nor a body
   pub quiet_beside : Kept shape words homes traces → homes'.ended ≡ homes.ended → (n c x : ℕ) (r : Rec) → IsBeside c
       → (c ≡ STATE → x < 2 ^ 16) → IsQuiet r (traces s) → IsSteady r (traces s) → IsOutside r (traces s)
       → ExclusivesHold (put_at words n c x) homes'.wait (put traces s (r ∷ traces s))
-      → Holds (core_after shape (put_at words n c x) homes' traces s r)
+      → IsEvent shape words homes traces s r (put_at words n c x) homes'
       → RunsHold (put_at words n c x) (put traces s (r ∷ traces s))
       → Kept shape (put_at words n c x) homes' (put traces s (r ∷ traces s))
-  quiet_beside kept same n c x r at small quiet steady outside exclusives holds runs =
+  quiet_beside kept same n c x r at small quiet steady outside exclusives event runs =
       let before : EndedHolds homes'.ended traces
       = subst (λ (f : ℕ → Bool). EndedHolds f traces) (sym same) kept.ended in
-      beside_kept kept n c x r at small quiet exclusives holds
+      beside_kept kept n c x r at small quiet exclusives event
       (current_quiet words traces s kept.current n c x r at.rq steady.current steady.stays)
       (ended_still homes'.ended traces s before r steady.current outside.ended)
       runs
@@ -152,13 +199,12 @@ module _ (shape : Shape) (words : ℕ → ℕ → ℕ) (homes homes' : Homes) (t
   pub still_kept : Kept shape words homes traces → (r : Rec) → IsQuiet r (traces s) → IsSteady r (traces s)
       → may_run s (r ∷ traces s) ≡ may_run s (traces s)
       → ExclusivesHold words homes'.wait (put traces s (r ∷ traces s))
-      → Holds (core_after shape words homes' traces s r)
+      → IsEvent shape words homes traces s r words homes'
       → EndedHolds homes'.ended (put traces s (r ∷ traces s))
       → BodiesKnown (put traces s (r ∷ traces s))
       → Kept shape words homes' (put traces s (r ∷ traces s))
-  still_kept kept r quiet steady same exclusives holds ended known =
-      record {
-        holds = holds;
+  still_kept kept r quiet steady same exclusives event ended known =
+      kept_after shape words homes traces s kept r words homes' event (record {
         moving = moving_still shape words homes traces s kept.moving r quiet.moving;
         current = current_still words traces s kept.current r steady.current steady.stays;
         numbers = numbers_still words traces s kept.numbers r quiet.numbers;
@@ -174,4 +220,4 @@ module _ (shape : Shape) (words : ℕ → ℕ → ℕ) (homes homes' : Homes) (t
         off = off_still words traces s kept.off r quiet.off (quiet.numbers (number_read (traces s)));
         grown = grown_still words traces s kept.grown r (quiet.numbers (number_read (traces s)));
         known = known;
-      }
+      })

@@ -5,8 +5,7 @@ use Rattle.std.specs.Prelude.{◌/◌, ◌%◌, ◌^◌, ◌⊎◌, true, Some, 
 use Rattle.std.proofs.lemmas.Bool.Decides.{nat_tests}
 use Rattle.core_data.specs.Queue.{Queue}
 use Rattle.core_data.specs.Table.{put, put_at}
-use Rattle.core_invariant.specs.Invariant.{Holds}
-use Rattle.core_kinds.specs.Running.{MaySetBusy, MayClearBusy}
+use Rattle.core_kinds.specs.Running.{MaySetBusy}
 use Rattle.core_kinds.specs.Steps.{is_sleep, dead, running}
 use Rattle.core_kinds.specs.Waking.{MayStoreCpu}
 use Rattle.handoff_data.specs.declared.shape.Shape.{Shape}
@@ -16,7 +15,7 @@ use Rattle.word_rule.proofs.GrownKept.{grown_beside}
 use Rattle.word_rule.proofs.OffKept.{off_beside, renewed}
 use Rattle.word_rule.proofs.Possible.{next_queue, set_busy_possible, clear_busy_possible, own_state_possible, claim_possible, release_possible, store_cpu_possible}
 use Rattle.word_rule.proofs.PossibleGives.{claim_number}
-use Rattle.word_rule.proofs.Quiet.{IsQuiet, IsSteady, IsOutside, beside_kept, quiet_beside, state_beside, busy_beside, cond_beside}
+use Rattle.word_rule.proofs.Quiet.{IsQuiet, IsSteady, IsOutside, kept_after, beside_kept, quiet_beside, state_beside, busy_beside, cond_beside}
 use Rattle.word_rule.proofs.RunsKept.{runs_beside, set_busy_runs, own_state_runs, claim_runs, release_runs, store_cpu_runs}
 use Rattle.word_rule.proofs.StandingKept.{store_cpu_standing}
 use Rattle.word_rule.specs.Kept.{Kept}
@@ -24,15 +23,16 @@ use Rattle.word_rule.specs.May.{MaySetBusyWord, MayClearBusyWord, MayOwnWord, Ma
 use Rattle.word_rule.specs.Standing.{RunsHold}
 use Rattle.word_steps.proofs.CurrentKept.{current_quiet, set_busy_current}
 use Rattle.word_steps.proofs.EndedKept.{ended_still, set_busy_ended, counts_put}
+use Rattle.word_steps.proofs.Events.{bump_event, set_busy_event, clear_busy_event, own_state_event, claim_event, release_event, store_cpu_event}
 use Rattle.word_steps.proofs.ExclusivesKept.{exclusives_beside, exclusives_state, set_busy_exclusives, own_state_exclusives, store_cpu_exclusives}
-use Rattle.word_steps.proofs.Keeps.{bump_keeps, set_busy_keeps, clear_busy_keeps, own_state_keeps, claim_keeps, release_keeps, store_cpu_keeps}
 use Rattle.word_steps.proofs.MatchedKept.{matched_beside, grows_beside}
 use Rattle.word_steps.proofs.MovingKept.{states_put}
 use Rattle.word_steps.proofs.MovingSteps.{moving_beside}
 use Rattle.word_steps.proofs.NumbersKept.{numbers_beside}
 use Rattle.word_steps.proofs.PutKept.{store_cpu_put}
 use Rattle.word_steps.proofs.QueuedKept.{store_cpu_queued}
-use Rattle.word_steps.specs.Decode.{Homes, core_of, core_after}
+use Rattle.word_steps.specs.Decode.{Homes, core_of}
+use Rattle.word_steps.specs.Events.{IsEvent}
 use Rattle.word_steps.specs.Exclusives.{ExclusivesHold}
 use Rattle.word_steps.specs.Folds.{body_held, task_held, ended_known}
 use Rattle.word_steps.specs.Records.{Rec, SetBusy, ClearedBusy, StoredOwn, Claimed, Released, StoredCpu, Bumped}
@@ -46,6 +46,12 @@ module _ (shape : Shape) (words : ℕ → ℕ → ℕ) (homes : Homes) (traces :
     (kept : Kept shape words homes traces) (seat : s < shape.cpus + shape.agents) where
   abbrev bump_note : Rec
   bump_note = Bumped n (words n COND)
+
+  pub bump_is_event : n < shape.conds → y ≡ (words n COND + 1) % 2 ^ 64
+      → IsEvent shape words homes traces s (Bumped n (words n COND)) (put_at words n COND y) homes
+  bump_is_event condition after =
+      subst (λ (z : ℕ). IsEvent shape words homes traces s bump_note (put_at words n COND z) homes) (sym after)
+      (bump_event shape words homes traces s n (record { seat = seat; condition = condition }))
 
   pub bump_law : n < shape.conds → y ≡ (words n COND + 1) % 2 ^ 64
       → Kept shape (put_at words n COND y) homes (put traces s (Bumped n (words n COND) ∷ traces s)) × Unit {0}
@@ -66,13 +72,19 @@ module _ (shape : Shape) (words : ℕ → ℕ → ℕ) (homes : Homes) (traces :
         (record { current = λ j. refl; stays = refl }) (record { ended = refl; body = refl })
         (exclusives_beside words homes.wait traces s kept.exclusives n COND ((words n COND + 1) % 2 ^ 64) bump_note
         (λ e. omega (arith, e)) (λ e. omega (arith, e)) (λ t k e. e) refl refl)
-        (bump_keeps shape words homes traces s n kept.holds (record { seat = seat; condition = condition }))
+        (bump_event shape words homes traces s n (record { seat = seat; condition = condition }))
         (runs_beside words traces s kept.runs n COND ((words n COND + 1) % 2 ^ 64) bump_note
         cond_beside.queue cond_beside.cpu cond_beside.rq (λ e. omega (arith, e)) refl refl)),
     tt,
   )
 
   -- The busy word
+
+  pub set_busy_is_event : n < shape.tasks → MaySetBusyWord s (traces s) n (words n BUSY) y
+      → IsEvent shape words homes traces s (SetBusy n s (words n BUSY / 2)) (put_at words n BUSY y) homes
+  set_busy_is_event task may =
+      set_busy_event shape words homes traces s s n y (next_queue may.taken n) (omega (arith, may.after)) (omega (arith, may.after))
+      (set_busy_possible shape words homes traces s kept seat n y task may)
 
   pub set_busy_law : n < shape.tasks → MaySetBusyWord s (traces s) n (words n BUSY) y
       → Kept shape (put_at words n BUSY y) homes (put traces s (SetBusy n s (words n BUSY / 2) ∷ traces s)) × Unit {0}
@@ -98,8 +110,8 @@ module _ (shape : Shape) (words : ℕ → ℕ → ℕ) (homes : Homes) (traces :
           })
           (set_busy_exclusives words homes.wait traces s kept.exclusives n s (words n BUSY / 2) y BUSY
           (λ e. omega (arith, e)) (λ e. omega (arith, e)))
-          (set_busy_keeps shape words homes traces s s n y q (omega (arith, may.after))
-          (omega (arith, may.after)) kept.holds core)
+          (set_busy_event shape words homes traces s s n y q (omega (arith, may.after))
+          (omega (arith, may.after)) core)
           (set_busy_current words traces s kept.current shape homes kept.holds s n (words n BUSY / 2) y q core)
           (set_busy_ended homes.ended traces s kept.ended n s (words n BUSY / 2))
           (set_busy_runs words traces s kept.runs shape homes s n (words n BUSY / 2) y q core)
@@ -108,49 +120,58 @@ module _ (shape : Shape) (words : ℕ → ℕ → ℕ) (homes : Homes) (traces :
   abbrev clear_note : Rec
   clear_note = ClearedBusy n (words n BUSY / 2)
 
+  -- the busy word that is to be cleared is set
+  left_busy : MayClearBusyWord s (traces s) n (words n BUSY) y → words n BUSY % 2 ≡ 1
+  left_busy may = let busy = kept.holds.busy.runner.left_busy s n may.left in grind (arith, nat_tests, busy)
+
+  pub clear_busy_is_event : n < shape.tasks → MayClearBusyWord s (traces s) n (words n BUSY) y
+      → IsEvent shape words homes traces s (ClearedBusy n (words n BUSY / 2)) (put_at words n BUSY y) homes
+  clear_busy_is_event task may =
+      let core = clear_busy_possible shape words homes traces s kept seat n y task may in
+      let next = busy_next (words n BUSY) y (left_busy may) core.room may.after in
+      clear_busy_event shape words homes traces s n y next.0 next.1 core
+
   pub clear_busy_law : n < shape.tasks → MayClearBusyWord s (traces s) n (words n BUSY) y
       → Kept shape (put_at words n BUSY y) homes (put traces s (ClearedBusy n (words n BUSY / 2) ∷ traces s))
       × ((words n BUSY % 2 ≡ 1) × (words n BUSY / 2 < 2 ^ 60))
-  clear_busy_law task may = (kept_after, (odd, core.room))
-    where
-      core : MayClearBusy (core_of shape words homes traces) s n
-      core = clear_busy_possible shape words homes traces s kept seat n y task may
-
-      odd : words n BUSY % 2 ≡ 1
-      odd = let busy = kept.holds.busy.runner.left_busy s n may.left in grind (arith, nat_tests, busy)
-
-      kept_after : Kept shape (put_at words n BUSY y) homes (put traces s (ClearedBusy n (words n BUSY / 2) ∷ traces s))
-      kept_after =
-          let next = busy_next (words n BUSY) y odd core.room may.after in
-          quiet_beside shape words homes homes traces s kept refl n BUSY y clear_note busy_beside
-          (λ e. absurd (omega (arith, e)))
-          (record {
-            moving = λ h. refl;
-            numbers = λ h. refl;
-            matched = refl;
-            queued = λ c t e. e;
-            put_there = refl;
-            standing = refl;
-            off = renewed words traces s kept.off n;
-          })
-          (record { current = λ j. refl; stays = refl }) (record { ended = refl; body = refl })
-          (exclusives_beside words homes.wait traces s kept.exclusives n BUSY y clear_note
-          (λ e. omega (arith, e)) (λ e. omega (arith, e)) (λ t k e. e) refl refl)
-          (clear_busy_keeps shape words homes traces s n y next.0 next.1 kept.holds core)
-          (runs_beside words traces s kept.runs n BUSY y clear_note busy_beside.queue busy_beside.cpu busy_beside.rq
-          (λ e. omega (arith, e)) refl refl)
+  clear_busy_law task may = (
+    quiet_beside shape words homes homes traces s kept refl n BUSY y clear_note busy_beside
+        (λ e. absurd (omega (arith, e)))
+        (record {
+          moving = λ h. refl;
+          numbers = λ h. refl;
+          matched = refl;
+          queued = λ c t e. e;
+          put_there = refl;
+          standing = refl;
+          off = renewed words traces s kept.off n;
+        })
+        (record { current = λ j. refl; stays = refl }) (record { ended = refl; body = refl })
+        (exclusives_beside words homes.wait traces s kept.exclusives n BUSY y clear_note
+        (λ e. omega (arith, e)) (λ e. omega (arith, e)) (λ t k e. e) refl refl)
+        (clear_busy_is_event task may)
+        (runs_beside words traces s kept.runs n BUSY y clear_note busy_beside.queue busy_beside.cpu busy_beside.rq
+        (λ e. omega (arith, e)) refl refl),
+    (left_busy may, (clear_busy_possible shape words homes traces s kept seat n y task may).room),
+  )
 
   -- The state
 
   -- a store of it that tells nothing new of what stands beside the invariant
   quiet_state : (x : ℕ) (r : Rec) → x < 2 ^ 16 → IsQuiet r (traces s) → IsSteady r (traces s) → IsOutside r (traces s)
       → ExclusivesHold (put_at words n STATE x) homes.wait (put traces s (r ∷ traces s))
-      → Holds (core_after shape (put_at words n STATE x) homes traces s r)
+      → IsEvent shape words homes traces s r (put_at words n STATE x) homes
       → RunsHold (put_at words n STATE x) (put traces s (r ∷ traces s))
       → Kept shape (put_at words n STATE x) homes (put traces s (r ∷ traces s))
-  quiet_state x r small quiet steady outside exclusives holds runs =
+  quiet_state x r small quiet steady outside exclusives event runs =
       quiet_beside shape words homes homes traces s kept refl n STATE x r state_beside
-      (λ e. small) quiet steady outside exclusives holds runs
+      (λ e. small) quiet steady outside exclusives event runs
+
+  pub own_state_is_event : n < shape.tasks → MayOwnWord s (traces s) n (words n STATE) y
+      → IsEvent shape words homes traces s (StoredOwn n (record { 0 = y })) (put_at words n STATE y) homes
+  own_state_is_event task may =
+      own_state_event shape words homes traces s n (record { 0 = y })
+      (own_state_possible shape words homes traces s kept seat n y task may)
 
   pub own_state_law : n < shape.tasks → MayOwnWord s (traces s) n (words n STATE) y
       → Kept shape (put_at words n STATE y) homes (put traces s (StoredOwn n (record { 0 = y }) ∷ traces s)) × Unit {0}
@@ -168,7 +189,7 @@ module _ (shape : Shape) (words : ℕ → ℕ → ℕ) (homes : Homes) (traces :
             })
             (record { current = λ j. refl; stays = refl }) (record { ended = refl; body = refl })
             (own_state_exclusives words homes.wait traces s kept.exclusives shape homes kept.holds n y may.current)
-            (own_state_keeps shape words homes traces s n (record { 0 = y }) kept.holds core)
+            (own_state_event shape words homes traces s n (record { 0 = y }) core)
             (own_state_runs words traces s kept.runs shape homes n (record { 0 = y }) core),
         tt,
       )
@@ -179,6 +200,15 @@ module _ (shape : Shape) (words : ℕ → ℕ → ℕ) (homes : Homes) (traces :
       narrow (inl runs) = let same = ap (λ (x : State). x.0) runs in omega (arith, same)
       narrow (inr (inl sleeps)) = grind (arith, nat_tests, sleeps)
       narrow (inr (inr dies)) = let same = ap (λ (x : State). x.0) dies.0 in omega (arith, same)
+
+  pub claim_is_event : n < shape.tasks → MayClaimWord s (traces s) n (words n STATE) y
+      → IsEvent shape words homes traces s (Claimed n (number_of (traces s) n)) (put_at words n STATE y) homes
+  claim_is_event task may =
+      subst (λ (m : ℕ). IsEvent shape words homes traces s (Claimed n m) (put_at words n STATE y) homes)
+      (claim_number shape words homes traces s kept seat n y may)
+      (subst (λ (z : ℕ). IsEvent shape words homes traces s (Claimed n (words n RQ / 4)) (put_at words n STATE z) homes)
+      (sym may.after)
+      (claim_event shape words homes traces s n (claim_possible shape words homes traces s kept seat n y task may)))
 
   pub claim_law : n < shape.tasks → MayClaimWord s (traces s) n (words n STATE) y
       → Kept shape (put_at words n STATE y) homes
@@ -208,8 +238,14 @@ module _ (shape : Shape) (words : ℕ → ℕ → ℕ) (homes : Homes) (traces :
           (record { current = λ j. refl; stays = refl }) (record { ended = refl; body = refl })
           (exclusives_state words homes.wait traces s kept.exclusives n 0x200 (Claimed n (words n RQ / 4)) (λ t k e. e) refl
           refl (λ k e sleeps. absurd (grind (arith, nat_tests, e))))
-          (claim_keeps shape words homes traces s n kept.holds core)
+          (claim_event shape words homes traces s n core)
           (claim_runs words traces s kept.runs shape homes kept.holds n (words n RQ / 4) core)
+
+  pub release_is_event : n < shape.tasks → MayReleaseWord s (traces s) n (words n STATE) y
+      → IsEvent shape words homes traces s (Released n) (put_at words n STATE y) homes
+  release_is_event task may =
+      subst (λ (z : ℕ). IsEvent shape words homes traces s (Released n) (put_at words n STATE z) homes) (sym may.after)
+      (release_event shape words homes traces s n (release_possible shape words homes traces s kept seat n y task may))
 
   pub release_law : n < shape.tasks → MayReleaseWord s (traces s) n (words n STATE) y
       → Kept shape (put_at words n STATE y) homes (put traces s (Released n ∷ traces s)) × Unit {0}
@@ -230,35 +266,40 @@ module _ (shape : Shape) (words : ℕ → ℕ → ℕ) (homes : Homes) (traces :
             (record { current = λ j. refl; stays = refl }) (record { ended = refl; body = refl })
             (exclusives_state words homes.wait traces s kept.exclusives n 0 (Released n) (λ t k e. e) refl refl
             (λ k e sleeps. absurd (grind (arith, nat_tests, e))))
-            (release_keeps shape words homes traces s n kept.holds core)
+            (release_event shape words homes traces s n core)
             (release_runs words traces s kept.runs shape homes kept.holds n kept.put_there)),
         tt,
       )
 
   -- The processor word
 
+  pub store_cpu_is_event : n < shape.tasks → MayCpuWord s (traces s) shape n (words n CPU) y
+      → IsEvent shape words homes traces s (StoredCpu n y) (put_at words n CPU y) homes
+  store_cpu_is_event task may =
+      store_cpu_event shape words homes traces s n y (store_cpu_possible shape words homes traces s kept seat n y task may)
+
   pub store_cpu_law : n < shape.tasks → MayCpuWord s (traces s) shape n (words n CPU) y
       → Kept shape (put_at words n CPU y) homes (put traces s (StoredCpu n y ∷ traces s)) × Unit {0}
   store_cpu_law task may = (
-    record {
-      holds = store_cpu_keeps shape words homes traces s n y kept.holds core;
-      moving = moving_beside shape words homes traces s kept.moving n CPU y (StoredCpu n y) lock rq (λ h. refl);
-      current = current_quiet words traces s kept.current n CPU y (StoredCpu n y) rq (λ j. refl) refl;
-      numbers = numbers_beside words traces s kept.numbers n CPU y (StoredCpu n y) lock rq (λ h. refl);
-      matched = matched_beside words traces s kept.matched n CPU y (StoredCpu n y) lock
-          (grows_beside words traces s kept.matched n CPU y rq) refl;
-      queued = store_cpu_queued words traces s kept.queued shape homes n y core;
-      exclusives = store_cpu_exclusives words homes.wait traces s kept.exclusives shape homes kept.holds n y core.placeable;
-      put_there = store_cpu_put words traces s kept.put_there shape homes kept.holds n y core;
-      ended = ended_still homes.ended traces s kept.ended (StoredCpu n y) (λ j. refl) refl;
-      counts = counts_put words n CPU y kept.counts (λ e. omega (arith, e));
-      states = states_put words n CPU y kept.states (λ e. absurd (omega (arith, e)));
-      standing = store_cpu_standing words traces s kept.standing shape homes kept.holds n y core;
-      runs = store_cpu_runs words traces s kept.runs shape homes kept.holds n y core;
-      off = off_beside words traces s kept.off n CPU y (StoredCpu n y) lock rq (renewed words traces s kept.off n) refl;
-      grown = grown_beside words traces s kept.grown n CPU y (StoredCpu n y) rq refl;
-      known = known_still traces s kept.known (StoredCpu n y) refl refl;
-    },
+    kept_after shape words homes traces s kept (StoredCpu n y) (put_at words n CPU y) homes
+        (store_cpu_event shape words homes traces s n y core) (record {
+          moving = moving_beside shape words homes traces s kept.moving n CPU y (StoredCpu n y) lock rq (λ h. refl);
+          current = current_quiet words traces s kept.current n CPU y (StoredCpu n y) rq (λ j. refl) refl;
+          numbers = numbers_beside words traces s kept.numbers n CPU y (StoredCpu n y) lock rq (λ h. refl);
+          matched = matched_beside words traces s kept.matched n CPU y (StoredCpu n y) lock
+              (grows_beside words traces s kept.matched n CPU y rq) refl;
+          queued = store_cpu_queued words traces s kept.queued shape homes n y core;
+          exclusives = store_cpu_exclusives words homes.wait traces s kept.exclusives shape homes kept.holds n y core.placeable;
+          put_there = store_cpu_put words traces s kept.put_there shape homes kept.holds n y core;
+          ended = ended_still homes.ended traces s kept.ended (StoredCpu n y) (λ j. refl) refl;
+          counts = counts_put words n CPU y kept.counts (λ e. omega (arith, e));
+          states = states_put words n CPU y kept.states (λ e. absurd (omega (arith, e)));
+          standing = store_cpu_standing words traces s kept.standing shape homes kept.holds n y core;
+          runs = store_cpu_runs words traces s kept.runs shape homes kept.holds n y core;
+          off = off_beside words traces s kept.off n CPU y (StoredCpu n y) lock rq (renewed words traces s kept.off n) refl;
+          grown = grown_beside words traces s kept.grown n CPU y (StoredCpu n y) rq refl;
+          known = known_still traces s kept.known (StoredCpu n y) refl refl;
+        }),
     tt,
   )
     where

@@ -1,6 +1,7 @@
 -- What words, values at home and traces keep between any two steps.
 use Rattle.std.specs.Prelude.{ℕ, List}
 use Rattle.core_invariant.specs.Invariant.{Holds}
+use Rattle.core_law.specs.Reached.{IsReached}
 use Rattle.handoff_data.specs.declared.shape.Shape.{Shape}
 use Rattle.word_rule.specs.Bodies.{BodiesKnown}
 use Rattle.word_rule.specs.Standing.{StandingHolds, RunsHold, OffHolds, GrownHolds}
@@ -9,8 +10,10 @@ use Rattle.word_steps.specs.Decode.{Homes, core_of}
 use Rattle.word_steps.specs.Exclusives.{ExclusivesHold}
 use Rattle.word_steps.specs.Records.{Rec}
 
--- the invariant of the core that they show, and what stands beside it
+-- the core that they show is one that a machine comes to, so each law of such cores holds of it, and the invariant; and
+-- what stands beside it
 pub record Kept (shape : Shape) (words : ℕ → ℕ → ℕ) (homes : Homes) (traces : ℕ → List Rec) : Type 0 where
+  pub reached : IsReached (core_of shape words homes traces)
   pub holds : Holds (core_of shape words homes traces)
   pub moving : MovingHolds words traces
   pub current : CurrentHolds words traces

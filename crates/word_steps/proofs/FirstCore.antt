@@ -10,11 +10,9 @@ use Rattle.core_data.specs.declared.words.CondWords.{CondWords}
 use Rattle.core_data.specs.declared.words.CpuWords.{CpuWords}
 use Rattle.core_data.specs.declared.words.TaskWords.{TaskWords}
 use Rattle.core_data.specs.declared.words.Phase.TheVariants.{Live}
-use Rattle.core_invariant.specs.Invariant.{Holds}
-use Rattle.core_law.proofs.Kept.{Holds-start}
+use Rattle.core_law.specs.Reached.{IsOpening}
 use Rattle.core_locks.proofs.Rows.{word_there}
 use Rattle.handoff_data.specs.Mask.{HasCpu}
-use Rattle.handoff_data.specs.Shape.{IsShape}
 use Rattle.handoff_data.specs.declared.mask.CpuMask.{CpuMask}
 use Rattle.handoff_data.specs.declared.shape.Shape.{Shape}
 use Rattle.word_steps.proofs.Rows.{seat_row, word_row, table_path}
@@ -131,9 +129,11 @@ seats_are shape mask s = λ i. record {
   journal = column_is (λ b. []) journal_of [] (shape.cpus + shape.agents) first_seat s refl refl i;
 }
 
-pub first_is_start : (shape : Shape) (mask : CpuMask) → ((c : ℕ) → HasCpu mask c ↔ (c < shape.cpus)) → IsStart shape (first_core shape mask)
+first_is_start : (shape : Shape) (mask : CpuMask) → ((c : ℕ) → HasCpu mask c ↔ (c < shape.cpus)) → IsStart shape (first_core shape mask)
 first_is_start shape mask all = record { mask = mask; all = all; rows = table_path (first_core shape mask) (opening shape mask) (words_are shape mask) (seats_are shape mask) }
 
-pub first_holds : (shape : Shape) (mask : CpuMask) → IsShape shape → ((c : ℕ) → HasCpu mask c ↔ (c < shape.cpus))
-    → Holds (core_of shape (first_words shape) (first_homes shape mask) (λ s. []))
-first_holds shape mask is_shape all = Holds-start shape (first_core shape mask) is_shape (first_is_start shape mask all)
+-- .. and an opening core, whichever bodies have ended
+pub first_is_opening : (shape : Shape) (mask : CpuMask) (ended : ℕ → Bool) → ((c : ℕ) → HasCpu mask c ↔ (c < shape.cpus))
+    → IsOpening shape (core_of shape (first_words shape) (record (first_homes shape mask) { ended = ended }) (λ s. []))
+first_is_opening shape mask ended all =
+    record { start = first_core shape mask; is_start = first_is_start shape mask all; ended = ended; alike = refl }

@@ -1,12 +1,12 @@
 pub mod Conditions
 pub mod CurrentKept
 pub mod EndedKept
+pub mod Events
 pub mod ExclusivesKept
 pub mod FirstCore
 mod Flats
 pub mod FlatWords
 pub mod Gives
-pub mod Keeps
 pub mod Loads
 pub mod MatchedKept
 pub mod MovingKept

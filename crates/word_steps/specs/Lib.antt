@@ -1,6 +1,7 @@
 pub mod Beside
 pub mod Decode
 pub mod Entries
+pub mod Events
 pub mod Exclusives
 pub mod Folds
 pub mod Lending

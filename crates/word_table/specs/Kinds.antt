@@ -1,9 +1,11 @@
--- What a kind of step on one word shows of itself: that it leaves the slots alone, and that it keeps the rule.
+-- What a kind of step on one word shows of itself: that it leaves the slots alone, that each step of it is an event of the
+-- core, and that it keeps the rule.
 use Rattle.std.specs.Prelude.{ℕ, ◌+◌, ◌<◌, List, ◌∷◌}
 use Rattle.core_data.specs.Table.{put, put_at}
 use Rattle.handoff_data.specs.declared.shape.Shape.{Shape}
 use Rattle.word_rule.specs.Kept.{Kept}
 use Rattle.word_steps.specs.Decode.{Homes}
+use Rattle.word_steps.specs.Events.{IsEvent}
 use Rattle.word_steps.specs.Records.{Rec}
 use Rattle.word_table.specs.Outs.{IsQuiet}
 
@@ -22,6 +24,13 @@ Told = Shape → ℕ → List Rec → ℕ → ℕ → Type 0
 -- it takes no slot and gives none
 abbrev pub LeavesSlots : Note → Type 0
 LeavesSlots note = (s : ℕ) (trace : List Rec) (n y x : ℕ) → IsQuiet (note s trace n y x) trace
+
+-- each step of it is one event of the core that words, values and traces show, and its record is that event's
+abbrev pub MakesEvents : ℕ → (Shape → ℕ) → Note → May → Type 0
+MakesEvents col bound note may =
+    (shape : Shape) (words : ℕ → ℕ → ℕ) (homes : Homes) (traces : ℕ → List Rec) (s n y : ℕ)
+    → Kept shape words homes traces → s < shape.cpus + shape.agents → n < bound shape → may shape s (traces s) n (words n col) y
+    → IsEvent shape words homes traces s (note s (traces s) n y (words n col)) (put_at words n col y) homes
 
 -- the rule holds after it, and this is told of the word found
 abbrev pub KeepsRule : ℕ → (Shape → ℕ) → Note → May → Told → Type 0

@@ -1,8 +1,8 @@
-//! A kind of step on one word, with its law.
+//! A kind of step on one word, with its laws.
 ghost use Rattle.std.specs.Prelude.{◌≡◌, ℕ, ◌<◌, ◌≤◌};
 ghost use Rattle.handoff_data.specs.declared.shape.Shape.{Shape};
 ghost use Rattle.word_steps.specs.Words.{STRIDE};
-ghost use Rattle.word_table.specs.Kinds.{Note, May, Told, LeavesSlots, KeepsRule};
+ghost use Rattle.word_table.specs.Kinds.{Note, May, Told, LeavesSlots, MakesEvents, KeepsRule};
 ghost use Rattle.word_table.specs.Layout.{rows_of};
 
 /// A kind of step on one word of a number's, in one column. In `note`, `may` and `told` stand the seat, its trace as it
@@ -29,6 +29,9 @@ pub trait Kind {
 
     // It takes no slot and gives none.
     ghost quiet: { LeavesSlots note };
+
+    // Each step of it is one event of the core, and its record is that event's.
+    ghost event: { MakesEvents col bound note may };
 
     // It keeps the rule.
     ghost keep: { KeepsRule col bound note may told };

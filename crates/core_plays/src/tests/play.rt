@@ -5,10 +5,12 @@
 //! - `journal 0 new 1 1 0 , pick 1 1 0`: the journal of a seat, whole.
 //! - `owes 0 1` and `owes_not 0 1`: whether a seat owes a condition a walk of its wait queue.
 //! - `cond 0 1`: the value of a condition.
+//! - what `looks` says of what a seat has read, tested and noted.
 //! - `opening`: what follows begins anew, with the opening core.
 //!
 //! A word that is the name of a part stands for that part.
 
+use super::looks::is_so;
 use super::parts::part;
 use super::words::Word::*;
 use super::words::{Word, entry_of, event_of, word_of};
@@ -152,7 +154,7 @@ fn play_line(alloc: Global, played: &mut Played, line: &[Word<'_>]) -> Result<bo
         },
         _ => match event_of(alloc, line)? {
             Some(event) => go(played, event),
-            None => Ok(false),
+            None => Ok(is_so(&played.core, line)),
         },
     }
 }

@@ -31,13 +31,18 @@ fn optional(word: Word<'_>) -> Option<Option<u32>> {
     }
 }
 
-fn state_of(name: &str) -> Option<State> {
+/// A state, or a mask of states, by its name.
+pub fn state_of(name: &str) -> Option<State> {
     match name {
         "TASK_RUNNING" => Some(State::TASK_RUNNING),
         "TASK_INTERRUPTIBLE" => Some(State::TASK_INTERRUPTIBLE),
+        "TASK_UNINTERRUPTIBLE" => Some(State::TASK_UNINTERRUPTIBLE),
         "TASK_DEAD" => Some(State::TASK_DEAD),
+        "TASK_WAKEKILL" => Some(State::TASK_WAKEKILL),
         "TASK_WAKING" => Some(State::TASK_WAKING),
+        "TASK_NEW" => Some(State::TASK_NEW),
         "TASK_NORMAL" => Some(State::TASK_NORMAL),
+        "TASK_KILLABLE" => Some(State::TASK_KILLABLE),
         _ => None,
     }
 }

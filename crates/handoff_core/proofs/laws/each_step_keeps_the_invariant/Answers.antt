@@ -2,7 +2,7 @@ use Rattle.std.proofs.Common.{sym, subst}
 use Rattle.core_data.specs.Table.{Table}
 use Rattle.core_invariant.specs.Invariant.{Holds}
 use Rattle.core_journals.specs.Places.{OneMoveOrNone}
-use Rattle.handoff_core.proofs.Kept.{Holds-after, Moves-after}
+use Rattle.core_law.proofs.Reached.{Holds-after, Moves-after}
 use Rattle.handoff_core.proofs.laws.each_step_keeps_the_invariant.Goals as goal
 
 pub returns : goal.returns

@@ -1,5 +1,5 @@
 use Rattle.core_law.proofs.Laws.{no-lost_wake}
-use Rattle.handoff_core.proofs.Kept.{Holds-reached}
+use Rattle.core_law.proofs.Reached.{Holds-reached}
 use Rattle.handoff_core.proofs.laws.no_lost_wake.Goals as goal
 
 pub returns : goal.returns

@@ -1,5 +1,5 @@
 use Rattle.core_law.proofs.Laws.{stands-once}
-use Rattle.handoff_core.proofs.Kept.{Holds-reached}
+use Rattle.core_law.proofs.Reached.{Holds-reached}
 use Rattle.handoff_core.proofs.laws.stands_once.Goals as goal
 
 pub returns : goal.returns

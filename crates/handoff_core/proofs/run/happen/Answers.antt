@@ -1,8 +1,8 @@
 use Rattle.std.proofs.Common.{◌≡◌, sym, subst}
 use Rattle.std.specs.Prelude.{OnOk}
 use Rattle.core_data.specs.Table.{table}
-use Rattle.handoff_core.specs.Steps.{after}
-use Rattle.handoff_core.specs.declared.step.StepKind.{StepKind}
+use Rattle.core_law.specs.Steps.{after}
+use Rattle.core_law.specs.declared.step.StepKind.{StepKind}
 use Rattle.handoff_core.proofs.run.happen.Goals as goal
 
 pub returns-in-TakeTask : goal.returns-in-TakeTask

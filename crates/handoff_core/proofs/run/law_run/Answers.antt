@@ -1,8 +1,8 @@
 use Rattle.std.proofs.Common.{arith, rules, ◌<◌, length}
 use Rattle.std.proofs.lemmas.Option.{slice_get_past}
 use Rattle.core_data.specs.Table.{table}
-use Rattle.handoff_core.specs.Steps.{May}
-use Rattle.handoff_core.proofs.Kept.{holds_of, moves_taken}
+use Rattle.core_law.specs.Steps.{May}
+use Rattle.core_law.proofs.Reached.{holds_of, kept_after_each, moves_taken}
 use Rattle.handoff_core.proofs.RunLemmas.{ran_on}
 use Rattle.handoff_core.proofs.run.law_run.Goals as goal
 
@@ -31,3 +31,9 @@ returns-then-not-may_happen-clause-kept c = holds_of _ _ _ c.loop-event.invarian
 
 pub returns-then-not-may_happen-clause-moves : goal.returns-then-not-may_happen-clause-moves
 returns-then-not-may_happen-clause-moves c = moves_taken (table c.args.core) c.args.events.now _ _ _ c.loop-event.invariant.taken c.loop-event.invariant.ran
+
+pub returns-clause-kept_after_each : goal.returns-clause-kept_after_each
+returns-clause-kept_after_each c = kept_after_each (table c.args.core) c.args.events.now _ _ _ c.loop-event.invariant.taken c.loop-event.invariant.ran
+
+pub returns-then-not-may_happen-clause-kept_after_each : goal.returns-then-not-may_happen-clause-kept_after_each
+returns-then-not-may_happen-clause-kept_after_each c = kept_after_each (table c.args.core) c.args.events.now _ _ _ c.loop-event.invariant.taken c.loop-event.invariant.ran

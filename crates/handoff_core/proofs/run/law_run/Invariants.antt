@@ -1,6 +1,6 @@
 use Rattle.std.proofs.Common.{◌≡◌, take}
 use Rattle.core_data.specs.Table.{table}
-use Rattle.handoff_core.specs.Runs.{Ran}
+use Rattle.core_law.specs.Runs.{Ran}
 use Rattle.handoff_core.proofs.run.law_run.Given as goal
 
 abbrev pub invariant-loop-event : goal.invariant-loop-event

@@ -1,5 +1,6 @@
 use Rattle.task_script.proofs.ScriptLaws.{script_or_fault, not_both, one_script, one_fault}
 use Rattle.task_script.proofs.ForestLaws.{script-forest}
+use Rattle.task_script.proofs.ValidLaws.{script_machine, script_room, script_names, script_plans}
 use Rattle.task_script.proofs.law.law_script.Goals as goal
 
 pub returns-clause-some : goal.returns-clause-some
@@ -16,3 +17,15 @@ returns-clause-one_fault c = one_fault
 
 pub returns-clause-forest : goal.returns-clause-forest
 returns-clause-forest c = script-forest
+
+pub returns-clause-machine : goal.returns-clause-machine
+returns-clause-machine c = script_machine
+
+pub returns-clause-room : goal.returns-clause-room
+returns-clause-room c = script_room
+
+pub returns-clause-names : goal.returns-clause-names
+returns-clause-names c = script_names
+
+pub returns-clause-plans : goal.returns-clause-plans
+returns-clause-plans c = script_plans

@@ -2,8 +2,8 @@
 use Rattle.std.specs.Prelude.{◌≡◌, List, [], ◌∷◌}
 use Rattle.core_data.specs.Table.{Table}
 use Rattle.core_journals.specs.Places.{OneMoveOrNone}
-use Rattle.handoff_core.specs.Steps.{May, after}
-use Rattle.handoff_core.specs.declared.event.Event.{Event}
+use Rattle.core_law.specs.Steps.{May, after}
+use Rattle.core_law.specs.declared.event.Event.{Event}
 
 -- the core after some events, each of them possible where it comes
 abbrev pub Ran : Table → List Event → Table → Type 0

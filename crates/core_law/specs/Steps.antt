@@ -6,9 +6,9 @@ use Rattle.core_gives.specs.Waits.{MayGiveWait, give_wait}
 use Rattle.core_kinds.specs.Locks.{MayTakeTask, take_task, MayGiveTask, give_task, MayTakeQueue, take_queue, MayTakeWait, take_wait, MayTakeWorks, take_works, MayGiveWorks, give_works}
 use Rattle.core_kinds.specs.Running.{MayQueue, queue_task, MayDequeue, dequeue_task, MayMove, move_task, MaySetBusy, set_busy, MayClearBusy, clear_busy, MayBodyOut, body_out, MayBodyHome, body_home}
 use Rattle.core_kinds.specs.Waking.{MayOwnState, own_state, MayClaim, claim, MayRelease, release, MayLoad, MayLoadState, load_state, load_rq, load_busy, load_cpu, MayStoreCpu, store_cpu, MayBump, bump, load_cond}
-use Rattle.handoff_core.specs.declared.event.Event.{Event}
-use Rattle.handoff_core.specs.declared.step.StepKind.{StepKind}
-use Rattle.handoff_core.specs.declared.step.StepKind.TheVariants.{TakeTask, GiveTask, TakeQueue, GiveQueue, TakeWait, GiveWait, TakeWorks, GiveWorks, BodyOut, BodyHome, StoreRqOn, StoreRqOff, StoreRqMoving, SetBusy, ClearBusy, OwnState, StoreWaking, StoreRunning, LoadState, LoadRq, LoadBusy, LoadCpu, StoreCpu, Bump, LoadCond}
+use Rattle.core_law.specs.declared.event.Event.{Event}
+use Rattle.core_law.specs.declared.step.StepKind.{StepKind}
+use Rattle.core_law.specs.declared.step.StepKind.TheVariants.{TakeTask, GiveTask, TakeQueue, GiveQueue, TakeWait, GiveWait, TakeWorks, GiveWorks, BodyOut, BodyHome, StoreRqOn, StoreRqOff, StoreRqMoving, SetBusy, ClearBusy, OwnState, StoreWaking, StoreRunning, LoadState, LoadRq, LoadBusy, LoadCpu, StoreCpu, Bump, LoadCond}
 
 abbrev pub May : Table → ℕ → StepKind → Type 0
 May core s (TakeTask t) = MayTakeTask core s t

@@ -1,0 +1,136 @@
+//! Lists of wakers: what discharges a walk, and what a seat may rest on no longer.
+
+use super::play::plays;
+use std::test::Fail;
+
+// A walk whose wake finds its task queued: by storing TASK_RUNNING the waker passes it.
+#[test]
+fn a_walk_passes_a_task_that_is_still_queued(rt: HostRuntime) -> Result<(), Fail> {
+    plays(
+        &rt,
+        "
+        start_0 ; pick_0 ; prepare_0 ;
+        1 bump 0 ; 1 take_wait 0 ; 1 take_task 0 ; 1 load_state 0 TASK_NORMAL ; 1 load_rq 0 ;
+        1 take_queue 0 ; 1 store_running 0 ; 1 give_queue 0 cur 0 left - waiting ; 1 give_task 0 ;
+        1 give_wait 0 plain 0 ; owes_not 1 0 ;
+        journal 1 ;
+
+        opening ;
+        start_0 ; pick_0 ; prepare_0 ;
+        1 bump 0 ; 1 take_wait 0 ; 1 take_task 0 ; 1 load_state 0 TASK_NORMAL ; 1 load_rq 0 ;
+        not 1 give_wait 0 nobody -- an entry of a task that sleeps ;
+        1 take_queue 0 ; 1 store_running 0 ; 1 give_queue 0 cur 0 left - waiting ; 1 give_task 0 ;
+        1 give_wait 0 nobody ; owes_not 1 0 ;
+        ",
+    )?;
+    Ok(())
+}
+
+// A walker that stores TASK_RUNNING as the state of its own current task passes it; and one that reads TASK_WAKING.
+#[test]
+fn a_walker_wakes_itself(rt: HostRuntime) -> Result<(), Fail> {
+    plays(
+        &rt,
+        "
+        start_0 ; pick_0 ; prepare_0 ;
+        0 bump 0 ; 0 take_wait 0 ; 0 own_state 0 TASK_RUNNING ; 0 give_wait 0 plain 0 ; owes_not 0 0 ;
+
+        opening ;
+        start_0 ; pick_0 ; prepare_0 ;
+        0 bump 0 ; 0 take_wait 0 ; 0 give_wait 0 plain 0 ; owes 0 0 ;
+        0 take_wait 0 ; 0 own_state 0 TASK_INTERRUPTIBLE ; 0 give_wait 0 plain 0 ; owes 0 0 ;
+
+        opening ;
+        start_0 ; pick_0 ; prepare_0 ; leave_0 ; clear_0 ; claim_0 ;
+        2 bump 0 ; 2 take_wait 0 ; 2 load_state 0 TASK_NORMAL ; 2 give_wait 0 plain 0 ; owes_not 2 0 ;
+        journal 2 refused 0 TASK_WAKING ;
+        ",
+    )?;
+    Ok(())
+}
+
+// A wake rests on a state that was matched under the lock that is held.
+#[test]
+fn nothing_by_an_earlier_lock(rt: HostRuntime) -> Result<(), Fail> {
+    plays(
+        &rt,
+        "
+        start_0 ; pick_0 ; prepare_0 ;
+        1 take_task 0 ; 1 load_state 0 TASK_NORMAL ; 1 give_task 0 ;
+        1 take_task 0 ; 1 take_queue 0 ; not 1 store_running 0 -- matched under an earlier lock ;
+
+        opening ;
+        start_0 ; pick_0 ; prepare_0 ; leave_0 ; clear_0 ;
+        1 take_task 0 ; 1 load_state 0 TASK_NORMAL ; 1 load_rq 0 ; 1 give_task 0 ;
+        1 take_task 0 ; not 1 store_waking 0 -- read under an earlier lock ;
+
+        opening ;
+        0 take_task 0 ; 0 store_cpu 0 0 ; 0 take_queue 0 ; 0 store_rq_on 0 0 ; 0 give_queue 0 cur - left - waiting 0 ;
+        0 take_queue 0 ; not 0 store_running 0 -- queued under an earlier lock of the queue ;
+
+        opening ;
+        start_0 ; 2 take_task 0 ; 2 take_queue 0 ; 2 load_busy 0 ; 2 give_queue 0 cur - left - waiting 0 ; 2 take_queue 0 ;
+        not 2 store_rq_moving 0 0 cur - left - waiting 0 -- its busy word was read under an earlier lock of the queue ;
+
+        opening ;
+        start_0 ; pick_0 ;
+        0 take_wait 0 ; 0 own_state 0 TASK_INTERRUPTIBLE ; 0 give_wait 0 nobody ; 0 take_wait 0 ;
+        not 0 give_wait 0 plain 0 -- its state was stored under an earlier lock of the wait queue ;
+        ",
+    )?;
+    Ok(())
+}
+
+// Nobody else stores over a death.
+#[test]
+fn a_dead_task_stays_dead(rt: HostRuntime) -> Result<(), Fail> {
+    plays(
+        &rt,
+        "
+        start_0 ; pick_0 ; 0 body_out 0 ; 0 body_home 0 ended ;
+        1 take_task 0 ; 1 load_state 0 TASK_NORMAL ; 1 load_rq 0 ; 1 give_task 0 ;
+        0 take_task 0 ; 0 own_state 0 TASK_DEAD ; 0 give_task 0 ;
+        1 take_task 0 ; 1 load_state 0 TASK_NORMAL ; 1 load_rq 0 ; read 1 0 state TASK_DEAD ; 1 take_queue 0 ;
+        not 1 store_running 0 -- TASK_RUNNING of a task that is dead and queued ;
+        not 1 store_waking 0 -- TASK_WAKING of a task that is dead and queued ;
+        1 give_queue 0 cur 0 left - waiting ; 1 give_task 0 ;
+        leave_0 ; clear_0 ;
+        1 take_task 0 ; 1 load_state 0 TASK_NORMAL ; 1 load_rq 0 ;
+        not 1 store_waking 0 -- TASK_WAKING of a task that died ;
+        journal 1 refused 0 TASK_RUNNING , refused 0 TASK_DEAD , refused 0 TASK_DEAD ;
+        ",
+    )?;
+    Ok(())
+}
+
+// What a seat read of a task, and that a store of a word of the task, or a new take of its lock, ends it.
+#[test]
+fn a_seat_keeps_what_it_read_until_it_stores(rt: HostRuntime) -> Result<(), Fail> {
+    plays(
+        &rt,
+        "
+        start_0 ; pick_0 ; prepare_0 ; leave_0 ;
+        1 take_task 0 ; unread 1 0 state ; unread 1 0 number ; unread 1 0 cpu ;
+        1 load_rq 0 ; unread 1 0 rq ; read 1 0 number 2 ; 1 load_busy 0 ; unread 1 0 busy ; rests_not 1 0 state ;
+        1 load_state 0 - ; read 1 0 state TASK_INTERRUPTIBLE ; unread 1 0 rq ; rests 1 0 state ; rests_not 1 0 rq ;
+        1 load_rq 0 ; read 1 0 rq 0 2 ; read 1 0 number 2 ; unread 1 0 busy ; rests 1 0 rq ;
+        1 load_busy 0 ; read 1 0 busy ; rests_not 1 0 busy ;
+        clear_0 ; 1 load_busy 0 ; read 1 0 idle ; rests 1 0 busy ; 1 load_cpu 0 ; read 1 0 cpu 0 ;
+        1 load_state 0 TASK_NORMAL ; 1 load_rq 0 ; 1 load_busy 0 ; 1 store_waking 0 ;
+        unread 1 0 state ; unread 1 0 rq ; unread 1 0 busy ; read 1 0 number 2 ; read 1 0 cpu 0 ; rests_not 1 0 state ;
+        1 load_state 0 - ; rests_not 1 0 state ; 1 load_busy 0 ; 1 store_cpu 0 1 ; read 1 0 cpu 1 ; unread 1 0 state ;
+        1 take_queue 1 ; 1 store_rq_on 1 0 ; read 1 0 number 3 ; unread 1 0 rq ;
+
+        opening ;
+        1 take_task 0 ; 1 load_state 0 - ; 1 load_rq 0 ; 1 load_cpu 0 ; read 1 0 rq 0 0 ; read 1 0 number 0 ; 1 give_task 0 ;
+        1 take_task 0 ; unread 1 0 state ; unread 1 0 rq ; unread 1 0 number ; unread 1 0 cpu ; rests_not 1 0 state ;
+
+        opening ;
+        start_0 ; pick_0 ; 0 load_state 0 - ; seen 0 - ; 0 take_queue 0 ; seen 0 - ; 0 load_state 0 - ; seen 0 TASK_RUNNING ;
+        0 give_queue 0 cur 0 left - waiting ; seen 0 - ;
+        0 take_queue 0 ; 0 load_state 0 - ; 0 own_state 0 TASK_INTERRUPTIBLE ; seen 0 - ; unread 0 0 state ;
+        0 load_state 0 - ; 0 store_rq_off 0 0 ; read 0 0 number 2 ; unread 0 0 state ;
+        ",
+    )?;
+    Ok(())
+}
