@@ -5,3 +5,4 @@ pub mod Reached
 pub mod SameWords
 pub mod StepLaws
 pub mod Stores
+pub mod Witness

@@ -87,3 +87,14 @@ abbrev pub SleepsOnItsProcessor : Table → Type 0
 SleepsOnItsProcessor core =
     (t : ℕ) → core.on_rq t ≡ 0 → is_sleep (core.state t) ≡ true
     → IsIn (journals_of core) (core.cpu t) (entry.Sleep t (core.changes t) (core.cpu t))
+
+-- A sleeper off its queue whose test isn't the condition's value: of such the law on lost wakes speaks.
+pub record HasSleeperToWake (core : Table) : Type 0 where
+  pub condition : ℕ
+  pub task : ℕ
+  pub tested : ℕ
+  pub waits : Waits core condition task
+  pub off : core.on_rq task ≡ 0
+  pub asleep : is_sleep (core.state task) ≡ true
+  pub test : core.test (core.cpu task) task condition ≡ Some tested
+  pub other : tested ≢ core.cond condition

@@ -4,7 +4,7 @@
 ghost use Rattle.core_data.specs.Table.{Table};
 ghost use Rattle.core_invariant.specs.Invariant.{Holds};
 ghost use Rattle.core_journals.specs.Places.{OneMoveOrNone};
-ghost use Rattle.core_law.specs.Laws.{OneRunAtATime, StandsOnce, WakesQueueAtMostOnce, NoLostWake, SleepersWait, SleepsOnItsProcessor, journals_of};
+ghost use Rattle.core_law.specs.Laws.{OneRunAtATime, StandsOnce, WakesQueueAtMostOnce, NoLostWake, HasSleeperToWake, SleepersWait, SleepsOnItsProcessor, journals_of};
 ghost use Rattle.core_law.specs.Reached.{IsReached, IsOpening};
 ghost use Rattle.core_law.specs.Steps.{Step};
 ghost use Rattle.core_law.specs.declared.event.Event.{Event};
@@ -45,6 +45,12 @@ pub fn wakes_queue_at_most_once()
 /// hasn't passed the task since it last did. It holds too of a task that hasn't left its queue yet.
 pub fn no_lost_wake()
     ensures { (core : Table) → IsReached core → NoLostWake core }
+{}
+
+/// The law on lost wakes speaks of something: a machine can come to a core with a sleeper off its queue whose test isn't
+/// the condition's value.
+pub fn a_sleeper_can_be_owed()
+    ensures { (core : Table) × IsReached core × HasSleeperToWake core }
 {}
 
 /// A task that was put to sleep in a wait queue, and is in a sleep state, has its entry there.

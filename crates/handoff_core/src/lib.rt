@@ -17,8 +17,9 @@ pub use core_data::{
 };
 pub use core_law::{Event, StepKind};
 pub use laws::{
-    each_step_keeps_the_invariant, no_lost_wake, one_run_at_a_time, opening_core_holds,
-    sleepers_wait, sleeps_on_its_processor, stands_once, wakes_queue_at_most_once,
+    a_sleeper_can_be_owed, each_step_keeps_the_invariant, no_lost_wake, one_run_at_a_time,
+    opening_core_holds, sleepers_wait, sleeps_on_its_processor, stands_once,
+    wakes_queue_at_most_once,
 };
 pub use run::{CoreRun, law_run, step_core};
 pub use step_data::start_core;

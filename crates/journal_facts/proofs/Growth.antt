@@ -1,12 +1,12 @@
 -- How lists of members grow.
-use Rattle.std.proofs.Common.{◌≡◌, ℕ, ◌+◌, ◌<◌, ◌⊎◌, ◌↔◌, List, Some, arith, subst, sym, ap, ◌∙◌, refl, inl, inr}
-use Rattle.std.specs.Prelude.{Contains, slice_get}
+use Rattle.std.proofs.Common.{◌≡◌, ℕ, ◌+◌, ◌<◌, ◌⊎◌, ◌↔◌, List, Some, arith, subst, ap, ◌∙◌, inl, inr}
+use Rattle.std.specs.Prelude.{slice_get}
 use Rattle.std.proofs.lemmas.Bool.{cases_lt}
 use Rattle.handoff_data.specs.declared.entry.Entry.{Entry}
 use Rattle.handoff_data.specs.declared.mask.CpuMask.{CpuMask}
 use Rattle.handoff_data.specs.Mask.{HasCpu}
 use Rattle.journal_facts.specs.declared.fact.Fact.{Fact}
-use Rattle.journal_facts.specs.Members.{IsMember, IsJournalMember, IsEntryMember, IsMaskMember, member}
+use Rattle.journal_facts.specs.Members.{IsJournalMember, IsEntryMember, member}
 
 -- what is added twice is added at once
 pub joined : {N M O A B C : Type 0} → N ↔ (M ⊎ A) → M ↔ (O ⊎ B) → (B ⊎ A) ↔ C → N ↔ (O ⊎ C)

@@ -1,3 +1,9 @@
+pub mod Fronts
 pub mod Growth
+pub mod KindNumbers
+pub mod Lasts
+pub mod Lexical
 pub mod Order
+pub mod Points
+pub mod Runs
 pub mod Told

@@ -1,2 +1,4 @@
+pub mod Answers
 pub mod Facts
 pub mod Members
+pub mod Order

@@ -1,10 +1,10 @@
-ghost use Rattle.std.specs.Prelude.{◌≡◌, ◌⊎◌, IfOk, OnOk, Contains, ◌↔◌, IsSorted};
+ghost use Rattle.std.specs.Prelude.{◌≡◌, ◌⊎◌, IfOk, OnOk, Contains, ◌↔◌};
 ghost use Rattle.handoff_data.specs.Mask.{HasCpu};
 ghost use Rattle.journal_facts.specs.declared.fact.Fact.{Fact};
-ghost use Rattle.journal_facts.specs.Facts.{fact_cmp};
 ghost use Rattle.journal_facts.specs.Members.{IsMember, IsJournalMember, IsEntryMember, IsMaskMember, member};
 
 use crate::fact::{Fact, Kind};
+use crate::facts::Facts;
 use handoff_data::{CpuMask, CpuNo, Entry, Journal, NoMemory, TaskNo};
 use std::alloc::Global;
 
@@ -62,14 +62,12 @@ fn push_masks(members: &mut Vec<Fact>, entries: &[Entry]) -> Result<(), NoMemory
 }
 
 /// The processors that the masks of all journals have, in order.
-pub fn members_of(alloc: Global, seats: &[Journal]) -> Result<Vec<Fact>, NoMemory>
-    ensures told { IfOk result (λ facts. (f : Fact) → Contains facts.items f ↔ IsMember seats.now f) }
-    ensures sorted { IfOk result (λ facts. IsSorted fact_cmp facts.items) }
+pub fn members_of(alloc: Global, seats: &[Journal]) -> Result<Facts, NoMemory>
+    ensures told { IfOk result (λ facts. (f : Fact) → Contains facts f ↔ IsMember seats.now f) }
 {
     let mut members = Vec::new(alloc);
     for journal in seats {
         push_masks(&mut members, journal.as_slice())?;
     }
-    members.sort_unstable();
-    Ok(members)
+    Ok(Facts::sorted(members))
 }

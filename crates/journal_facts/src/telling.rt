@@ -1,9 +1,10 @@
-ghost use Rattle.std.specs.Prelude.{◌≡◌, ◌<◌, ◌^◌, ◌++◌, length, IfOk, OnOk, Contains, ◌↔◌, IsPermutation, IsSorted};
+ghost use Rattle.std.specs.Prelude.{◌≡◌, ◌<◌, ◌^◌, ◌++◌, length, IfOk, OnOk, Contains, ◌↔◌, IsPermutation};
 ghost use Rattle.std.specs.Option.{option_to_list};
 ghost use Rattle.journal_facts.specs.declared.fact.Fact.{Fact};
-ghost use Rattle.journal_facts.specs.Facts.{IsTold, fact_at, told_of, told_by, told_in, told_from, fact_cmp};
+ghost use Rattle.journal_facts.specs.Facts.{IsTold, fact_at, told_of, told_by, told_in, told_from};
 
 use crate::fact::{Fact, Kind};
+use crate::facts::Facts;
 use handoff_data::{Entry, Journal, NoMemory, SeatNo};
 use std::alloc::Global;
 
@@ -151,16 +152,14 @@ fn push_journal(facts: &mut Vec<Fact>, seat: SeatNo, entries: &[Entry]) -> Resul
 }
 
 /// What the journals of all seats tell, in order.
-pub fn facts_of(alloc: Global, seats: &[Journal]) -> Result<Vec<Fact>, NoMemory>
+pub fn facts_of(alloc: Global, seats: &[Journal]) -> Result<Facts, NoMemory>
     requires { length seats.now < 2 ^ 32 }
-    ensures told { IfOk result (λ facts. (f : Fact) → Contains facts.items f ↔ IsTold seats.now f) }
-    ensures each { IfOk result (λ facts. IsPermutation (told_from 0 seats.now) facts.items) }
-    ensures sorted { IfOk result (λ facts. IsSorted fact_cmp facts.items) }
+    ensures told { IfOk result (λ facts. (f : Fact) → Contains facts f ↔ IsTold seats.now f) }
+    ensures each { IfOk result (λ facts. IsPermutation (told_from 0 seats.now) facts) }
 {
     let mut facts = Vec::new(alloc);
     for (i, journal) in seats.iter().enumerate() {
         push_journal(&mut facts, i as u32, journal.as_slice())?;
     }
-    facts.sort_unstable();
-    Ok(facts)
+    Ok(Facts::sorted(facts))
 }

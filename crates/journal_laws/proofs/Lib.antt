@@ -4,3 +4,6 @@ pub mod Numbering
 pub mod ChangeLaws
 pub mod RunLaws
 pub mod WakeLaws
+pub mod ListLaws
+pub mod OutageLaws
+pub mod RequestLaws

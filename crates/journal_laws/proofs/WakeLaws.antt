@@ -59,7 +59,7 @@ after-sleep j rules t m c asleep (entry.Enq t' m' c' by_list) at is =
     subst (λ (n : ℕ). Queueing j t n) (second-same t' m' t (m + 1) is) (subst (λ (x : ℕ). Queueing j x m') (first-same t' m' t (m + 1) is) (c', by_list, at))
 after-sleep j rules t m c asleep _ at is = absurd cc
 
-queued : (j : History) → IsLegal j → (t m : ℕ) → IsSomewhere j (entry.Wake t m) → Queueing j t (m + 1)
+pub queued : (j : History) → IsLegal j → (t m : ℕ) → IsSomewhere j (entry.Wake t m) → Queueing j t (m + 1)
 queued j legal t m wake =
     let rules = kept j legal in
     let within : t < j.tasks = (legal.no_bad wake.0 wake.1.0 _ wake.1.1 1).in_range refl in

@@ -1,1 +1,4 @@
 pub mod Laws
+pub mod Listings
+pub mod Outages
+pub mod Requests

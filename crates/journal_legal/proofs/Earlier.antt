@@ -8,7 +8,7 @@ use Rattle.handoff_data.specs.declared.entry.Entry.{Entry}
 use Rattle.handoff_data.specs.History.{History}
 use Rattle.handoff_data.specs.Legal.{Keeps, HasNoBad}
 use Rattle.handoff_data.specs.Positions.{Stands, IsEarlier, entry_at}
-use Rattle.journal_judge.specs.Judging.{KeepsAll, EarlierKeepAll}
+use Rattle.journal_legal.specs.Judging.{KeepsAll, EarlierKeepAll}
 
 abbrev in_journal : ℕ → Option (List Entry) → Option Entry
 in_journal index journal = option_and_then (λ (entries : List Entry). slice_get entries index) journal

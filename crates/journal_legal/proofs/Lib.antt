@@ -1,2 +1,3 @@
 pub mod Earlier
+pub mod Numbered
 pub mod VerdictLaws

@@ -4,7 +4,7 @@ use Rattle.handoff_data.specs.declared.entry.Entry.{Entry}
 use Rattle.handoff_data.specs.History.{History}
 use Rattle.handoff_data.specs.Legal.{HasNoBad, HasEnded, IsLegal}
 use Rattle.handoff_data.specs.Positions.{Stands}
-use Rattle.journal_judge.specs.Judging.{EarlierKeepAll, IsLowestBroken}
+use Rattle.journal_legal.specs.Judging.{EarlierKeepAll, IsLowestBroken}
 use Rattle.journal_legal.specs.declared.verdict.Verdict.{Verdict}
 use Rattle.journal_legal.specs.declared.verdict.Verdict.TheVariants as verdict
 

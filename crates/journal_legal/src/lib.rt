@@ -1,6 +1,8 @@
 //! The verdict on journals: whether they are one legal history, or else their first fault.
 #![tactic(auto)]
 
+mod breaks;
+mod judge;
 mod law;
 mod verdict;
 mod walk;

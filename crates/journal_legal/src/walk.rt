@@ -2,11 +2,11 @@
 ghost use Rattle.std.specs.Prelude.{◌≡◌, ◌+◌, ◌<◌, ◌^◌, ℕ, Some, length, slice_get, IfOk, IfSome, IfNone};
 ghost use Rattle.handoff_data.specs.Legal.{HasNoBad, HasEnded};
 ghost use Rattle.journal_legal.specs.Verdicts.{IsFirstBad, IsLowestUnended, IsVerdict};
-ghost use Rattle.journal_judge.specs.Judging.{IsJudgeAt, EarlierKeepAll};
+ghost use Rattle.journal_legal.specs.Judging.{IsJudgeAt, EarlierKeepAll};
 
+use crate::judge::Judge;
 use crate::verdict::Verdict;
 use handoff_data::{Entry, Journals, NoMemory, SeatNo, TaskNo};
-use journal_judge::Judge;
 use std::alloc::Global;
 
 /// The verdict on the journals. It takes time n log n in the number n of entries, and memory linear in it.

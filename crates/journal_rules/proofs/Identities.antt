@@ -11,7 +11,7 @@ use Rattle.handoff_data.specs.Rules.{NotRepeated}
 use Rattle.journal_facts.specs.declared.fact.Fact.{Fact}
 use Rattle.journal_facts.specs.declared.fact.Kind.TheVariants as kind
 use Rattle.journal_facts.specs.Facts.{fact_at, here_on}
-use Rattle.journal_questions.specs.Answers.{TellsEarlier}
+use Rattle.journal_facts.specs.Answers.{TellsEarlier}
 use Rattle.journal_rules.specs.Keys.{key_of}
 use Rattle.journal_rules.specs.Known.{KnowsFacts}
 use Rattle.journal_rules.proofs.Meaning.{same}

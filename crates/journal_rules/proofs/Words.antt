@@ -12,7 +12,7 @@ use Rattle.journal_facts.specs.declared.fact.Fact.{Fact}
 use Rattle.journal_facts.specs.declared.fact.Kind.{Kind}
 use Rattle.journal_facts.specs.declared.fact.Kind.TheVariants as kind
 use Rattle.journal_facts.specs.Facts.{fact_at, here_on, IsTold}
-use Rattle.journal_questions.specs.Answers.{Tells, TellsOn, TellsBefore, TellsFrom}
+use Rattle.journal_facts.specs.Answers.{Tells, TellsOn, TellsBefore, TellsFrom}
 use Rattle.handoff_data.specs.Mask.{HasCpu}
 use Rattle.journal_facts.specs.Members.{IsEntryMember, IsMaskMember, member}
 use Rattle.journal_rules.specs.Known.{KnowsFacts, KnowsMembers}

@@ -1,2 +1,5 @@
 pub mod Keys
 pub mod Known
+pub mod Marks
+pub mod Order
+pub mod Turns

@@ -1,13 +1,12 @@
 //! Rules 10 and 11: masks, where tasks stood under them, and which requests are done.
 
-ghost use Rattle.std.specs.Prelude.{◌≡◌, None, Some, ◌-◌, ◌<◌, ◌≤◌, ◌⊎◌, ◌↔◌, ℕ, Option, IsTrue, IsSorted};
+ghost use Rattle.std.specs.Prelude.{◌≡◌, None, Some, ◌-◌, ◌<◌, ◌≤◌, ◌⊎◌, ◌↔◌, ℕ, Option, IsTrue};
 ghost use Rattle.handoff_data.specs.declared.entry.Entry.TheVariants as entry;
 ghost use Rattle.handoff_data.specs.declared.mask.CpuMask.{CpuMask};
 ghost use Rattle.handoff_data.specs.History.{History};
 ghost use Rattle.handoff_data.specs.Mask.{HasCpu};
 ghost use Rattle.handoff_data.specs.Positions.{IsBefore, IsSomewhere};
 ghost use Rattle.handoff_data.specs.Rules.{DoneStood, MaskAllows, MaskedAndStood, StoodAt};
-ghost use Rattle.journal_facts.specs.Facts.{fact_cmp};
 ghost use Rattle.journal_rules.specs.Known.{KnowsFacts, KnowsMembers};
 
 use crate::asked::{
@@ -15,11 +14,10 @@ use crate::asked::{
     is_sleep_on, is_stood_from,
 };
 use handoff_data::{CpuMask, CpuNo, Entry, Journals, SeatNo, TaskNo};
-use journal_facts::Fact;
+use journal_facts::Facts;
 
 /// Whether change `m` of the task left it off its queue.
-fn left_off(facts: &[Fact], t: TaskNo, m: u64) -> bool
-    requires { IsSorted fact_cmp facts.now }
+fn left_off(facts: &Facts, t: TaskNo, m: u64) -> bool
     ensures { (j : History) → KnowsFacts j facts.now → IsTrue result ↔ StoodAt j t m None }
 {
     if is_sleep(facts, t, m) {
@@ -29,8 +27,7 @@ fn left_off(facts: &[Fact], t: TaskNo, m: u64) -> bool
 }
 
 /// Whether change `m` of the task left it on the processor's queue, maybe busy on the processor, or listed to it.
-fn left_on(facts: &[Fact], t: TaskNo, m: u64, c: CpuNo) -> bool
-    requires { IsSorted fact_cmp facts.now }
+fn left_on(facts: &Facts, t: TaskNo, m: u64, c: CpuNo) -> bool
     ensures { (j : History) → KnowsFacts j facts.now → IsTrue result ↔ StoodAt j t m (Some c) }
 {
     if is_queued(facts, t, m, c) {
@@ -49,8 +46,7 @@ fn left_on(facts: &[Fact], t: TaskNo, m: u64, c: CpuNo) -> bool
 }
 
 /// Whether change `m` of the task left it there.
-fn stood_at(facts: &[Fact], t: TaskNo, m: u64, at: Option<CpuNo>) -> bool
-    requires { IsSorted fact_cmp facts.now }
+fn stood_at(facts: &Facts, t: TaskNo, m: u64, at: Option<CpuNo>) -> bool
     ensures { (j : History) → KnowsFacts j facts.now → IsTrue result ↔ StoodAt j t m at }
 {
     match at {
@@ -60,8 +56,7 @@ fn stood_at(facts: &[Fact], t: TaskNo, m: u64, at: Option<CpuNo>) -> bool
 }
 
 /// Whether the task has mask `r`, where mask 0 is there from the start.
-fn has_mask(facts: &[Fact], t: TaskNo, r: u64) -> bool
-    requires { IsSorted fact_cmp facts.now }
+fn has_mask(facts: &Facts, t: TaskNo, r: u64) -> bool
     ensures { (j : History) → KnowsFacts j facts.now → IsTrue result ↔ MaskAllows j t r None }
 {
     if r == 0 {
@@ -71,8 +66,7 @@ fn has_mask(facts: &[Fact], t: TaskNo, r: u64) -> bool
 }
 
 /// Whether mask `r` of the task has the processor, where mask 0 has all.
-fn mask_has(members: &[Fact], cpus: u32, t: TaskNo, r: u64, c: CpuNo) -> bool
-    requires { IsSorted fact_cmp members.now }
+fn mask_has(members: &Facts, cpus: u32, t: TaskNo, r: u64, c: CpuNo) -> bool
     ensures { (j : History) → KnowsMembers j members.now → cpus ≡ j.cpus → IsTrue result ↔ MaskAllows j t r (Some c) }
 {
     if r == 0 {
@@ -83,15 +77,13 @@ fn mask_has(members: &[Fact], cpus: u32, t: TaskNo, r: u64, c: CpuNo) -> bool
 
 /// Whether mask `r` of the task allows this place.
 fn mask_allows(
-    facts: &[Fact],
-    members: &[Fact],
+    facts: &Facts,
+    members: &Facts,
     cpus: u32,
     t: TaskNo,
     r: u64,
     at: Option<CpuNo>,
 ) -> bool
-    requires facts { IsSorted fact_cmp facts.now }
-    requires members { IsSorted fact_cmp members.now }
     ensures { (j : History) → KnowsFacts j facts.now → KnowsMembers j members.now → cpus ≡ j.cpus → IsTrue result ↔ MaskAllows j t r at }
 {
     match at {
@@ -101,8 +93,7 @@ fn mask_allows(
 }
 
 /// Whether the task's mask `r` is its first, or there is the mask before it.
-fn follows_mask(facts: &[Fact], t: TaskNo, r: u64) -> bool
-    requires { IsSorted fact_cmp facts.now }
+fn follows_mask(facts: &Facts, t: TaskNo, r: u64) -> bool
     ensures { (j : History) → KnowsFacts j facts.now → IsTrue result ↔ ((r ≡ 1) ⊎ ((0 < r) × ((mask' : CpuMask) × IsSomewhere j (entry.Mask t (r - 1) mask')))) }
 {
     if r == 1 {
@@ -125,8 +116,7 @@ fn has_some(mask: CpuMask) -> bool
 }
 
 /// Whether the mask may be the task's mask `r`.
-fn may_mask(facts: &[Fact], t: TaskNo, r: u64, mask: CpuMask) -> bool
-    requires { IsSorted fact_cmp facts.now }
+fn may_mask(facts: &Facts, t: TaskNo, r: u64, mask: CpuMask) -> bool
     ensures { (j : History) → KnowsFacts j facts.now → (seat index : ℕ) → IsTrue result ↔ MaskedAndStood j seat index (entry.Mask t r mask) }
 {
     if !has_some(mask) {
@@ -137,16 +127,14 @@ fn may_mask(facts: &[Fact], t: TaskNo, r: u64, mask: CpuMask) -> bool
 
 /// Whether the task may have stood there, by its change `m` and under its mask `r`.
 fn may_stand(
-    facts: &[Fact],
-    members: &[Fact],
+    facts: &Facts,
+    members: &Facts,
     cpus: u32,
     t: TaskNo,
     r: u64,
     m: u64,
     at: Option<CpuNo>,
 ) -> bool
-    requires facts { IsSorted fact_cmp facts.now }
-    requires members { IsSorted fact_cmp members.now }
     ensures { (j : History) → KnowsFacts j facts.now → KnowsMembers j members.now → cpus ≡ j.cpus → (seat index : ℕ) → IsTrue result ↔ MaskedAndStood j seat index (entry.Stood t r m at) }
 {
     if !stood_at(facts, t, m, at) {
@@ -159,8 +147,8 @@ fn may_stand(
 /// its mask allows that.
 pub fn masked_and_stood(
     journals: &Journals,
-    facts: &[Fact],
-    members: &[Fact],
+    facts: &Facts,
+    members: &Facts,
     seat: SeatNo,
     index: u64,
     entry: Entry,
@@ -179,8 +167,7 @@ pub fn masked_and_stood(
 }
 
 /// Whether the request that made mask `r` of the task may be done at this place.
-fn may_be_done(facts: &[Fact], t: TaskNo, r: u64, seat: SeatNo, index: u64) -> bool
-    requires { IsSorted fact_cmp facts.now }
+fn may_be_done(facts: &Facts, t: TaskNo, r: u64, seat: SeatNo, index: u64) -> bool
     ensures { (j : History) → KnowsFacts j facts.now → IsTrue result ↔ DoneStood j seat index (entry.Done t r) }
 {
     if !is_masked_before(facts, t, r, seat, index) {
@@ -192,7 +179,7 @@ fn may_be_done(facts: &[Fact], t: TaskNo, r: u64, seat: SeatNo, index: u64) -> b
 /// Whether a request is done after its mask was set, and the task stood under that mask or a later one.
 pub fn done_stood(
     journals: &Journals,
-    facts: &[Fact],
+    facts: &Facts,
     seat: SeatNo,
     index: u64,
     entry: Entry,

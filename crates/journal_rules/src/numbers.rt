@@ -9,8 +9,7 @@ ghost use Rattle.journal_rules.specs.Keys.{key_of};
 ghost use Rattle.journal_rules.specs.Known.{KnowsFacts};
 
 use handoff_data::{Entry, Journals, SeatNo};
-use journal_facts::{Fact, Kind};
-use journal_questions::is_told_earlier;
+use journal_facts::{Fact, Facts, Kind, is_told_earlier};
 
 /// A fact with no place and no processor.
 fn key(kind: Kind, subject: u32, number: u64) -> Fact
@@ -50,7 +49,7 @@ fn identity_key(entry: Entry) -> Option<Fact>
 /// Whether no earlier entry is of the same group with the same numbers.
 pub fn not_repeated(
     journals: &Journals,
-    facts: &[Fact],
+    facts: &Facts,
     seat: SeatNo,
     index: u64,
     entry: Entry,

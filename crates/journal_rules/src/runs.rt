@@ -1,20 +1,18 @@
 //! Rule 6: picks and finishes.
 
-ghost use Rattle.std.specs.Prelude.{◌≡◌, ◌-◌, ◌%◌, ◌<◌, ◌↔◌, ℕ, IsTrue, IsSorted};
+ghost use Rattle.std.specs.Prelude.{◌≡◌, ◌-◌, ◌%◌, ◌<◌, ◌↔◌, ℕ, IsTrue};
 ghost use Rattle.handoff_data.specs.declared.entry.Entry.TheVariants as entry;
 ghost use Rattle.handoff_data.specs.History.{History};
 ghost use Rattle.handoff_data.specs.Positions.{IsBefore, IsSomewhere};
 ghost use Rattle.handoff_data.specs.Rules.{RunsAlternate};
-ghost use Rattle.journal_facts.specs.Facts.{fact_cmp};
 ghost use Rattle.journal_rules.specs.Known.{KnowsFacts};
 
 use crate::asked::{is_finish, is_picked_before};
 use handoff_data::{CpuNo, Entry, Journals, SeatNo, TaskNo};
-use journal_facts::Fact;
+use journal_facts::Facts;
 
 /// Whether run `n` of the task is its first, or the run before it is a finish.
-fn follows_finish(facts: &[Fact], t: TaskNo, n: u64) -> bool
-    requires { IsSorted fact_cmp facts.now }
+fn follows_finish(facts: &Facts, t: TaskNo, n: u64) -> bool
     ensures { (j : History) → KnowsFacts j facts.now → IsTrue result ↔ (1 < n → (c' : ℕ) × IsSomewhere j (entry.Finish t (n - 1) c')) }
 {
     if n <= 1 {
@@ -24,8 +22,7 @@ fn follows_finish(facts: &[Fact], t: TaskNo, n: u64) -> bool
 }
 
 /// Whether run `n` of the task may be a pick.
-fn may_pick(facts: &[Fact], t: TaskNo, n: u64) -> bool
-    requires { IsSorted fact_cmp facts.now }
+fn may_pick(facts: &Facts, t: TaskNo, n: u64) -> bool
     ensures { (j : History) → KnowsFacts j facts.now → IsTrue result ↔ ((n % 2 ≡ 1) × (1 < n → (c' : ℕ) × IsSomewhere j (entry.Finish t (n - 1) c'))) }
 {
     if n % 2 != 1 {
@@ -35,8 +32,7 @@ fn may_pick(facts: &[Fact], t: TaskNo, n: u64) -> bool
 }
 
 /// Whether run `n` of the task may be a finish at this place, on the processor.
-fn may_finish(facts: &[Fact], t: TaskNo, n: u64, c: CpuNo, seat: SeatNo, index: u64) -> bool
-    requires { IsSorted fact_cmp facts.now }
+fn may_finish(facts: &Facts, t: TaskNo, n: u64, c: CpuNo, seat: SeatNo, index: u64) -> bool
     ensures { (j : History) → KnowsFacts j facts.now → IsTrue result ↔ ((n % 2 ≡ 0) × (0 < n) × IsBefore j seat index (entry.Pick t (n - 1) c)) }
 {
     if n == 0 {
@@ -52,7 +48,7 @@ fn may_finish(facts: &[Fact], t: TaskNo, n: u64, c: CpuNo, seat: SeatNo, index: 
 /// processor.
 pub fn runs_alternate(
     journals: &Journals,
-    facts: &[Fact],
+    facts: &Facts,
     seat: SeatNo,
     index: u64,
     entry: Entry,

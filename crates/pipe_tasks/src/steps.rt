@@ -22,10 +22,12 @@ pub fn wanted_side(plan: &Plan) -> Option<u32>
     }
 }
 
-/// Makes the next line of a source, or none where it has ended. A refusal leaves the plan as it was.
+/// Makes the next line of a source, or none where it has ended. The plan moves on with a line, and stays as it was
+/// where there is none, so that a source which has ended stays so. A refusal leaves it as it was too.
 pub fn make_line(alloc: Global, plan: &mut Plan) -> Result<Option<Line>, NoMemory>
     requires { wants plan.old ≡ None }
     ensures line { IfOk result (λ r. MatchOption r (made plan.old ≡ None) (λ line. made plan.old ≡ Some (line, plan.new))) }
+    ensures ended { IfOk result (λ r. r ≡ None → plan.new ≡ plan.old) }
     ensures err { OnErr result (plan.new ≡ plan.old) }
 {
     match plan {

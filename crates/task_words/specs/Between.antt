@@ -13,7 +13,8 @@ use Rattle.word_table.specs.declared.view.View.{View}
 
 -- the core that a table shows: by its words, the values in its slots, and what its seats did
 abbrev pub core_shown :
-    {B : Type 0} (lasting : B → List ℕ) (ended : B → Bool) (key : Key B) (state : State (Slot B) View) → Ruled lasting ended key state → Table
+    {B : Type 0} (lasting : B → List ℕ) (ended : B → Bool) (key : Key B) (state : State (Slot B) View)
+    → Ruled lasting ended key state → Table
 core_shown lasting ended key state ruled =
     core_of key.shape (words_of state.words) (homes_of state.homes ruled.ended) ruled.trace
 

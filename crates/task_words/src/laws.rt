@@ -13,5 +13,6 @@ use word_table::Kept;
 /// one queue and once, and is queued once for a wake. The rule is what `atomic_table` keeps from the first state on, so
 /// each state in which a thread can find the words is such a state.
 pub fn between_steps<B: Kept>()
-    ensures { (key : Key B) (state : State (Slot B) View) → (ruled : Ruled B.lasting B.ended key state) → LawsHold (core_shown B.lasting B.ended key state ruled) }
+    ensures { (key : Key B) (state : State (Slot B) View) (ruled : Ruled B.lasting B.ended key state)
+        → LawsHold (core_shown B.lasting B.ended key state ruled) }
 {}

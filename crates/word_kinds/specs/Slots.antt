@@ -23,17 +23,20 @@ module _ (shape : Shape) (words : ℕ → ℕ → ℕ) (homes : Homes) (traces :
   GiveIsEvent sort taken given =
       Kept shape words homes traces → s < shape.cpus + shape.agents → n < count_of sort shape
       → held_of sort (traces s) n ≡ Some taken → MayGive s (traces s) shape sort n given
-      → IsEvent shape words homes traces s (Gave n taken given) (put_at words n (lock_of sort) 0) (with_home n given homes)
+      → IsEvent shape words homes traces s (Gave n taken given) (put_at words n (lock_of sort) 0)
+      (with_home n given homes)
 
   -- the body of a task leaves its slot
   abbrev pub OutIsEvent : Type 0
   OutIsEvent =
       Kept shape words homes traces → s < shape.cpus + shape.agents → n < shape.tasks → MayTakeBody s (traces s) n
-      → IsEvent shape words homes traces s (OutBody n (homes.ended n)) words (record homes { body = put homes.body n false })
+      → IsEvent shape words homes traces s (OutBody n (homes.ended n)) words
+      (record homes { body = put homes.body n false })
 
   -- .. and comes home, which has ended or not
   abbrev pub HomeIsEvent : Bool → Type 0
   HomeIsEvent ended =
-      Kept shape words homes traces → s < shape.cpus + shape.agents → n < shape.tasks → MayReturnBody s (traces s) n ended
+      Kept shape words homes traces → s < shape.cpus + shape.agents → n < shape.tasks
+      → MayReturnBody s (traces s) n ended
       → IsEvent shape words homes traces s (HomeBody n ended) words
       (record homes { body = put homes.body n true; ended = put homes.ended n ended })

@@ -10,12 +10,16 @@ ghost use Rattle.word_steps.specs.declared.val.Val.{Val};
 
 /// A lock that is taken, and one that is given, is one event of the core that the words show.
 pub fn locks_make_events()
-    ensures takes { (shape : Shape) (words : ℕ → ℕ → ℕ) (homes : Homes) (traces : ℕ → List Rec) (s n : ℕ) (sort : Sort) (v : Val) → TakeIsEvent shape words homes traces s n sort v }
-    ensures gives { (shape : Shape) (words : ℕ → ℕ → ℕ) (homes : Homes) (traces : ℕ → List Rec) (s n : ℕ) (sort : Sort) (taken given : Val) → GiveIsEvent shape words homes traces s n sort taken given }
+    ensures takes { (shape : Shape) (words : ℕ → ℕ → ℕ) (homes : Homes) (traces : ℕ → List Rec) (s n : ℕ) (sort : Sort)
+        (v : Val) → TakeIsEvent shape words homes traces s n sort v }
+    ensures gives { (shape : Shape) (words : ℕ → ℕ → ℕ) (homes : Homes) (traces : ℕ → List Rec) (s n : ℕ) (sort : Sort)
+        (taken given : Val) → GiveIsEvent shape words homes traces s n sort taken given }
 {}
 
 /// A body that is taken out, and one that comes home, is one event of that core.
 pub fn bodies_make_events()
-    ensures out { (shape : Shape) (words : ℕ → ℕ → ℕ) (homes : Homes) (traces : ℕ → List Rec) (s t : ℕ) → OutIsEvent shape words homes traces s t }
-    ensures home { (shape : Shape) (words : ℕ → ℕ → ℕ) (homes : Homes) (traces : ℕ → List Rec) (s t : ℕ) (ended : Bool) → HomeIsEvent shape words homes traces s t ended }
+    ensures out { (shape : Shape) (words : ℕ → ℕ → ℕ) (homes : Homes) (traces : ℕ → List Rec) (s t : ℕ)
+        → OutIsEvent shape words homes traces s t }
+    ensures home { (shape : Shape) (words : ℕ → ℕ → ℕ) (homes : Homes) (traces : ℕ → List Rec) (s t : ℕ) (ended : Bool)
+        → HomeIsEvent shape words homes traces s t ended }
 {}

@@ -1,4 +1,4 @@
-use Rattle.std.proofs.Common.{◌⊎◌, ◌↔◌}
+use Rattle.std.proofs.Common.{◌↔◌}
 use Rattle.std.specs.Prelude.{Contains}
 use Rattle.journal_facts.specs.declared.fact.Fact.{Fact}
 use Rattle.journal_facts.proofs.Growth.{JournalBelow}

@@ -1,7 +1,5 @@
-use Rattle.std.proofs.Common.{◌≡◌, ◌⊎◌, ◌<◌, ℕ, arith, inl, inr}
-use Rattle.std.proofs.lemmas.Bool.{cases_lt}
-use Rattle.handoff_data.specs.Mask.{HasCpu}
-use Rattle.journal_facts.proofs.Growth.{joined, next_cpu, CpuBelow}
+use Rattle.std.proofs.Common.{◌<◌, arith, inl, inr}
+use Rattle.journal_facts.proofs.Growth.{joined, next_cpu}
 use Rattle.journal_facts.proofs.members.push_mask.Goals as goal
 
 pub loop-cpu-init : goal.loop-cpu-init

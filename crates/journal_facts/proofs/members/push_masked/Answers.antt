@@ -1,7 +1,6 @@
-use Rattle.std.proofs.Common.{◌≡◌, ◌⊎◌, ◌↔◌, subst, sym}
+use Rattle.std.proofs.Common.{◌⊎◌, ◌↔◌, subst, sym}
 use Rattle.std.specs.Prelude.{Contains}
 use Rattle.handoff_data.specs.declared.entry.Entry.{Entry}
-use Rattle.journal_facts.specs.declared.fact.Fact.{Fact}
 use Rattle.journal_facts.specs.Members.{IsEntryMember}
 use Rattle.journal_facts.proofs.members.push_masked.Goals as goal
 

@@ -1,7 +1,7 @@
-use Rattle.std.proofs.Common.{arith, inl, inr, get_or}
+use Rattle.std.proofs.Common.{arith, inl, inr}
 use Rattle.std.proofs.Common.{◌<◌, length}
 use Rattle.std.proofs.lemmas.Option.{slice_get-get_or, slice_get_within}
-use Rattle.journal_facts.proofs.Growth.{joined, next_entry, EntryBelow}
+use Rattle.journal_facts.proofs.Growth.{joined, next_entry}
 use Rattle.journal_facts.proofs.members.push_masks.Goals as goal
 
 pub loop-entry-init : goal.loop-entry-init

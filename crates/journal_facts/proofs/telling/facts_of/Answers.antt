@@ -1,11 +1,9 @@
-use Rattle.std.proofs.Common.{ℕ, ◌≡◌, ◌≤◌, ◌++◌, arith, subst, List, [], length, drop, length-drop, ◌+◌, refl, ap, ◌∙◌, sym, get_or}
-use Rattle.std.specs.Ordering.{nat_cmp, ordering_then, is_lt}
-use Rattle.journal_facts.specs.Facts.{fact_cmp, kind_number, told_from}
+use Rattle.std.proofs.Common.{ℕ, ◌≡◌, ◌≤◌, ◌++◌, arith, subst, List, [], length, drop, length-drop, ap, ◌∙◌, sym}
+use Rattle.journal_facts.specs.Facts.{told_from}
 use Rattle.journal_facts.specs.declared.fact.Fact.{Fact}
 use Rattle.std.specs.Prelude.{Contains, IsPermutation}
 use Rattle.std.proofs.lemmas.List.{append-nil, nil_from_length}
 use Rattle.std.proofs.lemmas.List.Sorted.{Contains-permutation, IsPermutation-sym}
-use Rattle.journal_facts.proofs.Order.{fact_same}
 use Rattle.journal_facts.proofs.Told.{told_is}
 use Rattle.journal_facts.proofs.telling.facts_of.Goals as goal
 
@@ -16,17 +14,12 @@ pub returns-clause-told : goal.returns-clause-told
 returns-clause-told c = λ f.
     let seats = c.args.seats.now in
     let old = c.loop-i.facts.items in
-    let new = c.sort_unstable.new.self.items in
+    let new = c.sorted.result in
     let past : drop c.loop-i.i seats ≡ [] = nothing_left seats c.loop-i.i (omega arith) in
     let listed : old ≡ told_from 0 seats
     = sym (append-nil old) ∙ ap (λ rest. old ++ told_from c.loop-i.i rest) (sym past) ∙ c.loop-i.invariant in
-    let perm : IsPermutation old new = c.sort_unstable.ensures.permutation in
+    let perm : IsPermutation old new = c.sorted.ensures in
     let told = told_is seats f in (
       λ has. told.0 (subst (λ (xs : List Fact). Contains xs f) listed (Contains-permutation new old f (IsPermutation-sym old new perm) has)),
       λ t. Contains-permutation old new f perm (subst (λ (xs : List Fact). Contains xs f) (sym listed) (told.1 t)),
     )
-
-pub returns-clause-sorted : goal.returns-clause-sorted
-returns-clause-sorted c = λ k d lo hi.
-    let facts = c.sort_unstable.new.self.items in
-    ap is_lt (sym (fact_same (get_or facts (k + 1) d) (get_or facts k d))) ∙ c.sort_unstable.ensures.sorted k d lo hi

@@ -1,4 +1,4 @@
-use Rattle.journal_judge.specs.Judging.{IsJudgeAt, EarlierKeepAll}
+use Rattle.journal_legal.specs.Judging.{IsJudgeAt, EarlierKeepAll}
 use Rattle.journal_legal.proofs.walk.first_bad.Given as goal
 
 -- the judge stands before the first entry of this seat, and all earlier entries keep all rules

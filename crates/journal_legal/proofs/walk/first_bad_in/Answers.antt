@@ -1,7 +1,7 @@
 -- Where an entry keeps all rules, all before the next one do.
 use Rattle.std.proofs.Common.{ℕ, ◌<◌, length, arith, subst}
 use Rattle.std.proofs.lemmas.Option.{slice_get-get_or}
-use Rattle.journal_judge.specs.Judging.{EarlierKeepAll}
+use Rattle.journal_legal.specs.Judging.{EarlierKeepAll}
 use Rattle.journal_legal.proofs.Earlier.{earlier_next, earlier_seat, stands-at}
 use Rattle.journal_legal.proofs.walk.first_bad_in.Goals as goal
 

@@ -1,4 +1,4 @@
-use Rattle.journal_judge.specs.Judging.{IsJudgeAt, EarlierKeepAll}
+use Rattle.journal_legal.specs.Judging.{IsJudgeAt, EarlierKeepAll}
 use Rattle.journal_legal.proofs.walk.first_bad_in.Given as goal
 
 -- the judge stands before this entry, and all earlier entries keep all rules

@@ -1,7 +1,7 @@
 use Rattle.std.proofs.Common.{◌<◌, ◌==◌, Some, None, length, arith}
-use Rattle.core_data.proofs.FoundLemmas.{found_item}
+use Rattle.step_data.proofs.FoundLemmas.{found_item}
 use Rattle.core_data.specs.declared.held.HeldWorks.{HeldWorks}
-use Rattle.core_stores.proofs.outs.find_works.Goals as goal
+use Rattle.step_stores.proofs.outs.find_works.Goals as goal
 
 pub loop-h-preserved : goal.loop-h-preserved
 loop-h-preserved c =

@@ -2,8 +2,8 @@ use Rattle.std.proofs.Common.{ℕ, Option, Some, None, ◌==◌, sym, ap, ◌∙
 use Rattle.core_data.specs.Found.{found}
 use Rattle.core_data.specs.Queue.{Queue}
 use Rattle.core_data.specs.declared.held.HeldQueue.{HeldQueue}
-use Rattle.core_stores.proofs.Writes.{get-queue_out}
-use Rattle.core_stores.proofs.outs.queue_out.Goals as goal
+use Rattle.step_stores.proofs.Writes.{get-queue_out}
+use Rattle.step_stores.proofs.outs.queue_out.Goals as goal
 
 pub returns : goal.returns
 returns c =

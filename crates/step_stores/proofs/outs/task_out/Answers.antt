@@ -2,8 +2,8 @@ use Rattle.std.proofs.Common.{ℕ, Option, Some, None, ◌==◌, sym, ap, ◌∙
 use Rattle.core_data.specs.Found.{found}
 use Rattle.core_data.specs.declared.held.HeldTask.{HeldTask}
 use Rattle.core_data.specs.declared.values.TaskVal.{TaskVal}
-use Rattle.core_stores.proofs.Writes.{get-task_out}
-use Rattle.core_stores.proofs.outs.task_out.Goals as goal
+use Rattle.step_stores.proofs.Writes.{get-task_out}
+use Rattle.step_stores.proofs.outs.task_out.Goals as goal
 
 pub returns : goal.returns
 returns c =

@@ -2,8 +2,8 @@ use Rattle.std.proofs.Common.{ℕ, List, Option, Some, None, ◌==◌, sym, ap, 
 use Rattle.core_data.specs.Found.{found}
 use Rattle.core_data.specs.declared.held.HeldWait.{HeldWait}
 use Rattle.core_data.specs.declared.values.WaitEntry.{WaitEntry}
-use Rattle.core_stores.proofs.Writes.{get-wait_out}
-use Rattle.core_stores.proofs.outs.wait_out.Goals as goal
+use Rattle.step_stores.proofs.Writes.{get-wait_out}
+use Rattle.step_stores.proofs.outs.wait_out.Goals as goal
 
 pub returns : goal.returns
 returns c =

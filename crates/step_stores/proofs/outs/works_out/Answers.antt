@@ -2,8 +2,8 @@ use Rattle.std.proofs.Common.{ℕ, List, Option, Some, None, ◌==◌, sym, ap, 
 use Rattle.core_data.specs.Found.{found}
 use Rattle.core_data.specs.declared.held.HeldWorks.{HeldWorks}
 use Rattle.core_data.specs.declared.values.WorkItem.{WorkItem}
-use Rattle.core_stores.proofs.Writes.{get-works_out}
-use Rattle.core_stores.proofs.outs.works_out.Goals as goal
+use Rattle.step_stores.proofs.Writes.{get-works_out}
+use Rattle.step_stores.proofs.outs.works_out.Goals as goal
 
 pub returns : goal.returns
 returns c =

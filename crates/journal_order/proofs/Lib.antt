@@ -1,3 +1,0 @@
-pub mod Latest
-pub mod Rising
-pub mod Ending

@@ -1,5 +1,0 @@
-use Rattle.journal_order.specs.Order.{RoseBefore}
-use Rattle.journal_order.proofs.tests.first_falling_of.Given as goal
-
-abbrev pub invariant-loop-index : goal.invariant-loop-index
-invariant-loop-index l = RoseBefore l.fn.journals 0 l.index

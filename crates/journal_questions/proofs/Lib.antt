@@ -1,6 +1,0 @@
-pub mod Fronts
-pub mod KindNumbers
-pub mod Lasts
-pub mod Lexical
-pub mod Points
-pub mod Runs
