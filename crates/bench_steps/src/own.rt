@@ -1,7 +1,7 @@
 //! Steps of a seat that runs a task.
 ghost use Rattle.std.specs.Prelude.{◌≡◌, ◌<◌, true};
 ghost use Rattle.bench_steps.specs.Small.{IsSmall};
-ghost use Rattle.task_words.specs.Views.{IsOf, IsSame, IsSameSeat};
+ghost use Rattle.task_words.specs.Views.{IsOf, IsSame, IsOneSeat};
 ghost use Rattle.uses.specs.Between.{IsBetween, IsRunning};
 
 use handoff_data::State;
@@ -16,7 +16,7 @@ pub trait OwnStep {
         requires small { IsSmall wk.now.shape }
         requires processor { pass.old.seat < wk.now.shape.cpus }
         requires running { IsRunning 0 pass.old }
-        ensures same { IsSameSeat pass.old pass.new }
+        ensures same { IsOneSeat pass.old pass.new }
         ensures running { result ≡ true → IsRunning 0 pass.new };
 }
 
@@ -26,7 +26,7 @@ pub fn repeat_own<S: OwnStep, R: Wait>(rt: &R, wk: &Wk<()>, pass: &mut Pass, cou
     requires small { IsSmall wk.now.shape }
     requires processor { pass.old.seat < wk.now.shape.cpus }
     requires running { IsRunning 0 pass.old }
-    ensures same { IsSameSeat pass.old pass.new }
+    ensures same { IsOneSeat pass.old pass.new }
     ensures running { result ≡ true → IsRunning 0 pass.new }
 {
     for _ in 0..count {
@@ -44,7 +44,7 @@ pub fn begin_own<R: Wait>(rt: &R, wk: &Wk<()>, pass: &mut Pass, dozes: bool) -> 
     requires small { IsSmall wk.now.shape }
     requires processor { pass.old.seat < wk.now.shape.cpus }
     requires between { IsBetween pass.old }
-    ensures same { IsSameSeat pass.old pass.new }
+    ensures same { IsOneSeat pass.old pass.new }
     ensures running { result ≡ true → IsRunning 0 pass.new }
 {
     pass.clear_turn();

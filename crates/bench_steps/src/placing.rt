@@ -1,7 +1,7 @@
 //! Stores to words of a new task, by a seat that has its lock.
 ghost use Rattle.std.specs.Prelude.{◌≡◌, ◌<◌, None, IfSome};
 ghost use Rattle.bench_steps.specs.Placing.{IsPlacing};
-ghost use Rattle.task_words.specs.Views.{IsOf, IsSame, IsSameSeat};
+ghost use Rattle.task_words.specs.Views.{IsOf, IsSame, IsOneSeat};
 ghost use Rattle.uses.specs.Between.{IsBetween};
 ghost use Rattle.word_rule.specs.Told.{TakenTask};
 ghost use Rattle.word_steps.specs.Folds.{current_task};
@@ -49,7 +49,7 @@ pub fn place_often<P: Placing, R: Wait>(rt: &R, wk: &Wk<()>, pass: &mut Pass, co
     requires of { IsOf wk.now pass.old }
     requires task { 0 < wk.now.shape.tasks }
     requires between { IsBetween pass.old }
-    ensures same { IsSameSeat pass.old pass.new }
+    ensures same { IsOneSeat pass.old pass.new }
 {
     let Some((task, c)) = begin_placing(rt, wk, pass, 0) else {
         return false;
@@ -116,7 +116,7 @@ fn end_placing<R: Wait>(rt: &R, wk: &Wk<()>, pass: &mut Pass, task: TaskGuard<()
     requires placing { IsPlacing task.task c task.val pass.old.trace }
     requires fits { TakenTask wk.now.shape task.val }
     requires idle { current_task pass.old.seat pass.old.trace ≡ None }
-    ensures same { IsSameSeat pass.old pass.new }
+    ensures same { IsOneSeat pass.old pass.new }
 {
     pass.clear_turn();
     let t = task.task();

@@ -1,6 +1,6 @@
 //! Steps that a task allows once, made with many tasks.
 ghost use Rattle.std.specs.Prelude.{◌≡◌, ◌<◌, true};
-ghost use Rattle.task_words.specs.Views.{IsOf, IsSameSeat};
+ghost use Rattle.task_words.specs.Views.{IsOf, IsOneSeat};
 ghost use Rattle.uses.specs.Between.{IsBetween};
 
 use handoff_data::TaskNo;
@@ -18,7 +18,7 @@ pub trait Start {
         requires task { t < wk.now.shape.tasks }
         requires processor { pass.old.seat < wk.now.shape.cpus }
         requires between { IsBetween pass.old }
-        ensures same { IsSameSeat pass.old pass.new }
+        ensures same { IsOneSeat pass.old pass.new }
         ensures between { result ≡ true → IsBetween pass.new };
 }
 
@@ -28,7 +28,7 @@ pub fn start_all<S: Start, R: Wait>(rt: &R, wk: &Wk<()>, pass: &mut Pass) -> boo
     requires tasks { wk.now.shape.tasks ≡ 200 }
     requires processor { pass.old.seat < wk.now.shape.cpus }
     requires between { IsBetween pass.old }
-    ensures same { IsSameSeat pass.old pass.new }
+    ensures same { IsOneSeat pass.old pass.new }
     ensures between { result ≡ true → IsBetween pass.new }
 {
     for t in 0..TASKS {

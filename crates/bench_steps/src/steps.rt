@@ -1,6 +1,6 @@
 //! Each kind of step that a seat can repeat which holds nothing.
 ghost use Rattle.bench_steps.specs.Small.{IsSmall};
-ghost use Rattle.task_words.specs.Views.{IsOf, IsSame, IsSameSeat};
+ghost use Rattle.task_words.specs.Views.{IsOf, IsSame, IsOneSeat};
 ghost use Rattle.uses.specs.Holds.{HoldsNothing};
 
 use crate::step::Step;

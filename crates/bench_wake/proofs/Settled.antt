@@ -1,20 +1,20 @@
 -- A seat that stands between two scenarios may walk along a wait queue, and stands so after it.
 use Rattle.std.proofs.Common.{◌≡◌, ◌∙◌, ℕ, ap, sym, Some, None}
-use Rattle.task_words.specs.Views.{PassView, IsSameSeat}
+use Rattle.task_words.specs.Views.{PassView, IsOneSeat}
 use Rattle.uses.specs.Between.{IsBetween}
 use Rattle.wait_queue.specs.Settles.{IsFree, Settles}
 use Rattle.word_steps.specs.Folds.{current_task, task_to_clear}
 
-pub settles_between : (old new : PassView) → IsBetween old → IsSameSeat old new
+pub settles_between : (old new : PassView) → IsBetween old → IsOneSeat old new
     → Settles old.seat old.trace new.trace → IsBetween new
 settles_between old new between same settles = record {
   free = record {
     nothing = record {
       tasks = λ u. settles.tasks u (between.free.nothing.tasks u);
       queues = settles.queues between.free.nothing.queues;
-      works = λ c. (λ i. settles.works i c) ∙ between.free.nothing.works c;
+      works = λ c. (λ i. settles.untouched.works i c) ∙ between.free.nothing.works c;
       waits = λ k. settles.waits k (between.free.nothing.waits k);
-      body = settles.body ∙ between.free.nothing.body;
+      body = settles.untouched.body ∙ between.free.nothing.body;
     };
     unclaimed = λ u. settles.claimed u (between.free.unclaimed u);
   };

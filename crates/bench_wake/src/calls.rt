@@ -1,6 +1,6 @@
 //! Starts, wake-ups and walks by a seat that runs no task.
 ghost use Rattle.std.specs.Prelude.{◌≡◌, ◌<◌};
-ghost use Rattle.task_words.specs.Views.{IsOf, IsSameSeat};
+ghost use Rattle.task_words.specs.Views.{IsOf, IsOneSeat};
 ghost use Rattle.uses.specs.Between.{IsBetween};
 
 use handoff_data::{CondNo, CpuNo, State, TaskNo};
@@ -16,7 +16,7 @@ pub fn start_one<R: Wait>(rt: &R, wk: &Wk<()>, pass: &mut Pass, t: TaskNo, c: Cp
     requires task { t < wk.now.shape.tasks }
     requires processor { c < wk.now.shape.cpus }
     requires between { IsBetween pass.old }
-    ensures same { IsSameSeat pass.old pass.new }
+    ensures same { IsOneSeat pass.old pass.new }
     ensures between { IsBetween pass.new }
 {
     pass.clear_turn();
@@ -31,7 +31,7 @@ pub fn wake_one<R: Wait>(rt: &R, wk: &Wk<()>, pass: &mut Pass, t: TaskNo) -> Wak
     requires of { IsOf wk.now pass.old }
     requires task { t < wk.now.shape.tasks }
     requires between { IsBetween pass.old }
-    ensures same { IsSameSeat pass.old pass.new }
+    ensures same { IsOneSeat pass.old pass.new }
     ensures between { IsBetween pass.new }
 {
     pass.clear_turn();
@@ -44,7 +44,7 @@ pub fn walk_one<R: Wait>(rt: &R, wk: &Wk<()>, pass: &mut Pass, k: CondNo) -> u32
     requires of { IsOf wk.now pass.old }
     requires condition { k < wk.now.shape.conds }
     requires between { IsBetween pass.old }
-    ensures same { IsSameSeat pass.old pass.new }
+    ensures same { IsOneSeat pass.old pass.new }
     ensures between { IsBetween pass.new }
 {
     pass.clear_turn();

@@ -1,7 +1,7 @@
 //! Wake-ups of tasks that are off every queue.
 ghost use Rattle.std.specs.Prelude.{◌≡◌, ◌<◌, true};
 ghost use Rattle.bench_wake.specs.Ready.{IsReady, IsRoom};
-ghost use Rattle.task_words.specs.Views.{IsOf, IsSameSeat};
+ghost use Rattle.task_words.specs.Views.{IsOf, IsOneSeat};
 ghost use Rattle.uses.specs.Between.{IsBetween};
 
 use crate::calls::wake_one;
@@ -47,7 +47,7 @@ fn sleep_one<R: Wait>(rt: &R, wk: &Wk<()>, pass: &mut Pass) -> bool
         return false;
     };
     set_state(wk, pass, State::TASK_INTERRUPTIBLE);
-    if pass.spare() < 2 {
+    if pass.spare() < 12 {
         return false;
     }
     switch_out(rt, wk, pass, t)

@@ -1,7 +1,7 @@
 //! Wake-ups of a task whose state doesn't match.
 ghost use Rattle.std.specs.Prelude.{◌≡◌, ◌<◌};
 ghost use Rattle.bench_wake.specs.Ready.{IsReady};
-ghost use Rattle.task_words.specs.Views.{IsOf, IsSameSeat};
+ghost use Rattle.task_words.specs.Views.{IsOf, IsOneSeat};
 ghost use Rattle.uses.specs.Between.{IsBetween};
 
 use crate::calls::wake_one;
@@ -33,7 +33,7 @@ fn repeat<R: Wait>(rt: &R, wk: &Wk<()>, pass: &mut Pass, count: u32) -> bool
     requires of { IsOf wk.now pass.old }
     requires task { 0 < wk.now.shape.tasks }
     requires between { IsBetween pass.old }
-    ensures same { IsSameSeat pass.old pass.new }
+    ensures same { IsOneSeat pass.old pass.new }
 {
     for _ in 0..count {
         match wake_one(rt, wk, pass, 0) {

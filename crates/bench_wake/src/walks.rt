@@ -1,7 +1,7 @@
 //! Walks along wait queues, each of whose entries is of a task that sleeps.
 ghost use Rattle.std.specs.Prelude.{◌≡◌, ◌<◌, true};
 ghost use Rattle.bench_wake.specs.Ready.{IsReady, IsRoom};
-ghost use Rattle.task_words.specs.Views.{IsOf, IsSameSeat};
+ghost use Rattle.task_words.specs.Views.{IsOf, IsOneSeat};
 ghost use Rattle.uses.specs.Between.{IsBetween};
 
 use crate::calls::walk_one;
@@ -87,7 +87,7 @@ fn sleep_at<R: Wait>(rt: &R, wk: &Wk<()>, pass: &mut Pass, k: CondNo) -> bool
         return false;
     };
     let seen = load_cond(wk, pass, k);
-    if pass.spare() < 2 {
+    if pass.spare() < 12 {
         return false;
     }
     sleep(rt, wk, pass, t, k, seen)

@@ -1,16 +1,14 @@
 -- What a call that takes locks and gives them all back leaves as it was.
 use Rattle.std.specs.Prelude.{◌≡◌, ℕ, true, false, List, None}
-use Rattle.word_steps.specs.Folds.{task_held, queue_held, works_held, wait_held, body_held, ended_known, current_task, stays_queued, task_to_clear, is_claimed, has_passed, has_retaken, owes_walk}
+use Rattle.word_steps.specs.Folds.{task_held, queue_held, wait_held, current_task, task_to_clear, is_claimed, has_passed, has_retaken, owes_walk}
 use Rattle.word_steps.specs.Records.{Rec}
+use Rattle.task_words.specs.Untouched.{Untouched}
 
 -- no wait queue, works or body was taken or given, and no condition raised; the current task has not left its queue; whom
 -- the seat had passed on a walk it has passed still
 pub record IsApart (old new : List Rec) : Type 0 where
+  pub untouched : Untouched old new
   pub waits : wait_held new ≡ wait_held old
-  pub works : works_held new ≡ works_held old
-  pub body : body_held new ≡ body_held old
-  pub ended : ended_known new ≡ ended_known old
-  pub stays : stays_queued new ≡ stays_queued old
   pub owes : owes_walk new ≡ owes_walk old
   pub retaken : has_retaken new ≡ has_retaken old
   pub passed : (k u : ℕ) → has_passed old k u ≡ true → has_passed new k u ≡ true

@@ -12,6 +12,7 @@ use task_words::{Kept, Pass, TaskGuard, Wk, load_cpu, store_cpu};
 /// processor that the word had. As Linux's `try_to_wake_up` calls `set_task_cpu` where the processor changes.
 pub fn place<B: Kept>(wk: &Wk<B>, pass: &mut Pass, task: &TaskGuard<B>, c: CpuNo) -> CpuNo
     requires of { IsOf wk.now pass.old }
+    requires table { task.now.of ≡ wk.now.name }
     requires task { task.now.task < wk.now.shape.tasks }
     requires may { (from x : ℕ) → MayCpuWord pass.old.seat (LoadedCpu task.now.task from ∷ pass.old.trace) wk.now.shape task.now.task x c }
     ensures same { IsSame pass.old pass.new }

@@ -2,6 +2,7 @@
 ghost use Rattle.std.specs.Prelude.{◌≡◌, ℕ, ◌<◌, ◌≤◌, ◌+◌, None, Some, IsSome};
 ghost use Rattle.run_queue.specs.Rests.{Rests};
 ghost use Rattle.run_queue.specs.Starts.{DidStart, IsQueuedNew};
+ghost use Rattle.task_words.specs.Needs.{need_step, need_call};
 ghost use Rattle.task_words.specs.Views.{IsOf, IsSameSeat};
 ghost use Rattle.word_steps.specs.Folds.{current_task, task_to_clear, task_held, queue_held, number_read, last_reads};
 
@@ -23,7 +24,7 @@ fn queue_new<B: Kept, R: Wait>(rt: &R, wk: &Wk<B>, pass: &mut Pass, t: TaskNo, c
     requires never { number_read pass.old.trace t ≡ Some 0 }
     requires here { (last_reads pass.old.trace t).cpu ≡ Some c }
     requires free { queue_held pass.old.trace c ≡ None }
-    requires spare { 0 < pass.old.turn.spare }
+    requires spare { need_step ≤ pass.old.turn.spare }
     ensures same { IsSameSeat pass.old pass.new }
     ensures did { IsQueuedNew t c pass.old pass.new }
     ensures current { current_task pass.new.seat pass.new.trace ≡ current_task pass.old.seat pass.old.trace }
@@ -44,7 +45,7 @@ pub fn start<B: Kept, R: Wait>(rt: &R, wk: &Wk<B>, pass: &mut Pass, t: TaskNo, c
     requires processor { c < wk.now.shape.cpus }
     requires free { task_held pass.old.trace t ≡ None }
     requires free_queue { queue_held pass.old.trace c ≡ None }
-    requires spare { 0 < pass.old.turn.spare }
+    requires spare { need_call ≤ pass.old.turn.spare }
     ensures same { IsSameSeat pass.old pass.new }
     ensures did { DidStart t c pass.old pass.new result }
     ensures rests { Rests pass.old.seat pass.old.trace pass.new.trace }

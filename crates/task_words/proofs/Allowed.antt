@@ -10,14 +10,17 @@ use Rattle.core_data.specs.declared.values.TaskVal.{TaskVal}
 use Rattle.core_gives.specs.Queues.{times, is_some_of}
 use Rattle.handoff_data.specs.declared.shape.Shape.{Shape}
 use Rattle.handoff_data.specs.declared.state.State.{State}
-use Rattle.task_words.specs.Gives.{is_quiet, unquiet, IsAsTaken, IsPut, IsWoken, IsPicked, IsPutBack, IsAsleep, IsMoved, HasRoomFor, IsJustTaken, IsQueuedUnder}
+use Rattle.task_words.proofs.Finer.{IsFiner, finer_next, finer_without, finer_gives, loads_quiet}
+use Rattle.task_words.proofs.Read.{read_finer, unread_finer}
+use Rattle.task_words.specs.Gives.{is_load, is_quiet, since, IsAsTaken, IsPut, IsWoken, IsPicked, IsPickedCur, IsPutBack, IsAsleep, IsMoved, HasRoomFor, IsJustTaken, IsQueuedUnder}
 use Rattle.core_kinds.specs.Steps.{is_sleep, dead, running}
 use Rattle.task_words.specs.States.{IsOwnStore}
 use Rattle.task_words.specs.Queues.{MayQueueHere, MayMoveHere}
 use Rattle.word_rule.proofs.Uses.{gives_same, gives_put, gives_woken, gives_moved, gives_picked, gives_back, gives_asleep, IsPushed}
 use Rattle.word_rule.proofs.Possible.{value_of}
 use Rattle.word_rule.specs.May.{MayGiveQueueVal, MayGiveTaskVal, MaySetBusyWord, MayQueueWord, MayMoveWord, MayOwnWord, next_busy, next_rq}
-use Rattle.word_rule.specs.Standing.{may_run, is_runnable}
+use Rattle.word_rule.specs.Standing.{may_run}
+use Rattle.word_rule.specs.Told.{TakenQueue}
 use Rattle.word_steps.specs.Folds.{put_both, has_put, current_task, stays_queued, queue_held, number_read, task_to_clear, task_held, ended_known}
 use Rattle.word_steps.specs.Records.{Rec, Took, Gave, OutBody, HomeBody, Queued, Dequeued, Moved, SetBusy, ClearedBusy, StoredOwn, Claimed, Released, LoadedState, LoadedRq, LoadedBusy, LoadedCpu, StoredCpu, Bumped, LoadedCond}
 use Rattle.word_steps.specs.declared.val.Val.TheVariants as val
@@ -48,136 +51,109 @@ unwaiting v t once is =
     let one : ◌≡◌ {A = ℕ} (if is_some_of v.cur t then 1 else 0) (if t == t then 1 else 0) = ap (λ (o : Option ℕ). if is_some_of o t then 1 else 0) is in
     grind (arith, nat_tests, one, once)
 
--- What a quiet step leaves
+-- .. and it stands there once
+standing_once : (v : Queue) (t : ℕ) → times v t ≤ 1 → v.cur ≡ Some t → times v t ≡ 1
+standing_once v t once is =
+    let one : ◌≡◌ {A = ℕ} (if is_some_of v.cur t then 1 else 0) (if t == t then 1 else 0) = ap (λ (o : Option ℕ). if is_some_of o t then 1 else 0) is in
+    grind (arith, nat_tests, one, once)
 
-still_known : (b : Bool) (h : ℕ → ℕ → Bool) (s t c u : ℕ) → h c u ≡ true
-    → (if b then put_both h s t true else h) c u ≡ true
-still_known true h s t c u e = grind (arith, nat_tests, e)
-still_known false h s t c u e = e
-
-released_known : (b : Bool) (e : Bool) → e ≡ true → (if b then true else e) ≡ true
-released_known true e is = refl
-released_known false e is = is
-
-loud : {A : Type 0} (r : Rec) → is_quiet r ≡ false → is_quiet r ≡ true → A
-loud r quiet_not quiet_is = absurd (grind (arith, sym quiet_not ∙ quiet_is))
-
-module _ (shape : Shape) (s : ℕ) (rs : List Rec) (c : ℕ) (given : Queue) (h : MayGiveQueueVal s rs shape c given) where
-  -- what it adds to what may run is no less
-  abbrev IsMore : Rec → Type 0
-  IsMore r = (u : ℕ) → may_run s rs c u ≡ true → may_run s (r ∷ rs) c u ≡ true
-
-  quiet_gives : (r : Rec) → is_quiet r ≡ true → MayGiveQueueVal s (r ∷ rs) shape c given
-  quiet_gives (LoadedState t mask state) q =
-      let more : IsMore (LoadedState t mask state) = λ u e. still_known (is_some_of (current_task s rs) t && (stays_queued rs && (is_some (queue_held rs s) && is_runnable state))) (may_run s rs) s t c u e in
-      record { taken = h.taken; held = h.held; stands = h.stands; waits = λ u w. more u (h.waits u w); next = λ u e. elim (h.next u e) [ inl w ↦ inl (more u w) | inr w ↦ inr w ]; others = h.others; own = h.own; clear = h.clear; left = h.left }
-  quiet_gives (LoadedRq t on m) q =
-      let more : IsMore (LoadedRq t on m) = λ u e. e in
-      record { taken = h.taken; held = h.held; stands = h.stands; waits = λ u w. more u (h.waits u w); next = λ u e. elim (h.next u e) [ inl w ↦ inl (more u w) | inr w ↦ inr w ]; others = h.others; own = h.own; clear = h.clear; left = h.left }
-  quiet_gives (LoadedBusy t busy n) q =
-      let more : IsMore (LoadedBusy t busy n) = λ u e. e in
-      record { taken = h.taken; held = h.held; stands = h.stands; waits = λ u w. more u (h.waits u w); next = λ u e. elim (h.next u e) [ inl w ↦ inl (more u w) | inr w ↦ inr w ]; others = h.others; own = h.own; clear = h.clear; left = h.left }
-  quiet_gives (LoadedCpu t d) q =
-      let more : IsMore (LoadedCpu t d) = λ u e. e in
-      record { taken = h.taken; held = h.held; stands = h.stands; waits = λ u w. more u (h.waits u w); next = λ u e. elim (h.next u e) [ inl w ↦ inl (more u w) | inr w ↦ inr w ]; others = h.others; own = h.own; clear = h.clear; left = h.left }
-  quiet_gives (LoadedCond k v) q =
-      let more : IsMore (LoadedCond k v) = λ u e. e in
-      record { taken = h.taken; held = h.held; stands = h.stands; waits = λ u w. more u (h.waits u w); next = λ u e. elim (h.next u e) [ inl w ↦ inl (more u w) | inr w ↦ inr w ]; others = h.others; own = h.own; clear = h.clear; left = h.left }
-  quiet_gives (Released t) q =
-      let more : IsMore (Released t) = λ u e. released_known ((u == t) && has_put rs c u) (may_run s rs c u) e in
-      record { taken = h.taken; held = h.held; stands = h.stands; waits = λ u w. more u (h.waits u w); next = λ u e. elim (h.next u e) [ inl w ↦ inl (more u w) | inr w ↦ inr w ]; others = h.others; own = h.own; clear = h.clear; left = h.left }
-  quiet_gives (Took n v) q = loud (Took n v) refl q
-  quiet_gives (Gave n v w) q = loud (Gave n v w) refl q
-  quiet_gives (OutBody t b) q = loud (OutBody t b) refl q
-  quiet_gives (HomeBody t b) q = loud (HomeBody t b) refl q
-  quiet_gives (Queued t d on m) q = loud (Queued t d on m) refl q
-  quiet_gives (Dequeued t d m) q = loud (Dequeued t d m) refl q
-  quiet_gives (Moved t d m) q = loud (Moved t d m) refl q
-  quiet_gives (SetBusy t d n) q = loud (SetBusy t d n) refl q
-  quiet_gives (ClearedBusy t n) q = loud (ClearedBusy t n) refl q
-  quiet_gives (StoredOwn t state) q = loud (StoredOwn t state) refl q
-  quiet_gives (Claimed t m) q = loud (Claimed t m) refl q
-  quiet_gives (StoredCpu t d) q = loud (StoredCpu t d) refl q
-  quiet_gives (Bumped k v) q = loud (Bumped k v) refl q
-
--- What reads that a task runs tell, reads that it is new tell too
-
-module _ (shape : Shape) (s : ℕ) (rs : List Rec) (c t : ℕ) (state : State) (runs : is_runnable state ≡ true) where
-  runnable_may : (u : ℕ) → may_run s (LoadedState t None (record { 0 = 0 }) ∷ rs) c u ≡ true
-      → may_run s (LoadedState t None state ∷ rs) c u ≡ true
-  runnable_may u e = subst
-      (λ (b : Bool). (if is_some_of (current_task s rs) t && (stays_queued rs && (is_some (queue_held rs s) && b)) then put_both (may_run s rs) s t true else may_run s rs) c u ≡ true)
-      (sym runs) e
-
-  runnable_gives : (given : Queue) → MayGiveQueueVal s (LoadedState t None (record { 0 = 0 }) ∷ rs) shape c given
-      → MayGiveQueueVal s (LoadedState t None state ∷ rs) shape c given
-  runnable_gives given h = record {
-    taken = h.taken;
-    held = h.held;
-    stands = h.stands;
-    waits = λ u w. runnable_may u (h.waits u w);
-    next = λ u e. elim (h.next u e) [ inl w ↦ inl (runnable_may u w) | inr w ↦ inr w ];
-    others = h.others;
-    own = h.own;
-    clear = h.clear;
-    left = h.left;
-  }
+-- the queue is given as it was taken, after its next was picked
+gives_cur : (shape : Shape) (s : ℕ) (v : Queue) (rs : List Rec) → TakenQueue shape s rs s v → (t n : ℕ) → v.cur ≡ Some t
+    → MayGiveQueueVal s (SetBusy t s n ∷ Took s (val.Queue v) ∷ rs) shape s v
+gives_cur shape s v rs told t n next = record {
+  taken = v;
+  held = grind (arith, nat_tests);
+  stands = λ u. grind (arith, nat_tests);
+  waits = λ u w. grind (arith, nat_tests, w);
+  next = λ u e. inr (grind (arith, nat_tests));
+  others = λ ne. absurd (ne refl);
+  own = λ own u e. inl (next ∙ e);
+  clear = told.clear;
+  left = told.left;
+}
 
 module _ (shape : Shape) (s : ℕ) (c : ℕ) where
-  unquiet_gives : (given : Queue) (trace : List Rec) → MayGiveQueueVal s (unquiet trace) shape c given → MayGiveQueueVal s trace shape c given
-  unquiet_gives given [] h = h
-  unquiet_gives given (r ∷ rs) h = elim (cases_Bool (is_quiet r)) [
-    | inl q ↦ quiet_gives shape s rs c given (unquiet_gives given rs (subst (λ (b : Bool). MayGiveQueueVal s (if b then unquiet rs else r ∷ rs) shape c given) q h)) r q
-    | inr q ↦ subst (λ (b : Bool). MayGiveQueueVal s (if b then unquiet rs else r ∷ rs) shape c given) q h
-  ]
+  -- what may be given after the steps without loads may be given after all
+  loaded_gives : (given : Queue) (trace did : List Rec) → since trace c ≡ did → MayGiveQueueVal s did shape c given
+      → MayGiveQueueVal s trace shape c given
+  loaded_gives given trace did is may =
+      finer_gives s shape trace did c given
+      (subst (IsFiner s trace) is (finer_without s is_load loads_quiet c trace)) may
 
   pub as_taken_gives : (trace : List Rec) (given : Queue) → IsAsTaken shape s trace c given → MayGiveQueueVal s trace shape c given
-  as_taken_gives trace given x = unquiet_gives given trace
-      (subst (λ (z : List Rec). MayGiveQueueVal s z shape c given) (sym x.did) (gives_same shape s c given x.rs x.told))
+  as_taken_gives trace given x =
+      finer_gives s shape trace (Took c (val.Queue given) ∷ x.rs) c given
+      (subst (IsFiner s trace) x.did (finer_without s is_quiet (λ r q. q) c trace)) (gives_same shape s c given x.rs x.told)
 
   pub put_gives : (trace : List Rec) (given : Queue) → IsPut shape s trace c given → MayGiveQueueVal s trace shape c given
   put_gives trace given x =
-      subst (λ (z : List Rec). MayGiveQueueVal s z shape c given) (sym x.did)
+      loaded_gives given trace (Queued x.t c x.on x.m ∷ Took c (val.Queue x.v) ∷ x.rs) x.did
       (gives_put shape s c x.v x.rs x.told x.t x.on x.m given x.ready
       (subst (λ (q : Queue). IsPushed x.v.waiting q.waiting x.t) (sym x.put) (pushed x.v.waiting x.t))
       (ap (λ (q : Queue). q.cur) x.put) (ap (λ (q : Queue). q.left) x.put))
 
   pub woken_gives : (trace : List Rec) (given : Queue) → IsWoken shape s trace c given → MayGiveQueueVal s trace shape c given
   woken_gives trace given x =
-      subst (λ (z : List Rec). MayGiveQueueVal s z shape c given) (sym x.did)
+      loaded_gives given trace (Released x.t ∷ Queued x.t c x.on x.m ∷ Took c (val.Queue x.v) ∷ x.rs) x.did
       (gives_woken shape s c x.v x.rs x.told x.t x.on x.m given
       (subst (λ (q : Queue). IsPushed x.v.waiting q.waiting x.t) (sym x.put) (pushed x.v.waiting x.t))
       (ap (λ (q : Queue). q.cur) x.put) (ap (λ (q : Queue). q.left) x.put))
 
+  -- a task that was read as not busy before it was moved may be given up without that read
+  unread_moved : (t m : ℕ) (v : Queue) (rs : List Rec)
+      → IsFiner s (Moved t c m ∷ Took c (val.Queue v) ∷ rs) (Moved t c m ∷ LoadedBusy t false 0 ∷ Took c (val.Queue v) ∷ rs)
+  unread_moved t m v rs = let a = Took c (val.Queue v) ∷ rs in
+      finer_next s (Moved t c m) a (LoadedBusy t false 0 ∷ a) (record {
+        queues = refl;
+        stands = refl;
+        added = refl;
+        dropped = refl;
+        there = refl;
+        current = refl;
+        stays = refl;
+        body = refl;
+        clear = refl;
+        may = λ d u e. e;
+      })
+
   pub moved_gives : (trace : List Rec) (given : Queue) → IsMoved shape s trace c given → MayGiveQueueVal s trace shape c given
-  moved_gives trace given x =
-      subst (λ (z : List Rec). MayGiveQueueVal s z shape c given) (sym x.off.did)
-      (gives_moved shape s c x.v x.off.rs x.off.told x.t x.off.n x.off.m given
+  moved_gives trace given x = let did = Took c (val.Queue x.v) ∷ x.off.rs in
+      loaded_gives given trace (Moved x.t c x.off.m ∷ did) x.off.did
+      (finer_gives s shape (Moved x.t c x.off.m ∷ did) (Moved x.t c x.off.m ∷ LoadedBusy x.t false 0 ∷ did) c given
+      (unread_moved x.t x.off.m x.v x.off.rs)
+      (gives_moved shape s c x.v x.off.rs x.off.told x.t 0 x.off.m given
       (subst (λ (q : Queue). IsPushed q.waiting x.v.waiting x.t) (sym x.rest) (pulled x.v.waiting x.t x.off.waiting))
-      (ap (λ (q : Queue). q.cur) x.rest) (ap (λ (q : Queue). q.left) x.rest))
+      (ap (λ (q : Queue). q.cur) x.rest) (ap (λ (q : Queue). q.left) x.rest)))
 
 module _ (shape : Shape) (s : ℕ) (trace : List Rec) where
   pub picked_gives : (given : Queue) → IsPicked shape s trace given → MayGiveQueueVal s trace shape s given
   picked_gives given x =
-      subst (λ (z : List Rec). MayGiveQueueVal s z shape s given) (sym x.did)
+      loaded_gives shape s s given trace (SetBusy x.t s x.n ∷ Took s (val.Queue x.v) ∷ x.rs) x.did
       (gives_picked shape s x.v x.rs x.told x.t x.n given x.clear x.none
       (subst (λ (xs : List ℕ). IsPushed given.waiting xs x.t) (sym x.first) (fronted given.waiting x.t))
       (ap (λ (q : Queue). q.cur) x.next) (ap (λ (q : Queue). q.left) x.next))
 
+  pub picked_cur_gives : (given : Queue) → IsPickedCur shape s trace given → MayGiveQueueVal s trace shape s given
+  picked_cur_gives given x =
+      loaded_gives shape s s given trace (SetBusy x.t s x.n ∷ Took s (val.Queue given) ∷ x.rs) x.did
+      (gives_cur shape s given x.rs x.told x.t x.n x.next)
+
   pub back_gives : (given : Queue) → IsPutBack shape s trace given → MayGiveQueueVal s trace shape s given
   back_gives given x =
-      subst (λ (z : List Rec). MayGiveQueueVal s z shape s given) (sym x.did)
-      (runnable_gives shape s (Took s (val.Queue x.v) ∷ x.rs) s x.t x.state x.runs given
+      finer_gives s shape trace (LoadedState x.t None (record { 0 = 0 }) ∷ Took s (val.Queue x.v) ∷ x.rs) s given
+      (read_finer s x.t x.state x.runs x.v x.rs trace x.did x.current x.stays x.seen)
       (gives_back shape s x.v x.rs x.told x.t given x.current x.stays x.home
       (subst (λ (q : Queue). IsPushed x.v.waiting q.waiting x.t) (sym x.back) (pushed x.v.waiting x.t))
-      (ap (λ (q : Queue). q.cur) x.back) (ap (λ (q : Queue). q.left) x.back)))
+      (ap (λ (q : Queue). q.cur) x.back) (ap (λ (q : Queue). q.left) x.back))
 
   pub asleep_gives : (given : Queue) → IsAsleep shape s trace given → MayGiveQueueVal s trace shape s given
-  asleep_gives given x =
-      subst (λ (z : List Rec). MayGiveQueueVal s z shape s given) (sym x.did)
-      (gives_asleep shape s x.v x.rs x.told x.t x.m x.state given x.current x.home
+  asleep_gives given x = let did = Took s (val.Queue x.v) ∷ x.rs in
+      loaded_gives shape s s given trace (Dequeued x.t s x.m ∷ did) x.did
+      (finer_gives s shape (Dequeued x.t s x.m ∷ did) (Dequeued x.t s x.m ∷ LoadedState x.t None (record { 0 = 1 }) ∷ did) s given
+      (finer_next s (Dequeued x.t s x.m) did (LoadedState x.t None (record { 0 = 1 }) ∷ did) (unread_finer s x.t did))
+      (gives_asleep shape s x.v x.rs x.told x.t x.m (record { 0 = 1 }) given x.current x.home
       (λ u. ap (λ (q : Queue). times_in q.waiting u) x.gone)
-      (ap (λ (q : Queue). q.cur) x.gone) (ap (λ (q : Queue). q.left) x.gone))
+      (ap (λ (q : Queue). q.cur) x.gone) (ap (λ (q : Queue). q.left) x.gone)))
 
   pub absent_of : (c t : ℕ) (now : Queue) → HasRoomFor shape s trace c t now → times_in now.waiting t ≡ 0
   absent_of c t now (inl x) = let none : times now t ≡ 0 = x.told.off t x.off in omega (arith, none)
@@ -191,9 +167,12 @@ module _ (shape : Shape) (s : ℕ) (trace : List Rec) where
       → (t < shape.tasks) × (may_run s trace c t ≡ true)
   first_may c t now rest x first = (
     x.told.waiting t (λ none. absurd (omega (arith, none, one))),
-    subst (λ (z : List Rec). may_run s z c t ≡ true) (sym x.did) (grind (arith, nat_tests, one)),
+    (loaded_finer x).may c t (grind (arith, nat_tests, one)),
   )
     where
+      loaded_finer : (x : IsJustTaken shape s trace c now) → IsFiner s trace (Took c (val.Queue now) ∷ x.rs)
+      loaded_finer x = subst (IsFiner s trace) x.did (finer_without s is_load loads_quiet c trace)
+
       one : times_in now.waiting t ≡ times_in rest t + 1
       one = let all = ap (λ (xs : List ℕ). times_in xs t) first in let more = times_in-cons t rest t in grind (arith, nat_tests, all, more)
 
@@ -202,6 +181,12 @@ module _ (shape : Shape) (s : ℕ) (trace : List Rec) where
       → IfSome o (λ t. t < shape.tasks)
   popped_task c now new None x is = tt
   popped_task c now new (Some t) x is = (first_may c t now new.waiting x is.0).0
+
+  pub popped_ready : (c : ℕ) (now new : Queue) (o : Option ℕ) → IsJustTaken shape s trace c now
+      → MatchOption o ((now.waiting ≡ []) × (new ≡ now)) (λ t. (now.waiting ≡ t ∷ new.waiting) × (new ≡ record now { waiting = new.waiting }))
+      → IfSome o (λ t. may_run s trace c t ≡ true)
+  popped_ready c now new None x is = tt
+  popped_ready c now new (Some t) x is = (first_may c t now new.waiting x is.0).1
 
 -- a number that was read, and isn't 0
 numbered : (o : Option ℕ) → 0 < unwrap_or o 0 → (m : ℕ) × (o ≡ Some (suc m))
@@ -231,6 +216,25 @@ ready_may s trace t x held ready none clear room = let out = value_of (queue_hel
   none = none;
   clear = clear;
 }
+
+-- the next of the seat's own queue, just taken
+pub cur_may : (shape : Shape) (s : ℕ) (trace : List Rec) (now : Queue) (t x : ℕ) → IsAsTaken shape s trace s now → now.cur ≡ Some t
+    → current_task s trace ≡ None → task_to_clear s trace ≡ None → x / 2 < 2 ^ 60 → MaySetBusyWord s trace t x (next_busy x)
+cur_may shape s trace now t x h is none clear room =
+    let fine : IsFiner s trace (Took s (val.Queue now) ∷ h.rs) =
+    subst (IsFiner s trace) h.did (finer_without s is_quiet (λ r q. q) s trace) in record {
+      after = refl;
+      room = room;
+      taken = now;
+      queue = ap (λ (f : ℕ → Option Queue). f s) fine.queues ∙ grind (arith, nat_tests);
+      stands = inr (
+        standing_once now t (h.told.once t) is,
+        ap (λ (f : ℕ → ℕ → Bool). f s t) fine.added ∙ grind (arith, nat_tests),
+        ap (λ (f : ℕ → ℕ → Bool). f s t) fine.dropped ∙ grind (arith, nat_tests),
+      );
+      none = none;
+      clear = clear;
+    }
 
 pub here_may : (s : ℕ) (trace : List Rec) (c t x : ℕ) → MayQueueHere trace c t → x / 4 < 2 ^ 60 → MayQueueWord s trace t x (next_rq x 1)
 here_may s trace c t x h room = record { after = refl; room = room; locked = h.locked; cpu = c; read = h.read; queue = h.queue; ready = h.ready }

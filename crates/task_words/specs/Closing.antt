@@ -26,12 +26,12 @@ empty_turn tasks = record { entries = []; spare = 4 * tasks + 16 }
 -- the pass of the seat s, which did nothing yet, and those of n seats in their order
 abbrev pub new_pass : TableId → Shape → List (List ℕ) → ℕ → PassView
 new_pass name shape lasting s =
-    record { of = name; shape = shape; lasting = lasting; seat = s; trace = []; turn = empty_turn shape.tasks }
+    record { of = name; shape = shape; lasting = lasting; seat = s; trace = []; turn = empty_turn shape.tasks; told = [] }
 
 abbrev pub first_passes : TableId → Shape → List (List ℕ) → ℕ → List PassView
 first_passes name shape lasting n = map (new_pass name shape lasting) (range_with_len 0 n)
 
--- a pass but for its turn
+-- a pass but for its entries
 abbrev pub token_of : PassView → TokenView
 token_of pass = record { of = pass.of; shape = pass.shape; lasting = pass.lasting; seat = pass.seat; trace = pass.trace }
 

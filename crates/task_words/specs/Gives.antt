@@ -1,6 +1,6 @@
--- What a seat has done with a queue since it took the queue's lock, step by step: each shape of it allows the give. v is the
--- queue as it was taken, and rs the trace before.
-use Rattle.std.specs.Prelude.{◌≡◌, ℕ, ◌<◌, ◌++◌, ◌∷◌, [], ◌⊎◌, Bool, true, false, List, Some, None, if◌then◌else◌}
+-- What a seat has done with a queue since it took the queue's lock, but for loads: each shape of it allows the give. v is
+-- the queue as it was taken, and rs the trace before.
+use Rattle.std.specs.Prelude.{◌≡◌, ℕ, ◌<◌, ◌==◌, ◌++◌, ◌∷◌, [], ◌⊎◌, Bool, true, false, List, Some, None, if◌then◌else◌}
 use Rattle.std.specs.List.{filter}
 use Rattle.core_data.specs.Queue.{Queue, times_in, is_other}
 use Rattle.core_data.specs.declared.values.TaskVal.{TaskVal}
@@ -12,36 +12,50 @@ use Rattle.handoff_data.specs.declared.state.State.{State}
 use Rattle.word_rule.specs.May.{number_of}
 use Rattle.word_rule.specs.Standing.{is_runnable}
 use Rattle.word_rule.specs.Told.{TakenQueue, TakenWait, IsOff}
-use Rattle.word_steps.specs.Folds.{task_held, current_task, stays_queued, body_held, task_to_clear, is_claimed, is_moving}
+use Rattle.word_steps.specs.Folds.{task_held, current_task, stays_queued, body_held, task_to_clear, seen_state, is_claimed, is_moving}
 use Rattle.word_steps.specs.Records.{Rec, Took, Queued, Dequeued, Moved, SetBusy, StoredOwn, Released, LoadedState, LoadedRq, LoadedBusy, LoadedCpu, LoadedCond}
 use Rattle.word_steps.specs.declared.val.Val.TheVariants as val
 
--- loads, and TASK_RUNNING stored of another task, change nothing of a queue
-abbrev pub is_quiet : Rec → Bool
-is_quiet (LoadedState t mask state) = true
-is_quiet (LoadedRq t on m) = true
-is_quiet (LoadedBusy t busy n) = true
-is_quiet (LoadedCpu t c) = true
-is_quiet (LoadedCond k v) = true
-is_quiet (Released t) = true
-is_quiet r = false
+-- loads change nothing of a queue
+abbrev pub is_load : Rec → Bool
+is_load (LoadedState t mask state) = true
+is_load (LoadedRq t on m) = true
+is_load (LoadedBusy t busy n) = true
+is_load (LoadedCpu t c) = true
+is_load (LoadedCond k v) = true
+is_load r = false
 
--- the trace before the newest of those
-abbrev pub unquiet : List Rec → List Rec
-unquiet [] = []
-unquiet (r ∷ rs) = if is_quiet r then unquiet rs else r ∷ rs
+-- nor does TASK_RUNNING stored of another task
+abbrev pub is_quiet : Rec → Bool
+is_quiet (Released t) = true
+is_quiet r = is_load r
+
+abbrev pub takes_queue : ℕ → Rec → Bool
+takes_queue c (Took n (val.Queue v)) = n == c
+takes_queue c r = false
+
+-- the trace without such steps since the lock of the queue c was taken
+abbrev pub without : (Rec → Bool) → ℕ → List Rec → List Rec
+without such c [] = []
+without such c (r ∷ rs) = if takes_queue c r then r ∷ rs else (if such r then without such c rs else r ∷ without such c rs)
+
+abbrev pub since : List Rec → ℕ → List Rec
+since trace c = without is_load c trace
+
+abbrev pub quiet_since : List Rec → ℕ → List Rec
+quiet_since trace c = without is_quiet c trace
 
 module _ (shape : Shape) (s : ℕ) (trace : List Rec) (c : ℕ) where
   -- it is as it was taken
   pub record IsAsTaken (given : Queue) : Type 0 where
     pub rs : List Rec
-    pub did : unquiet trace ≡ Took c (val.Queue given) ∷ rs
+    pub did : quiet_since trace c ≡ Took c (val.Queue given) ∷ rs
     pub told : TakenQueue shape s rs c given
 
   -- nothing was done since it was taken
   pub record IsJustTaken (given : Queue) : Type 0 where
     pub rs : List Rec
-    pub did : trace ≡ Took c (val.Queue given) ∷ rs
+    pub did : since trace c ≡ Took c (val.Queue given) ∷ rs
     pub told : TakenQueue shape s rs c given
 
   -- t was queued on it, as new or half way from another queue, and put at the back: its state stays
@@ -51,7 +65,7 @@ module _ (shape : Shape) (s : ℕ) (trace : List Rec) (c : ℕ) where
     pub m : ℕ
     pub v : Queue
     pub rs : List Rec
-    pub did : trace ≡ Queued t c on m ∷ Took c (val.Queue v) ∷ rs
+    pub did : since trace c ≡ Queued t c on m ∷ Took c (val.Queue v) ∷ rs
     pub told : TakenQueue shape s rs c v
     pub ready : (m ≡ 0) ⊎ (on ≡ 2)
     pub put : given ≡ record v { waiting = v.waiting ++ t ∷ [] }
@@ -63,16 +77,15 @@ module _ (shape : Shape) (s : ℕ) (trace : List Rec) (c : ℕ) where
     pub m : ℕ
     pub v : Queue
     pub rs : List Rec
-    pub did : trace ≡ Released t ∷ Queued t c on m ∷ Took c (val.Queue v) ∷ rs
+    pub did : since trace c ≡ Released t ∷ Queued t c on m ∷ Took c (val.Queue v) ∷ rs
     pub told : TakenQueue shape s rs c v
     pub put : given ≡ record v { waiting = v.waiting ++ t ∷ [] }
 
-  -- t, which waits there once and was seen to run nowhere, was just taken off it to be moved
+  -- t, which waits there once, was taken off it to be moved
   pub record IsMovedOff (t : ℕ) (now : Queue) : Type 0 where
-    pub n : ℕ
     pub m : ℕ
     pub rs : List Rec
-    pub did : trace ≡ Moved t c m ∷ LoadedBusy t false n ∷ Took c (val.Queue now) ∷ rs
+    pub did : since trace c ≡ Moved t c m ∷ Took c (val.Queue now) ∷ rs
     pub told : TakenQueue shape s rs c now
     pub waiting : times_in now.waiting t ≡ 1
 
@@ -90,20 +103,30 @@ module _ (shape : Shape) (s : ℕ) (trace : List Rec) where
     pub n : ℕ
     pub v : Queue
     pub rs : List Rec
-    pub did : trace ≡ SetBusy t s n ∷ Took s (val.Queue v) ∷ rs
+    pub did : since trace s ≡ SetBusy t s n ∷ Took s (val.Queue v) ∷ rs
     pub told : TakenQueue shape s rs s v
     pub clear : task_to_clear s rs ≡ None
     pub none : v.cur ≡ None
     pub first : v.waiting ≡ t ∷ given.waiting
     pub next : given ≡ record v { waiting = given.waiting; cur = Some t }
 
-  -- the seat's current task, which runs or is new, was put back at the end
+  -- the task that stood as the next of the seat's own queue, which the seat had not picked, was picked
+  pub record IsPickedCur (given : Queue) : Type 0 where
+    pub t : ℕ
+    pub n : ℕ
+    pub rs : List Rec
+    pub did : since trace s ≡ SetBusy t s n ∷ Took s (val.Queue given) ∷ rs
+    pub told : TakenQueue shape s rs s given
+    pub next : given.cur ≡ Some t
+
+  -- the seat's current task, which was read to run or to be new, was put back at the end
   pub record IsPutBack (given : Queue) : Type 0 where
     pub t : ℕ
     pub state : State
     pub v : Queue
     pub rs : List Rec
-    pub did : trace ≡ LoadedState t None state ∷ Took s (val.Queue v) ∷ rs
+    pub did : since trace s ≡ Took s (val.Queue v) ∷ rs
+    pub seen : seen_state s trace ≡ Some state
     pub runs : is_runnable state ≡ true
     pub told : TakenQueue shape s rs s v
     pub current : current_task s rs ≡ Some t
@@ -115,10 +138,9 @@ module _ (shape : Shape) (s : ℕ) (trace : List Rec) where
   pub record IsAsleep (given : Queue) : Type 0 where
     pub t : ℕ
     pub m : ℕ
-    pub state : State
     pub v : Queue
     pub rs : List Rec
-    pub did : trace ≡ Dequeued t s m ∷ LoadedState t None state ∷ Took s (val.Queue v) ∷ rs
+    pub did : since trace s ≡ Dequeued t s m ∷ Took s (val.Queue v) ∷ rs
     pub told : TakenQueue shape s rs s v
     pub current : current_task s rs ≡ Some t
     pub home : body_held rs ≡ None
@@ -129,13 +151,13 @@ module _ (shape : Shape) (s : ℕ) (trace : List Rec) where
     pub rs : List Rec
     pub on : ℕ
     pub m : ℕ
-    pub did : trace ≡ Queued t c on m ∷ Took c (val.Queue now) ∷ rs
+    pub did : since trace c ≡ Queued t c on m ∷ Took c (val.Queue now) ∷ rs
     pub told : TakenQueue shape s rs c now
     pub off : IsOff rs t
 
   pub record IsCurrentHere (c t : ℕ) (now : Queue) : Type 0 where
     pub rs : List Rec
-    pub did : unquiet trace ≡ Took c (val.Queue now) ∷ rs
+    pub did : quiet_since trace c ≡ Took c (val.Queue now) ∷ rs
     pub own : s ≡ c
     pub told : TakenQueue shape s rs c now
     pub current : current_task s rs ≡ Some t

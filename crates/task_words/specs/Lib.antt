@@ -4,8 +4,10 @@ pub mod Closing
 pub mod Gives
 pub mod Guards
 pub mod Lending
+pub mod Needs
 pub mod Queues
 pub mod Shown
 pub mod States
+pub mod Untouched
 pub mod Views
 pub mod Waited

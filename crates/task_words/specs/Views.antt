@@ -20,8 +20,9 @@ pub record PassView : Type 0 where
   pub seat : ℕ
   -- what it did, newest first
   pub trace : List Rec
-  -- the entries that its calls made since the turn was last cleared
+  -- the entries that its calls made since the turn was last cleared, and those that they made before
   pub turn : TurnView
+  pub told : List Entry
 
 -- the pass is of this table
 pub record IsOf (wk : WordsView) (pass : PassView) : Type 0 where
@@ -29,12 +30,20 @@ pub record IsOf (wk : WordsView) (pass : PassView) : Type 0 where
   pub same_shape : pass.shape ≡ wk.shape
   pub same_lasting : pass.lasting ≡ wk.lasting
 
--- all but the trace and the turn stays
+-- both are of one seat of one table: where the turn may have been cleared
+pub record IsOneSeat (old new : PassView) : Type 0 where
+  pub table : new.of ≡ old.of
+  pub same_shape : new.shape ≡ old.shape
+  pub same_lasting : new.lasting ≡ old.lasting
+  pub same_seat : new.seat ≡ old.seat
+
+-- .. and all but the trace and the turn stays
 pub record IsSameSeat (old new : PassView) : Type 0 where
   pub table : new.of ≡ old.of
   pub same_shape : new.shape ≡ old.shape
   pub same_lasting : new.lasting ≡ old.lasting
   pub same_seat : new.seat ≡ old.seat
+  pub same_told : new.told ≡ old.told
 
 -- all but the trace stays
 pub record IsSame (old new : PassView) : Type 0 where

@@ -4,7 +4,8 @@ ghost use Rattle.std.specs.List.{filter};
 ghost use Rattle.core_data.specs.Queue.{is_other};
 ghost use Rattle.core_gives.specs.Waits.{has_task};
 ghost use Rattle.handoff_data.specs.declared.entry.Entry.TheVariants as entry;
-ghost use Rattle.task_words.specs.Gives.{HasRoomFor, IsAsTaken, IsPut, IsWoken, IsPicked, IsPutBack, IsAsleep, IsMovedOff, IsMoved, IsEntered, entered, IsJustTaken, IsQueuedUnder};
+ghost use Rattle.task_words.specs.Gives.{HasRoomFor, IsAsTaken, IsPut, IsWoken, IsPicked, IsPickedCur, IsPutBack, IsAsleep, IsMovedOff, IsMoved, IsEntered, entered, IsJustTaken, IsQueuedUnder};
+ghost use Rattle.task_words.specs.Needs.{need_step};
 ghost use Rattle.task_words.specs.Views.{IsOf, IsSame, IsSameSeat, logged};
 ghost use Rattle.word_rule.specs.May.{IsPutHere};
 ghost use Rattle.word_rule.specs.Told.{TakenWait};
@@ -82,16 +83,38 @@ impl<B: Kept> QueueGuard<B> {
         requires ready { may_run pass.old.seat pass.old.trace pass.old.seat t ≡ true }
         requires idle { current_task pass.old.seat pass.old.trace ≡ None }
         requires clear { task_to_clear pass.old.seat pass.old.trace ≡ None }
-        requires spare { 0 < pass.old.turn.spare }
+        requires spare { need_step ≤ pass.old.turn.spare }
         ensures table { self.new.of ≡ self.old.of }
         ensures processor { self.new.cpu ≡ self.old.cpu }
         ensures value { self.new.val ≡ record self.old.val { cur = Some t } }
         ensures same { IsSameSeat pass.old pass.new }
         ensures trace { pass.new.trace ≡ SetBusy t pass.old.seat result ∷ pass.old.trace }
         ensures turn { pass.new.turn ≡ logged (entry.Pick t (result + 1) pass.old.seat) pass.old.turn }
+        ensures spare { pass.old.turn.spare ≤ pass.new.turn.spare + 1 }
     {
         self.val_mut(wk).set_cur(Some(t));
         set_busy(rt, wk, pass, self, t)
+    }
+
+    /// Makes the task that stands as the next of the seat's own queue, just taken, the seat's current task, and sets its
+    /// busy word: one that was put there without being picked. It answers the number of changes before.
+    pub fn pick_cur<R: Wait>(&self, rt: &R, wk: &Wk<B>, pass: &mut Pass, t: TaskNo) -> u64
+        requires of { IsOf wk.now pass.old }
+        requires table { self.now.of ≡ wk.now.name }
+        requires task { t < wk.now.shape.tasks }
+        requires own { self.now.cpu ≡ pass.old.seat }
+        requires taken { IsAsTaken pass.old.shape pass.old.seat pass.old.trace pass.old.seat self.now.val }
+        requires next { self.now.val.cur ≡ Some t }
+        requires idle { current_task pass.old.seat pass.old.trace ≡ None }
+        requires clear { task_to_clear pass.old.seat pass.old.trace ≡ None }
+        requires spare { need_step ≤ pass.old.turn.spare }
+        ensures same { IsSameSeat pass.old pass.new }
+        ensures trace { pass.new.trace ≡ SetBusy t pass.old.seat result ∷ pass.old.trace }
+        ensures turn { pass.new.turn ≡ logged (entry.Pick t (result + 1) pass.old.seat) pass.old.turn }
+        ensures spare { pass.old.turn.spare ≤ pass.new.turn.spare + 1 }
+    {
+        let queue = self;
+        set_busy(rt, wk, pass, queue, t)
     }
 
     /// Stores TASK_RUNNING as the state of a task that the seat has just queued here.
@@ -147,6 +170,19 @@ impl<B: Kept> QueueGuard<B> {
         requires table { self.of ≡ wk.now.name }
         requires processor { self.cpu < wk.now.shape.cpus }
         requires may { IsMoved pass.old.shape pass.old.seat pass.old.trace self.cpu self.val }
+        ensures same { IsSame pass.old pass.new }
+        ensures trace { pass.new.trace ≡ Gave self.cpu (val.Queue (unwrap_or (queue_held pass.old.trace self.cpu) self.val)) (val.Queue self.val) ∷ pass.old.trace }
+    {
+        self.give(wk, pass);
+    }
+
+    /// Gives the lock of the seat's own queue, as it was taken, after its next task was picked.
+    pub fn give_as_picked(self, wk: &Wk<B>, pass: &mut Pass)
+        requires of { IsOf wk.now pass.old }
+        requires table { self.of ≡ wk.now.name }
+        requires processor { self.cpu < wk.now.shape.cpus }
+        requires own { self.cpu ≡ pass.old.seat }
+        requires may { IsPickedCur pass.old.shape pass.old.seat pass.old.trace self.val }
         ensures same { IsSame pass.old pass.new }
         ensures trace { pass.new.trace ≡ Gave self.cpu (val.Queue (unwrap_or (queue_held pass.old.trace self.cpu) self.val)) (val.Queue self.val) ∷ pass.old.trace }
     {

@@ -1,8 +1,7 @@
 //! The token of a seat, with the entries of its turn.
-ghost use Rattle.std.specs.Prelude.{◌≡◌, ◌+◌, ◌*◌, ◌++◌, ◌∷◌, ◌<◌, [], length, slice_get, IfSome};
-ghost use Rattle.handoff_data.specs.declared.entry.Entry.{Entry};
+ghost use Rattle.std.specs.Prelude.{◌≡◌, ◌+◌, ◌*◌, ◌++◌, ◌<◌, [], length, slice_get, IfSome};
 ghost use Rattle.task_words.specs.Views.{logged};
-ghost use Rattle.word_steps.specs.Folds.{current_task};
+ghost use Rattle.word_steps.specs.Folds.{current_task, journal};
 
 use handoff_data::{Entry, SeatNo, TaskNo};
 use std::marker::Model;
@@ -32,10 +31,18 @@ impl Turn {
     {
         self.entries.get(i).copied()
     }
+
+    // One entry more.
+    pub(crate) fn log(&mut self, entry: Entry)
+        requires spare { 0 < self.old.spare }
+        ensures { self.new ≡ logged entry self.old }
+    {
+        self.entries.push_reserved(entry);
+    }
 }
 
 /// The token of one seat: who has it makes that seat's steps. Contracts see the table, the seat's number, all that the
-/// seat did, newest first, and the turn.
+/// seat did, newest first, the turn, and the entries told before it. The journal of the seat is these and the turn's.
 #[derive(Drop)]
 pub struct Pass {
     pub(crate) token: Token,
@@ -74,31 +81,26 @@ impl Pass {
 
     /// How many more entries the turn has room for.
     pub fn spare(&self) -> usize
-        ensures { result ≡ self.now.turn.spare }
+        ensures spare { result ≡ self.now.turn.spare }
+        ensures room { length self.now.turn.entries + self.now.turn.spare ≡ 4 * self.now.shape.tasks + 16 }
     {
         self.turn.entries.capacity() - self.turn.entries.len()
     }
 
-    /// The entries of the turn.
+    /// The entries of the turn: the last ones of the seat's journal.
     pub fn turn(&self) -> &Turn
-        ensures { result.now ≡ self.now.turn }
+        ensures turn { result.now ≡ self.now.turn }
+        ensures tied { journal self.now.seat self.now.trace ≡ self.now.told ++ self.now.turn.entries }
     {
         &self.turn
     }
 
-    /// Forgets the entries of the turn, whose room is then free: for four entries a task and sixteen. What the seat did
-    /// stays.
+    /// Forgets the entries of the turn, which are told with it, so that the whole journal is. The room of the turn is then
+    /// free: for four entries a task and sixteen. What the seat did stays.
     pub fn clear_turn(&mut self)
-        ensures { self.new ≡ record self.old { turn = record { entries = []; spare = 4 * self.old.shape.tasks + 16 } } }
+        ensures cleared { self.new ≡ record self.old { turn = record { entries = []; spare = 4 * self.old.shape.tasks + 16 }; told = self.old.told ++ self.old.turn.entries } }
+        ensures all { self.new.told ≡ journal self.old.seat self.old.trace }
     {
         self.turn.entries.clear();
-    }
-
-    // One entry more.
-    pub(crate) fn log(&mut self, entry: Entry)
-        requires spare { 0 < self.old.turn.spare }
-        ensures { self.new ≡ record self.old { turn = logged entry self.old.turn } }
-    {
-        self.turn.entries.push_reserved(entry);
     }
 }

@@ -1,7 +1,8 @@
 //! Queue words and busy words, each with its next number. Calls that would pass the last number wait for good.
-ghost use Rattle.std.specs.Prelude.{true, false, ◌≡◌, ℕ, ◌+◌, ◌/◌, ◌%◌, ◌^◌, ◌<◌, ◌∷◌, Some};
+ghost use Rattle.std.specs.Prelude.{true, false, ◌≡◌, ℕ, ◌+◌, ◌/◌, ◌%◌, ◌^◌, ◌<◌, ◌≤◌, ◌∷◌, Some};
 ghost use Rattle.core_kinds.specs.Running.{queue_entry, dequeue_entry, is_dead};
 ghost use Rattle.handoff_data.specs.declared.entry.Entry.TheVariants as entry;
+ghost use Rattle.task_words.specs.Needs.{need_step};
 ghost use Rattle.task_words.specs.Queues.{MayQueueHere, MayMoveHere};
 ghost use Rattle.task_words.specs.Views.{IsOf, IsSameSeat, logged};
 ghost use Rattle.word_rule.specs.May.{cpu_read_of, MayQueueWord, MayDequeueWord, MaySetBusyWord, MayClearBusyWord, next_rq, next_busy};
@@ -181,15 +182,17 @@ pub fn queue_task<B: Kept, R: Wait>(
 )
     requires of { IsOf wk.now pass.old }
     requires task { t < wk.now.shape.tasks }
+    requires table { queue.now.of ≡ wk.now.name }
     requires may { MayQueueHere pass.old.trace queue.now.cpu t }
     requires on { seen.on < 4 }
-    requires spare { 0 < pass.old.turn.spare }
+    requires spare { need_step ≤ pass.old.turn.spare }
     ensures same { IsSameSeat pass.old pass.new }
     ensures trace { pass.new.trace ≡ Queued t queue.now.cpu seen.on seen.m ∷ pass.old.trace }
     ensures turn { pass.new.turn ≡ logged (queue_entry seen.m seen.on t queue.now.cpu) pass.old.turn }
+    ensures spare { pass.old.turn.spare ≤ pass.new.turn.spare + 1 }
 {
     queue_read(rt, wk, &mut pass.token, t, seen);
-    pass.log(queue_entry(t, queue.cpu, seen));
+    pass.turn.log(queue_entry(t, queue.cpu, seen));
 }
 
 /// Takes the seat's current task off its queue, as Linux's `deactivate_task`: it sleeps, or, where `dies`, it is dead, by
@@ -205,14 +208,15 @@ pub fn dequeue_task<B: Kept, R: Wait>(
     requires task { t < wk.now.shape.tasks }
     requires may { (x : ℕ) → x / 4 < 2 ^ 60 → MayDequeueWord pass.old.seat pass.old.trace t x (next_rq x 0) }
     requires dies { is_dead (seen_state pass.old.seat pass.old.trace) ≡ dies }
-    requires spare { 0 < pass.old.turn.spare }
+    requires spare { need_step ≤ pass.old.turn.spare }
     ensures same { IsSameSeat pass.old pass.new }
     ensures trace { pass.new.trace ≡ Dequeued t pass.old.seat result ∷ pass.old.trace }
     ensures turn { pass.new.turn ≡ logged (dequeue_entry (seen_state pass.old.seat pass.old.trace) result t pass.old.seat) pass.old.turn }
+    ensures spare { pass.old.turn.spare ≤ pass.new.turn.spare + 1 }
 {
     let m = change_rq::<B, DequeueTask, R>(rt, wk, &mut pass.token, t, 0) / 4;
     let c = pass.token.seat();
-    pass.log(if dies {
+    pass.turn.log(if dies {
         Entry::Die { t, m: m + 1, c }
     } else {
         Entry::Sleep { t, m: m + 1, c }
@@ -231,15 +235,17 @@ pub fn move_task<B: Kept, R: Wait>(
 ) -> u64
     requires of { IsOf wk.now pass.old }
     requires task { t < wk.now.shape.tasks }
+    requires table { queue.now.of ≡ wk.now.name }
     requires may { MayMoveHere pass.old.seat pass.old.trace queue.now.cpu t }
-    requires spare { 0 < pass.old.turn.spare }
+    requires spare { need_step ≤ pass.old.turn.spare }
     ensures same { IsSameSeat pass.old pass.new }
     ensures trace { pass.new.trace ≡ Moved t queue.now.cpu result ∷ pass.old.trace }
     ensures turn { pass.new.turn ≡ logged (entry.Out t (result + 1) queue.now.cpu) pass.old.turn }
+    ensures spare { pass.old.turn.spare ≤ pass.new.turn.spare + 1 }
     ensures room { result < 2 ^ 60 }
 {
     let m = change_rq::<B, MoveTask, R>(rt, wk, &mut pass.token, t, 2) / 4;
-    pass.log(Entry::Out {
+    pass.turn.log(Entry::Out {
         t,
         m: m + 1,
         c: queue.cpu,
@@ -258,18 +264,20 @@ pub fn set_busy<B: Kept, R: Wait>(
 ) -> u64
     requires of { IsOf wk.now pass.old }
     requires task { t < wk.now.shape.tasks }
+    requires table { queue.now.of ≡ wk.now.name }
     requires own { queue.now.cpu ≡ pass.old.seat }
     requires next { queue.now.val.cur ≡ Some t }
     requires may { (x : ℕ) → x / 2 < 2 ^ 60 → MaySetBusyWord pass.old.seat pass.old.trace t x (next_busy x) }
-    requires spare { 0 < pass.old.turn.spare }
+    requires spare { need_step ≤ pass.old.turn.spare }
     ensures same { IsSameSeat pass.old pass.new }
     ensures trace { pass.new.trace ≡ SetBusy t pass.old.seat result ∷ pass.old.trace }
     ensures turn { pass.new.turn ≡ logged (entry.Pick t (result + 1) pass.old.seat) pass.old.turn }
+    ensures spare { pass.old.turn.spare ≤ pass.new.turn.spare + 1 }
 {
     let n = change_busy(rt, wk, &mut pass.token, t);
     pass.current = Some(t);
     let c = pass.token.seat();
-    pass.log(Entry::Pick { t, n: n + 1, c });
+    pass.turn.log(Entry::Pick { t, n: n + 1, c });
     n
 }
 
@@ -334,13 +342,14 @@ pub fn clear_busy<B: Kept>(wk: &Wk<B>, pass: &mut Pass, t: TaskNo) -> u64
     requires of { IsOf wk.now pass.old }
     requires task { t < wk.now.shape.tasks }
     requires may { (x : ℕ) → MayClearBusyWord pass.old.seat pass.old.trace t x ((x + 1) % 2 ^ 64) }
-    requires spare { 0 < pass.old.turn.spare }
+    requires spare { need_step ≤ pass.old.turn.spare }
     ensures same { IsSameSeat pass.old pass.new }
     ensures trace { pass.new.trace ≡ ClearedBusy t result ∷ pass.old.trace }
     ensures turn { pass.new.turn ≡ logged (entry.Finish t (result + 1) pass.old.seat) pass.old.turn }
+    ensures spare { pass.old.turn.spare ≤ pass.new.turn.spare + 1 }
 {
     let n = fetch_add::<B, word_kinds::ClearBusy>(&wk.words, &mut pass.token, t) / 2;
     let c = pass.token.seat();
-    pass.log(Entry::Finish { t, n: n + 1, c });
+    pass.turn.log(Entry::Finish { t, n: n + 1, c });
     n
 }

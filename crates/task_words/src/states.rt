@@ -1,7 +1,8 @@
 //! Stores of a task's state and of its processor, and loads of its state against a mask.
-ghost use Rattle.std.specs.Prelude.{◌≡◌, ℕ, ◌<◌, ◌^◌, ◌∷◌, Some, unwrap_or};
+ghost use Rattle.std.specs.Prelude.{◌≡◌, ℕ, ◌<◌, ◌≤◌, ◌+◌, ◌^◌, ◌∷◌, Some, unwrap_or};
 ghost use Rattle.core_kinds.specs.Steps.{running};
 ghost use Rattle.handoff_data.specs.declared.entry.Entry.TheVariants as entry;
+ghost use Rattle.task_words.specs.Needs.{need_step};
 ghost use Rattle.task_words.specs.Views.{IsOf, IsSame, IsSameSeat, logged};
 ghost use Rattle.task_words.specs.States.{IsOwnStore, IsWakeMask, tested};
 ghost use Rattle.word_rule.specs.May.{MayClaimWord, MayReleaseWord, MayCpuWord, number_of};
@@ -49,13 +50,14 @@ pub fn store_waking<B: Kept>(wk: &Wk<B>, pass: &mut Pass, t: TaskNo, m: u64)
     requires task { t < wk.now.shape.tasks }
     requires may { (x : ℕ) → MayClaimWord pass.old.seat pass.old.trace t x 0x200 }
     requires number { number_of pass.old.trace t ≡ m }
-    requires spare { 0 < pass.old.turn.spare }
+    requires spare { need_step ≤ pass.old.turn.spare }
     ensures same { IsSameSeat pass.old pass.new }
     ensures trace { pass.new.trace ≡ Claimed t m ∷ pass.old.trace }
     ensures turn { pass.new.turn ≡ logged (entry.Wake t m) pass.old.turn }
+    ensures spare { pass.old.turn.spare ≤ pass.new.turn.spare + 1 }
 {
     store::<B, StoreWaking>(&wk.words, &mut pass.token, t, 0x200);
-    pass.log(Entry::Wake { t, m });
+    pass.turn.log(Entry::Wake { t, m });
 }
 
 /// Stores TASK_RUNNING as the state of a task that the seat starts, wakes on its queue, or has just put there.
@@ -72,6 +74,7 @@ pub fn store_running<B: Kept>(wk: &Wk<B>, pass: &mut Pass, t: TaskNo)
 /// Stores the processor of a task that is on no queue, under its lock, as Linux's `set_task_cpu`.
 pub fn store_cpu<B: Kept>(wk: &Wk<B>, pass: &mut Pass, task: &TaskGuard<B>, c: CpuNo)
     requires of { IsOf wk.now pass.old }
+    requires table { task.now.of ≡ wk.now.name }
     requires task { task.now.task < wk.now.shape.tasks }
     requires may { (x : ℕ) → MayCpuWord pass.old.seat pass.old.trace wk.now.shape task.now.task x c }
     ensures same { IsSame pass.old pass.new }
@@ -107,14 +110,15 @@ pub fn match_state<B: Kept>(wk: &Wk<B>, pass: &mut Pass, t: TaskNo, mask: State)
     requires of { IsOf wk.now pass.old }
     requires task { t < wk.now.shape.tasks }
     requires mask { IsWakeMask mask }
-    requires spare { 0 < pass.old.turn.spare }
+    requires spare { need_step ≤ pass.old.turn.spare }
     ensures same { IsSameSeat pass.old pass.new }
     ensures trace { pass.new.trace ≡ LoadedState t (Some mask) result ∷ pass.old.trace }
     ensures turn { pass.new.turn ≡ tested t mask result pass.old.turn }
+    ensures spare { pass.old.turn.spare ≤ pass.new.turn.spare + 1 }
 {
     let state = State(match_word(wk, &mut pass.token, t, mask) as u16);
     if !matches(state, mask) {
-        pass.log(Entry::Refused { t, state });
+        pass.turn.log(Entry::Refused { t, state });
     }
     state
 }

@@ -15,13 +15,14 @@ same_seat_again a b c x y = record {
   same_shape = y.same_shape ∙ x.same_shape;
   same_lasting = y.same_lasting ∙ x.same_lasting;
   same_seat = y.same_seat ∙ x.same_seat;
+  same_told = y.same_told ∙ x.same_told;
 }
 
 pub same_again : (a b c : PassView) → IsSame a b → IsSame b c → IsSame a c
 same_again a b c x y = record { same = same_seat_again a b c x.same y.same; same_turn = y.same_turn ∙ x.same_turn }
 
 pub same_still : (a : PassView) → IsSame a a
-same_still a = record { same = record { table = refl; same_shape = refl; same_lasting = refl; same_seat = refl }; same_turn = refl }
+same_still a = record { same = record { table = refl; same_shape = refl; same_lasting = refl; same_seat = refl; same_told = refl }; same_turn = refl }
 
 -- the queue word
 pub record IsReading (t : ℕ) (old new : PassView) : Type 0 where

@@ -1,5 +1,6 @@
 //! A task that is off every queue is claimed by its waker, placed, and queued.
-ghost use Rattle.std.specs.Prelude.{◌≡◌, ◌≢◌, ℕ, ◌<◌, ◌∷◌, true, false, None, Some, IsSome};
+ghost use Rattle.std.specs.Prelude.{◌≡◌, ◌≢◌, ℕ, ◌<◌, ◌≤◌, ◌∷◌, true, false, None, Some, IsSome};
+ghost use Rattle.task_words.specs.Needs.{need_step};
 ghost use Rattle.task_words.specs.Views.{IsOf, IsSame, IsSameSeat};
 ghost use Rattle.ttwu_core.specs.Claims.{IsAwaitedClear, IsTaken, IsChosen, IsPointer, IsQueuedWoken};
 ghost use Rattle.ttwu_core.specs.Keeps.{Keeps};
@@ -56,7 +57,7 @@ pub fn claim<B: Kept, R: Wait>(rt: &R, wk: &Wk<B>, pass: &mut Pass, t: TaskNo, m
     requires locked { IsSome (task_held pass.old.trace t) }
     requires off { saw_off pass.old.trace t ≡ true }
     requires number { number_read pass.old.trace t ≡ Some m }
-    requires spare { 0 < pass.old.turn.spare }
+    requires spare { need_step ≤ pass.old.turn.spare }
     ensures same { IsSameSeat pass.old pass.new }
     ensures did { IsTaken t m pass.old pass.new }
     ensures keeps { Keeps pass.old.seat pass.old.trace pass.new.trace }
@@ -105,7 +106,7 @@ pub fn queue_woken<B: Kept, R: Wait>(
     requires free { queue_held pass.old.trace c ≡ None }
     requires other { current_task pass.old.seat pass.old.trace ≢ Some t }
     requires queued_before { m ≢ 0 }
-    requires spare { 0 < pass.old.turn.spare }
+    requires spare { need_step ≤ pass.old.turn.spare }
     ensures same { IsSameSeat pass.old pass.new }
     ensures did { IsQueuedWoken t c m pass.old pass.new }
     ensures keeps { Keeps pass.old.seat pass.old.trace pass.new.trace }

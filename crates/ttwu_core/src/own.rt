@@ -2,6 +2,7 @@
 ghost use Rattle.std.specs.Prelude.{◌≡◌, ℕ, ◌+◌, ◌<◌, ◌≤◌, Some, IsSome, true};
 ghost use Rattle.core_kinds.specs.Steps.{normal};
 ghost use Rattle.run_queue.specs.Rests.{Rests};
+ghost use Rattle.task_words.specs.Needs.{need_call};
 ghost use Rattle.task_words.specs.States.{IsWakeMask};
 ghost use Rattle.task_words.specs.Views.{IsOf, IsSameSeat};
 ghost use Rattle.ttwu_core.specs.Own.{DidWakeOwn};
@@ -18,7 +19,7 @@ pub fn wake_own<B: Kept>(wk: &Wk<B>, pass: &mut Pass, mask: State) -> Wake
     requires current { IsSome (current_task pass.old.seat pass.old.trace) }
     requires queued { stays_queued pass.old.trace ≡ true }
     requires mask { IsWakeMask mask }
-    requires spare { 0 < pass.old.turn.spare }
+    requires spare { need_call ≤ pass.old.turn.spare }
     ensures same { IsSameSeat pass.old pass.new }
     ensures did { DidWakeOwn mask pass.old pass.new result }
     ensures rests { Rests pass.old.seat pass.old.trace pass.new.trace }

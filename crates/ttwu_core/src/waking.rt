@@ -2,6 +2,7 @@
 ghost use Rattle.std.specs.Prelude.{◌≡◌, ◌≢◌, ℕ, ◌+◌, ◌<◌, ◌≤◌, true, false, None, Some};
 ghost use Rattle.core_kinds.specs.Steps.{normal};
 ghost use Rattle.run_queue.specs.Rests.{Rests};
+ghost use Rattle.task_words.specs.Needs.{need_wake};
 ghost use Rattle.task_words.specs.States.{IsWakeMask};
 ghost use Rattle.task_words.specs.Views.{IsOf, IsSameSeat};
 ghost use Rattle.ttwu_core.specs.Wakes.{DidWake};
@@ -27,7 +28,7 @@ pub fn wake<B: Kept, R: Wait>(rt: &R, wk: &Wk<B>, pass: &mut Pass, t: TaskNo, ma
     requires unclaimed { is_claimed pass.old.trace t ≡ false }
     requires other { current_task pass.old.seat pass.old.trace ≢ Some t }
     requires cleared { task_to_clear pass.old.seat pass.old.trace ≢ Some t }
-    requires spare { 1 < pass.old.turn.spare }
+    requires spare { need_wake ≤ pass.old.turn.spare }
     ensures same { IsSameSeat pass.old pass.new }
     ensures did { DidWake t mask wk.now.shape pass.old pass.new result }
     ensures rests { Rests pass.old.seat pass.old.trace pass.new.trace }

@@ -3,7 +3,7 @@ use Rattle.std.proofs.Common.{◌≡◌, ◌<◌, ◌++◌, ◌∙◌, ℕ, zero
 use Rattle.std.specs.Prelude.{slice_index_or}
 use Rattle.std.specs.List.{All, Contains}
 use Rattle.task_words.specs.Closing.{IsDone}
-use Rattle.task_words.specs.Views.{PassView, IsOf, IsSameSeat}
+use Rattle.task_words.specs.Views.{PassView, IsOf, IsOneSeat}
 use Rattle.uses.specs.Between.{IsBetween}
 use Rattle.word_table.specs.End.{HasEachSeat}
 use Rattle.word_table.specs.Ruled.{Each}
@@ -56,7 +56,7 @@ all_map pass_of P (w ∷ done) f zero d lt = f 0 w (omega arith)
 all_map pass_of P (w ∷ done) f (suc k) d lt = all_map pass_of P done (λ i e low. f (suc i) e (omega (arith, low))) k d (omega (arith, lt))
 
 pub seats_kept : {W : Type 0} (pass_of : W → PassView) (old : List PassView) (done : List W) → length done ≡ length old
-    → ((i : ℕ) (d : PassView) (e : W) → i < length old → IsSameSeat (slice_index_or old i d) (pass_of (slice_index_or done i e)))
+    → ((i : ℕ) (d : PassView) (e : W) → i < length old → IsOneSeat (slice_index_or old i d) (pass_of (slice_index_or done i e)))
     → map (λ (p : PassView). p.seat) (map pass_of done) ≡ map (λ (p : PassView). p.seat) old
 seats_kept pass_of [] [] len f = refl
 seats_kept pass_of [] (w ∷ done) len f = absurd (omega (arith, len))
@@ -67,7 +67,7 @@ seats_kept pass_of (p ∷ old) (w ∷ done) len f =
     seats_kept pass_of old done (omega (arith, len)) (λ i d e low. f (suc i) d e (omega (arith, low))) in
     λ j. same j ∷ rest j
 
-pub same_of : (wk : WordsView) (old new : PassView) → IsOf wk old → IsSameSeat old new → IsOf wk new
+pub same_of : (wk : WordsView) (old new : PassView) → IsOf wk old → IsOneSeat old new → IsOf wk new
 same_of wk old new of same = record {
   table = same.table ∙ of.table;
   same_shape = same.same_shape ∙ of.same_shape;

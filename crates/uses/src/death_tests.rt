@@ -1,7 +1,7 @@
 //! Each task of a table dies: the journals are one legal history.
 ghost use Rattle.std.specs.Prelude.{◌≡◌, ◌<◌, ◌∷◌, [], true, map, IfOk, IfSome, MatchOption};
 ghost use Rattle.std.specs.List.{All};
-ghost use Rattle.task_words.specs.Views.{IsOf, IsSameSeat};
+ghost use Rattle.task_words.specs.Views.{IsOf, IsOneSeat};
 ghost use Rattle.uses.specs.Between.{IsBetween, IsRunning};
 
 use crate::telling::tell;
@@ -21,13 +21,13 @@ fn begin<R: Wait>(rt: &R, wk: &Wk<Turns>, pass: &mut Pass, t: TaskNo) -> bool
     requires task { t < wk.now.shape.tasks }
     requires processors { 1 < wk.now.shape.cpus }
     requires between { IsBetween pass.old }
-    ensures same { IsSameSeat pass.old pass.new }
+    ensures same { IsOneSeat pass.old pass.new }
     ensures between { IsBetween pass.new }
 {
-    if pass.spare() == 0 || !start(rt, wk, pass, t) {
+    if pass.spare() < 8 || !start(rt, wk, pass, t) {
         return false;
     }
-    t % 2 == 0 || pass.spare() > 1 && move_to(rt, wk, pass, t, 1)
+    t % 2 == 0 || pass.spare() >= 12 && move_to(rt, wk, pass, t, 1)
 }
 
 // Starts all tasks, and moves every other one; whether it did.
@@ -41,7 +41,7 @@ fn begin_all<R: Wait>(
     requires tasks { wk.now.shape.tasks ≡ 4 }
     requires processors { 1 < wk.now.shape.cpus }
     requires between { IsBetween pass.old }
-    ensures same { IsSameSeat pass.old pass.new }
+    ensures same { IsOneSeat pass.old pass.new }
     ensures between { IsBetween pass.new }
 {
     for t in 0..TASKS {
@@ -60,11 +60,11 @@ fn advance<R: Wait>(rt: &R, wk: &Wk<Turns>, pass: &mut Pass, t: TaskNo) -> bool
     requires processor { pass.old.seat < wk.now.shape.cpus }
     requires task { t < wk.now.shape.tasks }
     requires running { IsRunning t pass.old }
-    ensures same { IsSameSeat pass.old pass.new }
+    ensures same { IsOneSeat pass.old pass.new }
     ensures left { result ≡ true → IsBetween pass.new }
 {
     let ended = run_turn(wk, pass, t);
-    if pass.spare() < 2 {
+    if pass.spare() < 12 {
         return false;
     }
     if ended {
@@ -78,10 +78,10 @@ fn cycle<R: Wait>(rt: &R, wk: &Wk<Turns>, pass: &mut Pass) -> Option<bool>
     requires of { IsOf wk.now pass.old }
     requires processor { pass.old.seat < wk.now.shape.cpus }
     requires between { IsBetween pass.old }
-    ensures same { IsSameSeat pass.old pass.new }
+    ensures same { IsOneSeat pass.old pass.new }
     ensures between { MatchOption result (IsBetween pass.new) (λ left. left ≡ true → IsBetween pass.new) }
 {
-    if pass.spare() == 0 {
+    if pass.spare() < 8 {
         return Some(false);
     }
     let Some(t) = pick(rt, wk, pass) else {
@@ -101,7 +101,7 @@ fn run_all<R: Wait>(
     requires of { IsOf wk.now pass.old }
     requires processor { pass.old.seat < wk.now.shape.cpus }
     requires between { IsBetween pass.old }
-    ensures same { IsSameSeat pass.old pass.new }
+    ensures same { IsOneSeat pass.old pass.new }
     ensures between { IfOk result (λ done. done ≡ true → IsBetween pass.new) }
 {
     for _ in 0..turns {
@@ -166,7 +166,7 @@ fn run_both<R: Wait>(
     requires cpus { wk.now.shape.cpus ≡ 2 }
     requires tasks { wk.now.shape.tasks ≡ 4 }
     requires between { IsBetween first.old × IsBetween second.old }
-    ensures same { IsSameSeat first.old first.new × IsSameSeat second.old second.new }
+    ensures same { IsOneSeat first.old first.new × IsOneSeat second.old second.new }
     ensures between { IfOk result (λ o. IfSome o (λ v. IsBetween first.new × IsBetween second.new)) }
 {
     let mut of_first = Journal::new(alloc);

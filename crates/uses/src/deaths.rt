@@ -1,6 +1,7 @@
 //! A task dies, step by step.
-ghost use Rattle.std.specs.Prelude.{◌≡◌, ℕ, ◌<◌, true, false, Some, None};
+ghost use Rattle.std.specs.Prelude.{◌≡◌, ℕ, ◌<◌, ◌≤◌, true, false, Some, None};
 ghost use Rattle.uses.specs.Between.{IsBetween, IsRunning};
+ghost use Rattle.task_words.specs.Needs.{need_call};
 ghost use Rattle.task_words.specs.Views.{IsOf, IsSameSeat};
 ghost use Rattle.word_steps.specs.Folds.{ended_known};
 
@@ -18,7 +19,7 @@ pub fn die<B: Kept, R: Wait>(rt: &R, wk: &Wk<B>, pass: &mut Pass, t: TaskNo) -> 
     requires task { t < wk.now.shape.tasks }
     requires running { IsRunning t pass.old }
     requires ended { ended_known pass.old.trace t ≡ Some true }
-    requires spare { 1 < pass.old.turn.spare }
+    requires spare { need_call ≤ pass.old.turn.spare }
     ensures same { IsSameSeat pass.old pass.new }
     ensures gone { result ≡ true → IsBetween pass.new }
 {

@@ -1,7 +1,7 @@
 //! Each step is made once, by two seats in turn: the entries that they make are those of the story.
 ghost use Rattle.std.specs.Prelude.{◌≡◌, ◌<◌, true};
 ghost use Rattle.uses.specs.Between.{IsBetween, IsRunning};
-ghost use Rattle.task_words.specs.Views.{IsOf, IsSameSeat};
+ghost use Rattle.task_words.specs.Views.{IsOf, IsOneSeat};
 
 use crate::death_tests::{close_both, two_seats};
 use crate::{
@@ -20,16 +20,16 @@ fn begin<R: Wait>(rt: &R, wk: &Wk<Turns>, pass: &mut Pass) -> bool
     requires tasks { 1 < wk.now.shape.tasks }
     requires processors { 1 < wk.now.shape.cpus }
     requires between { IsBetween pass.old }
-    ensures same { IsSameSeat pass.old pass.new }
+    ensures same { IsOneSeat pass.old pass.new }
     ensures between { IsBetween pass.new }
 {
-    if pass.spare() == 0 || !start(rt, wk, pass, 0) {
+    if pass.spare() < 8 || !start(rt, wk, pass, 0) {
         return false;
     }
-    if pass.spare() == 0 || !start_new(rt, wk, pass, 1) {
+    if pass.spare() < 8 || !start_new(rt, wk, pass, 1) {
         return false;
     }
-    pass.spare() > 1 && move_to(rt, wk, pass, 1, 1)
+    pass.spare() >= 12 && move_to(rt, wk, pass, 1, 1)
 }
 
 // The hints of both tasks are copied and swapped, and nobody has posted a stop work.
@@ -38,7 +38,7 @@ fn hint<R: Wait>(rt: &R, wk: &Wk<Turns>, pass: &mut Pass) -> bool
     requires tasks { 1 < wk.now.shape.tasks }
     requires processors { 1 < wk.now.shape.cpus }
     requires between { IsBetween pass.old }
-    ensures same { IsSameSeat pass.old pass.new }
+    ensures same { IsOneSeat pass.old pass.new }
     ensures between { IsBetween pass.new }
 {
     copy_wake_cpu(rt, wk, pass, 0, 1);
@@ -52,10 +52,10 @@ fn rest<R: Wait>(rt: &R, wk: &Wk<Turns>, pass: &mut Pass) -> bool
     requires processor { pass.old.seat < wk.now.shape.cpus }
     requires conditions { 0 < wk.now.shape.conds }
     requires between { IsBetween pass.old }
-    ensures same { IsSameSeat pass.old pass.new }
+    ensures same { IsOneSeat pass.old pass.new }
     ensures between { result ≡ true → IsBetween pass.new }
 {
-    if pass.spare() == 0 {
+    if pass.spare() < 8 {
         return false;
     }
     let Some(t) = pick(rt, wk, pass) else {
@@ -63,7 +63,7 @@ fn rest<R: Wait>(rt: &R, wk: &Wk<Turns>, pass: &mut Pass) -> bool
     };
     run_turn(wk, pass, t);
     let seen = load_cond(wk, pass, 0);
-    pass.spare() > 1 && sleep(rt, wk, pass, t, 0, seen)
+    pass.spare() >= 12 && sleep(rt, wk, pass, t, 0, seen)
 }
 
 // The condition changes, and the task 0 is woken on the processor 1.
@@ -73,11 +73,11 @@ fn rouse<R: Wait>(rt: &R, wk: &Wk<Turns>, pass: &mut Pass) -> bool
     requires processors { 1 < wk.now.shape.cpus }
     requires conditions { 0 < wk.now.shape.conds }
     requires between { IsBetween pass.old }
-    ensures same { IsSameSeat pass.old pass.new }
+    ensures same { IsOneSeat pass.old pass.new }
     ensures between { IsBetween pass.new }
 {
     bump_cond(wk, pass, 0);
-    pass.spare() > 1 && wake(rt, wk, pass, 0, 1)
+    pass.spare() >= 12 && wake(rt, wk, pass, 0, 1)
 }
 
 // The task 1 runs for a turn, finds that the condition 0 has changed before it could sleep, and is put back.
@@ -86,20 +86,20 @@ fn stay<R: Wait>(rt: &R, wk: &Wk<Turns>, pass: &mut Pass) -> bool
     requires processor { pass.old.seat < wk.now.shape.cpus }
     requires conditions { 0 < wk.now.shape.conds }
     requires between { IsBetween pass.old }
-    ensures same { IsSameSeat pass.old pass.new }
+    ensures same { IsOneSeat pass.old pass.new }
     ensures between { result ≡ true → IsBetween pass.new }
 {
-    if pass.spare() == 0 {
+    if pass.spare() < 8 {
         return false;
     }
     let Some(t) = pick(rt, wk, pass) else {
         return false;
     };
     run_turn(wk, pass, t);
-    if pass.spare() < 2 || sleep(rt, wk, pass, t, 0, 0) {
+    if pass.spare() < 12 || sleep(rt, wk, pass, t, 0, 0) {
         return false;
     }
-    pass.spare() > 0 && put_back(rt, wk, pass, t)
+    pass.spare() >= 8 && put_back(rt, wk, pass, t)
 }
 
 // The task 0 runs to its end, and dies.
@@ -107,16 +107,16 @@ fn end<R: Wait>(rt: &R, wk: &Wk<Turns>, pass: &mut Pass) -> bool
     requires of { IsOf wk.now pass.old }
     requires processor { pass.old.seat < wk.now.shape.cpus }
     requires between { IsBetween pass.old }
-    ensures same { IsSameSeat pass.old pass.new }
+    ensures same { IsOneSeat pass.old pass.new }
     ensures between { result ≡ true → IsBetween pass.new }
 {
-    if pass.spare() == 0 {
+    if pass.spare() < 8 {
         return false;
     }
     let Some(t) = pick(rt, wk, pass) else {
         return false;
     };
-    run_turn(wk, pass, t) && pass.spare() > 1 && die(rt, wk, pass, t)
+    run_turn(wk, pass, t) && pass.spare() >= 12 && die(rt, wk, pass, t)
 }
 
 // The task 1, about to sleep, is woken while it runs, and so runs on: to its end, and dies.
@@ -125,23 +125,23 @@ fn wake_running<R: Wait>(rt: &R, wk: &Wk<Turns>, pass: &mut Pass, waker: &mut Pa
     requires processor { pass.old.seat < wk.now.shape.cpus }
     requires tasks { 1 < wk.now.shape.tasks }
     requires between { IsBetween pass.old × IsBetween waker.old }
-    ensures same { IsSameSeat pass.old pass.new × IsSameSeat waker.old waker.new }
+    ensures same { IsOneSeat pass.old pass.new × IsOneSeat waker.old waker.new }
     ensures between { result ≡ true → IsBetween pass.new × IsBetween waker.new }
 {
-    if pass.spare() == 0 {
+    if pass.spare() < 8 {
         return false;
     }
     let Some(t) = pick(rt, wk, pass) else {
         return false;
     };
     set_state(wk, pass, State::TASK_INTERRUPTIBLE);
-    if waker.spare() < 2 || !wake(rt, wk, waker, 1, 0) {
+    if waker.spare() < 12 || !wake(rt, wk, waker, 1, 0) {
         return false;
     }
-    if pass.spare() < 2 || switch_out(rt, wk, pass, t) {
+    if pass.spare() < 12 || switch_out(rt, wk, pass, t) {
         return false;
     }
-    run_turn(wk, pass, t) && pass.spare() > 1 && die(rt, wk, pass, t)
+    run_turn(wk, pass, t) && pass.spare() >= 12 && die(rt, wk, pass, t)
 }
 
 // A dead task isn't woken.
@@ -150,10 +150,10 @@ fn refuse<R: Wait>(rt: &R, wk: &Wk<Turns>, pass: &mut Pass) -> bool
     requires tasks { 1 < wk.now.shape.tasks }
     requires processors { 1 < wk.now.shape.cpus }
     requires between { IsBetween pass.old }
-    ensures same { IsSameSeat pass.old pass.new }
+    ensures same { IsOneSeat pass.old pass.new }
     ensures between { IsBetween pass.new }
 {
-    pass.spare() > 1 && !wake(rt, wk, pass, 0, 1)
+    pass.spare() >= 12 && !wake(rt, wk, pass, 0, 1)
 }
 
 // All of it in its order; whether each step found what it should.
@@ -164,7 +164,7 @@ fn live<R: Wait>(rt: &R, wk: &Wk<Turns>, first: &mut Pass, second: &mut Pass) ->
     requires tasks { wk.now.shape.tasks ≡ 4 }
     requires conditions { wk.now.shape.conds ≡ 1 }
     requires between { IsBetween first.old × IsBetween second.old }
-    ensures same { IsSameSeat first.old first.new × IsSameSeat second.old second.new }
+    ensures same { IsOneSeat first.old first.new × IsOneSeat second.old second.new }
     ensures between { result ≡ true → IsBetween first.new × IsBetween second.new }
 {
     if !begin(rt, wk, first) || !hint(rt, wk, first) || !rest(rt, wk, first) {

@@ -3,6 +3,7 @@ ghost use Rattle.std.specs.Prelude.{◌≡◌, ◌≢◌, ℕ, ◌+◌, ◌^◌,
 ghost use Rattle.std.specs.Prelude.{IfNone, IfSome, IsSome};
 ghost use Rattle.uses.specs.Between.{IsBetween};
 ghost use Rattle.core_data.specs.Table.{put};
+ghost use Rattle.task_words.specs.Needs.{need_step, need_wake};
 ghost use Rattle.task_words.specs.Views.{IsOf, IsSameSeat};
 ghost use Rattle.word_rule.specs.May.{number_of};
 ghost use Rattle.word_steps.specs.Folds.{body_held, current_task, is_claimed, is_moving};
@@ -26,7 +27,7 @@ pub fn move_to<B: Kept, R: Wait>(rt: &R, wk: &Wk<B>, pass: &mut Pass, t: TaskNo,
     requires free_queues { (c : ℕ) → queue_held pass.old.trace c ≡ None }
     requires unclaimed { is_claimed pass.old.trace t ≡ false }
     requires other { current_task pass.old.seat pass.old.trace ≢ Some t }
-    requires spare { 1 < pass.old.turn.spare }
+    requires spare { need_wake ≤ pass.old.turn.spare }
     ensures same { IsSameSeat pass.old pass.new }
     ensures between { IsBetween pass.old → IsBetween pass.new }
 {
@@ -49,7 +50,7 @@ fn take_off<B: Kept, R: Wait>(rt: &R, wk: &Wk<B>, pass: &mut Pass, t: TaskNo) ->
     requires locked { IsSome (task_held pass.old.trace t) }
     requires free_queues { (c : ℕ) → queue_held pass.old.trace c ≡ None }
     requires other { current_task pass.old.seat pass.old.trace ≢ Some t }
-    requires spare { 0 < pass.old.turn.spare }
+    requires spare { need_step ≤ pass.old.turn.spare }
     ensures same { IsSameSeat pass.old pass.new }
     ensures spare { pass.old.turn.spare ≤ pass.new.turn.spare + 1 }
     ensures tasks { task_held pass.new.trace ≡ task_held pass.old.trace }
@@ -86,7 +87,7 @@ fn queue_moved<B: Kept, R: Wait>(rt: &R, wk: &Wk<B>, pass: &mut Pass, t: TaskNo,
     requires cpu { (last_reads pass.old.trace t).cpu ≡ Some to }
     requires moving { is_moving pass.old.trace t ≡ true }
     requires free { queue_held pass.old.trace to ≡ None }
-    requires spare { 0 < pass.old.turn.spare }
+    requires spare { need_step ≤ pass.old.turn.spare }
     ensures same { IsSameSeat pass.old pass.new }
     ensures tasks { task_held pass.new.trace ≡ task_held pass.old.trace }
     ensures queues { ((c : ℕ) → queue_held pass.old.trace c ≡ None) → (c : ℕ) → queue_held pass.new.trace c ≡ None }

@@ -1,7 +1,7 @@
 //! Threads, one for each processor, that choose at random among scenarios: their journals keep each rule of a history.
 ghost use Rattle.std.specs.Prelude.{◌≡◌, ℕ, ◌<◌, ◌≤◌, ◌+◌, true, length, map, slice_index_or, IfOk, IfSome};
 ghost use Rattle.std.specs.List.{All};
-ghost use Rattle.task_words.specs.Views.{IsOf, IsSameSeat};
+ghost use Rattle.task_words.specs.Views.{IsOf, IsOneSeat};
 ghost use Rattle.uses.specs.Between.{IsBetween, IsRunning};
 ghost use Rattle.word_table.specs.End.{HasEachSeat};
 
@@ -36,17 +36,17 @@ fn doze<B: Kept, R: Wait>(rt: &R, wk: &Wk<B>, pass: &mut Pass, t: TaskNo) -> boo
     requires processor { pass.old.seat < wk.now.shape.cpus }
     requires task { t < wk.now.shape.tasks }
     requires running { IsRunning t pass.old }
-    ensures same { IsSameSeat pass.old pass.new }
+    ensures same { IsOneSeat pass.old pass.new }
     ensures left { result ≡ true → IsBetween pass.new }
 {
     set_state(wk, pass, State::TASK_INTERRUPTIBLE);
-    if pass.spare() < 2 {
+    if pass.spare() < 12 {
         return false;
     }
     if switch_out(rt, wk, pass, t) {
         return true;
     }
-    pass.spare() > 0 && put_back(rt, wk, pass, t)
+    pass.spare() >= 8 && put_back(rt, wk, pass, t)
 }
 
 // The current task sleeps at a condition, or is put back; whether it left.
@@ -56,14 +56,14 @@ fn rest<B: Kept, R: Wait>(rt: &R, wk: &Wk<B>, pass: &mut Pass, t: TaskNo, k: u32
     requires task { t < wk.now.shape.tasks }
     requires condition { k < wk.now.shape.conds }
     requires running { IsRunning t pass.old }
-    ensures same { IsSameSeat pass.old pass.new }
+    ensures same { IsOneSeat pass.old pass.new }
     ensures left { result ≡ true → IsBetween pass.new }
 {
     let seen = load_cond(wk, pass, k);
-    if pass.spare() < 2 {
+    if pass.spare() < 12 {
         return false;
     }
-    sleep(rt, wk, pass, t, k, seen) || pass.spare() > 0 && put_back(rt, wk, pass, t)
+    sleep(rt, wk, pass, t, k, seen) || pass.spare() >= 8 && put_back(rt, wk, pass, t)
 }
 
 // The current task, which has run, sleeps, or is put back; whether it left.
@@ -73,13 +73,13 @@ fn leave<B: Kept, R: Wait>(rt: &R, wk: &Wk<B>, pass: &mut Pass, t: TaskNo, rando
     requires task { t < wk.now.shape.tasks }
     requires conditions { wk.now.shape.conds ≡ 2 }
     requires running { IsRunning t pass.old }
-    ensures same { IsSameSeat pass.old pass.new }
+    ensures same { IsOneSeat pass.old pass.new }
     ensures left { result ≡ true → IsBetween pass.new }
 {
     match below(random, 4) {
         0 => doze(rt, wk, pass, t),
         1 => rest(rt, wk, pass, t, below(random, CONDS)),
-        _ => pass.spare() > 0 && put_back(rt, wk, pass, t),
+        _ => pass.spare() >= 8 && put_back(rt, wk, pass, t),
     }
 }
 
@@ -89,17 +89,17 @@ fn cycle<R: Wait>(rt: &R, wk: &Wk<Turns>, pass: &mut Pass, random: &mut u64) -> 
     requires processor { pass.old.seat < wk.now.shape.cpus }
     requires conditions { wk.now.shape.conds ≡ 2 }
     requires between { IsBetween pass.old }
-    ensures same { IsSameSeat pass.old pass.new }
+    ensures same { IsOneSeat pass.old pass.new }
     ensures between { result ≡ true → IsBetween pass.new }
 {
-    if pass.spare() == 0 {
+    if pass.spare() < 8 {
         return false;
     }
     let Some(t) = pick(rt, wk, pass) else {
         return true;
     };
     if run_turn(wk, pass, t) {
-        return pass.spare() > 1 && die(rt, wk, pass, t);
+        return pass.spare() >= 12 && die(rt, wk, pass, t);
     }
     leave(rt, wk, pass, t, random)
 }
@@ -112,7 +112,7 @@ fn turn<R: Wait>(rt: &R, wk: &Wk<Turns>, pass: &mut Pass, cpus: u32, random: &mu
     requires tasks { wk.now.shape.tasks ≡ 6 }
     requires conditions { wk.now.shape.conds ≡ 2 }
     requires between { IsBetween pass.old }
-    ensures same { IsSameSeat pass.old pass.new }
+    ensures same { IsOneSeat pass.old pass.new }
     ensures between { result ≡ true → IsBetween pass.new }
 {
     pass.clear_turn();
@@ -161,7 +161,7 @@ fn play<R: Wait>(
     requires tasks { wk.now.shape.tasks ≡ 6 }
     requires conditions { wk.now.shape.conds ≡ 2 }
     requires between { IsBetween pass.old }
-    ensures same { IsSameSeat pass.old pass.new }
+    ensures same { IsOneSeat pass.old pass.new }
     ensures between { result ≡ true → IsBetween pass.new }
 {
     if pass.seat() >= cpus {
@@ -189,7 +189,7 @@ fn work<R: Wait>(
     requires tasks { wk.now.shape.tasks ≡ 6 }
     requires conditions { wk.now.shape.conds ≡ 2 }
     requires between { IsBetween pass }
-    ensures same { IsSameSeat pass result.pass }
+    ensures same { IsOneSeat pass result.pass }
     ensures between { result.fine ≡ true → IsBetween result.pass }
 {
     let mut journal = Journal::new(alloc);
@@ -238,7 +238,7 @@ fn all_work<R: Threads + Wait + Sync>(
     requires conditions { wk.now.shape.conds ≡ 2 }
     requires between { All IsBetween passes.items }
     ensures len { IfOk result (λ v. length v.items ≡ length passes.items) }
-    ensures same { IfOk result (λ v. (i : ℕ) (d : _) (e : _) → i < length passes.items → IsSameSeat (slice_index_or passes.items i d) (slice_index_or v.items i e).pass) }
+    ensures same { IfOk result (λ v. (i : ℕ) (d : _) (e : _) → i < length passes.items → IsOneSeat (slice_index_or passes.items i d) (slice_index_or v.items i e).pass) }
     ensures between { IfOk result (λ v. (i : ℕ) (e : _) → i < length passes.items → (slice_index_or v.items i e).fine ≡ true → IsBetween (slice_index_or v.items i e).pass) }
 {
     map_vec(
@@ -250,7 +250,7 @@ fn all_work<R: Threads + Wait + Sync>(
             requires tasks { wk.now.shape.tasks ≡ 6 }
             requires conditions { wk.now.shape.conds ≡ 2 }
             requires between { IsBetween pass }
-            ensures same { IsSameSeat pass result.pass }
+            ensures same { IsOneSeat pass result.pass }
             ensures between { result.fine ≡ true → IsBetween result.pass }
         { work(rt, alloc, wk, pass, cpus, turns) },
     )

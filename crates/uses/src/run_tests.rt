@@ -1,7 +1,7 @@
 //! A task is started, picked, run and put back on the smallest shape.
 ghost use Rattle.std.specs.Prelude.{◌≡◌, ◌<◌, true};
 ghost use Rattle.task_words.specs.Closing.{IsDone};
-ghost use Rattle.task_words.specs.Views.{IsOf, IsSameSeat};
+ghost use Rattle.task_words.specs.Views.{IsOf, IsOneSeat};
 
 use crate::{pick, put_back, run, start};
 use handoff_data::{Entry, Shape, State};
@@ -15,20 +15,20 @@ fn ran<B: Kept, R: Wait>(rt: &R, wk: &Wk<B>, pass: &mut Pass) -> bool
     requires idle { IsDone pass.old }
     requires task { 0 < wk.now.shape.tasks }
     requires processor { pass.old.seat < wk.now.shape.cpus }
-    ensures same { IsSameSeat pass.old pass.new }
+    ensures same { IsOneSeat pass.old pass.new }
     ensures done { result ≡ true → IsDone pass.new }
 {
-    if pass.spare() == 0 || !start(rt, wk, pass, 0) {
+    if pass.spare() < 8 || !start(rt, wk, pass, 0) {
         return false;
     }
-    if pass.spare() == 0 {
+    if pass.spare() < 8 {
         return false;
     }
     let Some(t) = pick(rt, wk, pass) else {
         return false;
     };
     run(wk, pass, t);
-    if pass.spare() == 0 {
+    if pass.spare() < 8 {
         return false;
     }
     put_back(rt, wk, pass, t)

@@ -1,5 +1,6 @@
 //! A task's way through a processor: started, picked, put back.
-ghost use Rattle.std.specs.Prelude.{◌≡◌, ◌≢◌, ◌<◌, true, None, Some, IfSome, IfNone};
+ghost use Rattle.std.specs.Prelude.{◌≡◌, ◌≢◌, ◌<◌, ◌≤◌, true, None, Some, IfSome, IfNone};
+ghost use Rattle.task_words.specs.Needs.{need_call};
 ghost use Rattle.task_words.specs.Views.{IsOf, IsSame, IsSameSeat};
 ghost use Rattle.uses.specs.Between.{IsBetween, IsRunning};
 ghost use Rattle.uses.specs.Holds.{HoldsNothing};
@@ -19,7 +20,7 @@ pub fn start<B: Kept, R: Wait>(rt: &R, wk: &Wk<B>, pass: &mut Pass, t: TaskNo) -
     requires task { t < wk.now.shape.tasks }
     requires nothing { HoldsNothing pass.old.trace }
     requires other { current_task pass.old.seat pass.old.trace ≢ Some t }
-    requires spare { 0 < pass.old.turn.spare }
+    requires spare { need_call ≤ pass.old.turn.spare }
     ensures same { IsSameSeat pass.old pass.new }
     ensures nothing { HoldsNothing pass.new.trace }
     ensures current { current_task pass.new.seat pass.new.trace ≡ current_task pass.old.seat pass.old.trace }
@@ -48,7 +49,7 @@ pub fn start_new<B: Kept, R: Wait>(rt: &R, wk: &Wk<B>, pass: &mut Pass, t: TaskN
     requires task { t < wk.now.shape.tasks }
     requires nothing { HoldsNothing pass.old.trace }
     requires other { current_task pass.old.seat pass.old.trace ≢ Some t }
-    requires spare { 0 < pass.old.turn.spare }
+    requires spare { need_call ≤ pass.old.turn.spare }
     ensures same { IsSameSeat pass.old pass.new }
     ensures nothing { HoldsNothing pass.new.trace }
     ensures current { current_task pass.new.seat pass.new.trace ≡ current_task pass.old.seat pass.old.trace }
@@ -70,15 +71,15 @@ pub fn start_new<B: Kept, R: Wait>(rt: &R, wk: &Wk<B>, pass: &mut Pass, t: TaskN
     true
 }
 
-/// Picks the first task that waits in the seat's own queue, as Linux's `pick_next_task`; none where the queue has a
-/// next task already, or nobody waits.
+/// Picks the task that stands as the next of the seat's own queue, else the first that waits there, as Linux's
+/// `pick_next_task`; none where there is neither.
 pub fn pick<B: Kept, R: Wait>(rt: &R, wk: &Wk<B>, pass: &mut Pass) -> Option<TaskNo>
     requires of { IsOf wk.now pass.old }
     requires processor { pass.old.seat < wk.now.shape.cpus }
     requires nothing { HoldsNothing pass.old.trace }
     requires idle { current_task pass.old.seat pass.old.trace ≡ None }
     requires clear { task_to_clear pass.old.seat pass.old.trace ≡ None }
-    requires spare { 0 < pass.old.turn.spare }
+    requires spare { need_call ≤ pass.old.turn.spare }
     ensures same { IsSameSeat pass.old pass.new }
     ensures current { current_task pass.new.seat pass.new.trace ≡ result }
     ensures task { IfSome result (λ t. t < wk.now.shape.tasks) }
@@ -89,9 +90,10 @@ pub fn pick<B: Kept, R: Wait>(rt: &R, wk: &Wk<B>, pass: &mut Pass) -> Option<Tas
 {
     let c = pass.seat();
     let mut queue = lock_queue(rt, wk, pass, c);
-    if queue.val_mut(wk).get().cur.is_some() {
-        queue.give_as_taken(wk, pass);
-        return None;
+    if let Some(t) = queue.val_mut(wk).get().cur {
+        queue.pick_cur(rt, wk, pass, t);
+        queue.give_as_picked(wk, pass);
+        return Some(t);
     }
     let Some(t) = queue.pop(wk, pass) else {
         queue.give_as_taken(wk, pass);
@@ -126,7 +128,7 @@ pub fn put_back<B: Kept, R: Wait>(rt: &R, wk: &Wk<B>, pass: &mut Pass, t: TaskNo
     requires nothing { HoldsNothing pass.old.trace }
     requires current { current_task pass.old.seat pass.old.trace ≡ Some t }
     requires stays { stays_queued pass.old.trace ≡ true }
-    requires spare { 0 < pass.old.turn.spare }
+    requires spare { need_call ≤ pass.old.turn.spare }
     ensures same { IsSameSeat pass.old pass.new }
     ensures nothing { HoldsNothing pass.new.trace }
     ensures gone { result ≡ true → current_task pass.new.seat pass.new.trace ≡ None }

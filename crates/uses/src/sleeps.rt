@@ -1,6 +1,7 @@
 //! A sleep on a condition, step by step.
-ghost use Rattle.std.specs.Prelude.{◌≡◌, ◌<◌, ◌∷◌, true, false, None, Some};
+ghost use Rattle.std.specs.Prelude.{◌≡◌, ◌<◌, ◌≤◌, ◌∷◌, true, false, None, Some};
 ghost use Rattle.uses.specs.Between.{IsBetween, IsRunning};
+ghost use Rattle.task_words.specs.Needs.{need_call};
 ghost use Rattle.task_words.specs.Views.{IsOf, IsSame, IsSameSeat};
 ghost use Rattle.word_rule.specs.Told.{TakenWait};
 ghost use Rattle.word_steps.specs.Records.{Gave};
@@ -34,7 +35,7 @@ pub fn sleep<B: Kept, R: Wait>(
     requires current { current_task pass.old.seat pass.old.trace ≡ Some t }
     requires stays { stays_queued pass.old.trace ≡ true }
     requires home { body_held pass.old.trace ≡ None }
-    requires spare { 1 < pass.old.turn.spare }
+    requires spare { need_call ≤ pass.old.turn.spare }
     ensures same { IsSameSeat pass.old pass.new }
     ensures slept { result ≡ true → IsRunning t pass.old → IsBetween pass.new }
     ensures woken { result ≡ false → IsRunning t pass.old → IsRunning t pass.new }
@@ -98,7 +99,7 @@ pub fn switch_out<B: Kept, R: Wait>(rt: &R, wk: &Wk<B>, pass: &mut Pass, t: Task
     requires current { current_task pass.old.seat pass.old.trace ≡ Some t }
     requires stays { stays_queued pass.old.trace ≡ true }
     requires home { body_held pass.old.trace ≡ None }
-    requires spare { 1 < pass.old.turn.spare }
+    requires spare { need_call ≤ pass.old.turn.spare }
     ensures same { IsSameSeat pass.old pass.new }
     ensures slept { result ≡ true → IsRunning t pass.old → IsBetween pass.new }
     ensures woken { result ≡ false → IsRunning t pass.old → IsRunning t pass.new }

@@ -1,7 +1,7 @@
 //! A new task is queued, picked, run and put back, and is new still.
 ghost use Rattle.std.specs.Prelude.{◌≡◌, ◌<◌, true};
 ghost use Rattle.task_words.specs.Closing.{IsDone};
-ghost use Rattle.task_words.specs.Views.{IsOf, IsSameSeat};
+ghost use Rattle.task_words.specs.Views.{IsOf, IsOneSeat};
 
 use crate::{pick, put_back, run, start_new};
 use handoff_data::{Entry, Shape, State};
@@ -16,20 +16,20 @@ fn ran_as_new<B: Kept, R: Wait>(rt: &R, wk: &Wk<B>, pass: &mut Pass) -> bool
     requires idle { IsDone pass.old }
     requires task { 0 < wk.now.shape.tasks }
     requires processor { pass.old.seat < wk.now.shape.cpus }
-    ensures same { IsSameSeat pass.old pass.new }
+    ensures same { IsOneSeat pass.old pass.new }
     ensures done { result ≡ true → IsDone pass.new }
 {
-    if pass.spare() == 0 || !start_new(rt, wk, pass, 0) {
+    if pass.spare() < 8 || !start_new(rt, wk, pass, 0) {
         return false;
     }
-    if pass.spare() == 0 {
+    if pass.spare() < 8 {
         return false;
     }
     let Some(t) = pick(rt, wk, pass) else {
         return false;
     };
     run(wk, pass, t);
-    if pass.spare() == 0 {
+    if pass.spare() < 8 {
         return false;
     }
     put_back(rt, wk, pass, t)

@@ -1,7 +1,8 @@
 //! A wake-up, step by step.
-ghost use Rattle.std.specs.Prelude.{◌≡◌, ◌≢◌, ℕ, ◌<◌, ◌-◌, true, false, Some, None, IsSome};
+ghost use Rattle.std.specs.Prelude.{◌≡◌, ◌≢◌, ℕ, ◌<◌, ◌≤◌, ◌-◌, true, false, Some, None, IsSome};
 ghost use Rattle.uses.specs.Between.{IsBetween};
 ghost use Rattle.core_data.specs.Table.{put};
+ghost use Rattle.task_words.specs.Needs.{need_step, need_wake};
 ghost use Rattle.task_words.specs.Views.{IsOf, IsSame, IsSameSeat};
 ghost use Rattle.word_rule.specs.May.{number_of};
 ghost use Rattle.word_steps.specs.Folds.{body_held, current_task, is_claimed, is_matched_by};
@@ -25,7 +26,7 @@ pub fn wake<B: Kept, R: Wait>(rt: &R, wk: &Wk<B>, pass: &mut Pass, t: TaskNo, to
     requires free_queues { (c : ℕ) → queue_held pass.old.trace c ≡ None }
     requires unclaimed { is_claimed pass.old.trace t ≡ false }
     requires other { current_task pass.old.seat pass.old.trace ≢ Some t }
-    requires spare { 1 < pass.old.turn.spare }
+    requires spare { need_wake ≤ pass.old.turn.spare }
     ensures same { IsSameSeat pass.old pass.new }
     ensures free { task_held pass.new.trace t ≡ None }
     ensures between { IsBetween pass.old → IsBetween pass.new }
@@ -92,7 +93,7 @@ fn claim<B: Kept, R: Wait>(rt: &R, wk: &Wk<B>, pass: &mut Pass, t: TaskNo, m: u6
     requires locked { IsSome (task_held pass.old.trace t) }
     requires off { saw_off pass.old.trace t ≡ true }
     requires number { number_of pass.old.trace t ≡ m }
-    requires spare { 0 < pass.old.turn.spare }
+    requires spare { need_step ≤ pass.old.turn.spare }
     ensures same { IsSameSeat pass.old pass.new }
     ensures turn { pass.new.turn.spare ≡ pass.old.turn.spare - 1 }
     ensures tasks { task_held pass.new.trace ≡ task_held pass.old.trace }
@@ -121,7 +122,7 @@ fn queue_woken<B: Kept, R: Wait>(rt: &R, wk: &Wk<B>, pass: &mut Pass, t: TaskNo,
     requires clear { saw_clear pass.old.trace t ≡ true }
     requires free { queue_held pass.old.trace to ≡ None }
     requires other { current_task pass.old.seat pass.old.trace ≢ Some t }
-    requires spare { 0 < pass.old.turn.spare }
+    requires spare { need_step ≤ pass.old.turn.spare }
     ensures same { IsSameSeat pass.old pass.new }
     ensures tasks { task_held pass.new.trace ≡ task_held pass.old.trace }
     ensures queues { ((c : ℕ) → queue_held pass.old.trace c ≡ None) → (c : ℕ) → queue_held pass.new.trace c ≡ None }
@@ -145,6 +146,7 @@ fn queue_woken<B: Kept, R: Wait>(rt: &R, wk: &Wk<B>, pass: &mut Pass, t: TaskNo,
 // Stores the processor of a claimed task where it isn't that one already.
 fn place<B: Kept>(wk: &Wk<B>, pass: &mut Pass, task: &TaskGuard<B>, to: CpuNo)
     requires of { IsOf wk.now pass.old }
+    requires table { task.now.of ≡ wk.now.name }
     requires task { task.now.task < wk.now.shape.tasks }
     requires processor { to < wk.now.shape.cpus }
     requires claimed { is_claimed pass.old.trace task.now.task ≡ true }

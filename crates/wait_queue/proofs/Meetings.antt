@@ -137,7 +137,7 @@ underway_none shape limit taken old = record {
   there = sym (append-nil taken);
   many = refl;
   chain = refl;
-  same = record { table = refl; same_shape = refl; same_lasting = refl; same_seat = refl };
+  same = record { table = refl; same_shape = refl; same_lasting = refl; same_seat = refl; same_told = refl };
   rests = rests_none old.seat old.trace;
   passed = tt;
   spare = omega arith;

@@ -13,6 +13,7 @@ same_seat_again a b c x y = record {
   same_shape = y.same_shape ∙ x.same_shape;
   same_lasting = y.same_lasting ∙ x.same_lasting;
   same_seat = y.same_seat ∙ x.same_seat;
+  same_told = y.same_told ∙ x.same_told;
 }
 
 module _ (s : ℕ) where
@@ -42,7 +43,7 @@ module _ (s : ℕ) where
     queues = x.queues free.queues;
     claimed = λ t. x.claimed t (free.claimed t);
     cleared = x.clear ∙ free.cleared;
-    stays = λ t e. x.apart.stays ∙ free.stays t (sym x.current ∙ e);
+    stays = λ t e. x.apart.untouched.stays ∙ free.stays t (sym x.current ∙ e);
   }
 
 -- whom the seat has passed it has passed still

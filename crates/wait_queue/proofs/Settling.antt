@@ -35,11 +35,8 @@ own_rests s t state old = record {
   current = refl;
   clear = refl;
   apart = record {
+    untouched = record { works = refl; body = refl; ended = refl; stays = refl };
     waits = refl;
-    works = refl;
-    body = refl;
-    ended = refl;
-    stays = refl;
     owes = refl;
     retaken = refl;
     passed = λ k u e. passed_if (state.0 == 0) t (has_passed old) k u e;
@@ -71,11 +68,8 @@ finished_settles k s old new free did =
         passed = λ t e. still.passed t (first.apart.passed j t e);
         retaken = still.retaken;
       };
-      works = then.works;
-      body = then.body;
-      ended = then.ended;
+      untouched = then.untouched;
       current = then.current;
-      stays = then.stays;
       clear = then.clear;
     })
 
@@ -96,10 +90,7 @@ bumped_settles s k v old new free x paid = record {
     passed = still.passed;
     retaken = still.retaken ∙ put_other (has_retaken old) k false j (apart_of (wait_held old) k j w free there);
   };
-  works = x.works;
-  body = x.body;
-  ended = x.ended;
+  untouched = x.untouched;
   current = x.current;
-  stays = x.stays;
   clear = x.clear;
 }

@@ -75,11 +75,8 @@ around s k v w given rs after free x = record {
     passed = λ t e. x.apart.passed j t (grind (arith, nat_tests, apart, e));
     retaken = ap (λ (h : ℕ → Bool). h j) x.apart.retaken ∙ put_other (has_retaken rs) k true j apart;
   };
-  works = x.apart.works;
-  body = x.apart.body;
-  ended = x.apart.ended;
+  untouched = x.apart.untouched;
   current = x.current;
-  stays = x.apart.stays;
   clear = x.clear;
 }
 

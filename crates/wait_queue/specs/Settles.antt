@@ -1,7 +1,8 @@
 -- What a call on a wait queue asks of its seat, and what it leaves as it was.
 use Rattle.std.specs.Prelude.{◌≡◌, ℕ, true, false, List, Some, None}
 use Rattle.core_data.specs.declared.values.WaitEntry.{WaitEntry}
-use Rattle.word_steps.specs.Folds.{task_held, queue_held, works_held, wait_held, body_held, ended_known, current_task, stays_queued, task_to_clear, is_claimed, has_passed, has_retaken, owes_walk}
+use Rattle.task_words.specs.Untouched.{Untouched}
+use Rattle.word_steps.specs.Folds.{task_held, queue_held, wait_held, current_task, stays_queued, task_to_clear, is_claimed, has_passed, has_retaken, owes_walk}
 use Rattle.word_steps.specs.Records.{Rec}
 
 -- the seat may wake any task: it holds no task's lock and no queue's, has claimed no task, has no busy word to clear, which
@@ -20,9 +21,8 @@ pub record IsHeldStill (old new : List Rec) (k : ℕ) (v : List WaitEntry) : Typ
   pub passed : (t : ℕ) → has_passed old k t ≡ true → has_passed new k t ≡ true
   pub retaken : has_retaken new k ≡ has_retaken old k
 
--- no lock is held after it that wasn't before, no task is claimed that wasn't, no works or body was taken or given, no
--- condition is owed a walk that wasn't, what is known of a wait queue that is held stays, the same task is current, as
--- queued as before, and the same busy word is to clear
+-- no lock is held after it that wasn't before, no task is claimed that wasn't, no condition is owed a walk that wasn't,
+-- what is known of a wait queue that is held stays, the same task is current, and the same busy word is to clear
 pub record Settles (s : ℕ) (old new : List Rec) : Type 0 where
   pub tasks : (t : ℕ) → task_held old t ≡ None → task_held new t ≡ None
   pub queues : ((c : ℕ) → queue_held old c ≡ None) → (c : ℕ) → queue_held new c ≡ None
@@ -30,9 +30,6 @@ pub record Settles (s : ℕ) (old new : List Rec) : Type 0 where
   pub claimed : (t : ℕ) → is_claimed old t ≡ false → is_claimed new t ≡ false
   pub owes : (k : ℕ) → owes_walk old k ≡ false → owes_walk new k ≡ false
   pub still : (k : ℕ) (v : List WaitEntry) → wait_held old k ≡ Some v → IsHeldStill old new k v
-  pub works : works_held new ≡ works_held old
-  pub body : body_held new ≡ body_held old
-  pub ended : ended_known new ≡ ended_known old
+  pub untouched : Untouched old new
   pub current : current_task s new ≡ current_task s old
-  pub stays : stays_queued new ≡ stays_queued old
   pub clear : task_to_clear s new ≡ task_to_clear s old

@@ -1,6 +1,7 @@
 //! A walk meets entries of a wait queue that it has out.
 ghost use Rattle.std.specs.Prelude.{◌≡◌, ◌≢◌, ℕ, ◌<◌, ◌≤◌, ◌+◌, ◌*◌, ◌∷◌, [], true, false, Some, IfSome, length, slice_get};
 ghost use Rattle.run_queue.specs.Rests.{Rests};
+ghost use Rattle.task_words.specs.Needs.{need_wake, need_walk};
 ghost use Rattle.task_words.specs.Views.{IsOf, IsSameSeat};
 ghost use Rattle.wait_queue.specs.Meets.{DidWakeTask, HasMetOne};
 ghost use Rattle.wait_queue.specs.Settles.{IsFree};
@@ -44,7 +45,7 @@ fn wake_task<B: Kept, R: Wait>(rt: &R, wk: &Wk<B>, pass: &mut Pass, t: TaskNo) -
     requires of { IsOf wk.now pass.old }
     requires task { t < wk.now.shape.tasks }
     requires free { IsFree pass.old.seat pass.old.trace }
-    requires spare { 1 < pass.old.turn.spare }
+    requires spare { need_wake ≤ pass.old.turn.spare }
     ensures same { IsSameSeat pass.old pass.new }
     ensures did { DidWakeTask t wk.now.shape pass.old pass.new result }
     ensures rests { Rests pass.old.seat pass.old.trace pass.new.trace }
@@ -65,7 +66,7 @@ fn meet<B: Kept, R: Wait>(rt: &R, wk: &Wk<B>, pass: &mut Pass, entries: &mut Wai
     requires few { length entries.old ≤ 200 }
     requires tasks { IfSome (slice_get entries.old 0) (λ x. x.t < wk.now.shape.tasks) }
     requires free { IsFree pass.old.seat pass.old.trace }
-    requires spare { 1 < pass.old.turn.spare }
+    requires spare { need_wake ≤ pass.old.turn.spare }
     ensures same { IsSameSeat pass.old pass.new }
     ensures did { HasMetOne wk.now.shape entries.new entries.old pass.old pass.new result.woken result.exclusive }
     ensures rests { Rests pass.old.seat pass.old.trace pass.new.trace }
@@ -125,7 +126,7 @@ pub fn walk_entries<B: Kept, R: Wait>(
     requires taken { TakenWait wk.now.shape entries.old }
     requires limit { IfSome limit (λ n. 0 < n) }
     requires free { IsFree pass.old.seat pass.old.trace }
-    requires spare { 2 * wk.now.shape.tasks ≤ pass.old.turn.spare }
+    requires spare { need_walk wk.now.shape.tasks ≤ pass.old.turn.spare }
     ensures same { IsSameSeat pass.old pass.new }
     ensures did { HasWalked wk.now.shape limit entries.new entries.old pass.old pass.new result }
     ensures rests { Rests pass.old.seat pass.old.trace pass.new.trace }

@@ -1,5 +1,6 @@
 //! Walks along the wait queue of a condition.
 ghost use Rattle.std.specs.Prelude.{◌≡◌, ◌<◌, ◌≤◌, ◌+◌, ◌*◌, false, None, Some, IfSome};
+ghost use Rattle.task_words.specs.Needs.{need_walk};
 ghost use Rattle.task_words.specs.Views.{IsOf, IsSameSeat};
 ghost use Rattle.wait_queue.specs.Settles.{IsFree, Settles};
 ghost use Rattle.wait_queue.specs.Walks.{IsWalked, IsRaisedAndWalked};
@@ -17,7 +18,7 @@ fn walk<B: Kept, R: Wait>(rt: &R, wk: &Wk<B>, pass: &mut Pass, k: CondNo, limit:
     requires limit { IfSome limit (λ n. 0 < n) }
     requires free_wait { wait_held pass.old.trace k ≡ None }
     requires free { IsFree pass.old.seat pass.old.trace }
-    requires spare { 2 * wk.now.shape.tasks ≤ pass.old.turn.spare }
+    requires spare { need_walk wk.now.shape.tasks ≤ pass.old.turn.spare }
     ensures same { IsSameSeat pass.old pass.new }
     ensures did { IsWalked wk.now.shape k limit pass.old pass.new result }
     ensures settles { Settles pass.old.seat pass.old.trace pass.new.trace }
@@ -37,7 +38,7 @@ pub fn wake_all<B: Kept, R: Wait>(rt: &R, wk: &Wk<B>, pass: &mut Pass, k: CondNo
     requires condition { k < wk.now.shape.conds }
     requires free_wait { wait_held pass.old.trace k ≡ None }
     requires free { IsFree pass.old.seat pass.old.trace }
-    requires spare { 2 * wk.now.shape.tasks ≤ pass.old.turn.spare }
+    requires spare { need_walk wk.now.shape.tasks ≤ pass.old.turn.spare }
     ensures same { IsSameSeat pass.old pass.new }
     ensures did { IsWalked wk.now.shape k None pass.old pass.new result }
     ensures settles { Settles pass.old.seat pass.old.trace pass.new.trace }
@@ -61,7 +62,7 @@ pub fn wake_some<B: Kept, R: Wait>(
     requires some { 0 < exclusive }
     requires free_wait { wait_held pass.old.trace k ≡ None }
     requires free { IsFree pass.old.seat pass.old.trace }
-    requires spare { 2 * wk.now.shape.tasks ≤ pass.old.turn.spare }
+    requires spare { need_walk wk.now.shape.tasks ≤ pass.old.turn.spare }
     ensures same { IsSameSeat pass.old pass.new }
     ensures did { IsWalked wk.now.shape k (Some exclusive) pass.old pass.new result }
     ensures settles { Settles pass.old.seat pass.old.trace pass.new.trace }
@@ -77,7 +78,7 @@ pub fn bump_and_wake<B: Kept, R: Wait>(rt: &R, wk: &Wk<B>, pass: &mut Pass, k: C
     requires condition { k < wk.now.shape.conds }
     requires free_wait { wait_held pass.old.trace k ≡ None }
     requires free { IsFree pass.old.seat pass.old.trace }
-    requires spare { 2 * wk.now.shape.tasks ≤ pass.old.turn.spare }
+    requires spare { need_walk wk.now.shape.tasks ≤ pass.old.turn.spare }
     ensures same { IsSameSeat pass.old pass.new }
     ensures did { IsRaisedAndWalked wk.now.shape k pass.old pass.new result }
     ensures settles { Settles pass.old.seat pass.old.trace pass.new.trace }

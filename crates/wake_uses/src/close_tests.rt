@@ -1,6 +1,6 @@
 //! A table is closed while a task sleeps.
 ghost use Rattle.std.specs.Prelude.{◌≡◌, ◌+◌, ◌<◌, true};
-ghost use Rattle.task_words.specs.Views.{IsOf, IsSameSeat};
+ghost use Rattle.task_words.specs.Views.{IsOf, IsOneSeat};
 ghost use Rattle.uses.specs.Between.{IsBetween};
 
 use crate::bump_and_wake;
@@ -19,7 +19,7 @@ fn sleeps<B: Kept, R: Wait>(rt: &R, wk: &Wk<B>, pass: &mut Pass, exclusive: bool
     requires task { wk.now.shape.tasks ≡ 2 }
     requires conditions { wk.now.shape.conds ≡ 2 }
     requires between { IsBetween pass.old }
-    ensures same { IsSameSeat pass.old pass.new }
+    ensures same { IsOneSeat pass.old pass.new }
     ensures between { result ≡ true → IsBetween pass.new }
 {
     pass.clear_turn();

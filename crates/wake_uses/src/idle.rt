@@ -1,5 +1,6 @@
 //! Calls of a seat with no current task.
-ghost use Rattle.std.specs.Prelude.{◌<◌, ◌≤◌, ◌*◌};
+ghost use Rattle.std.specs.Prelude.{◌<◌, ◌≤◌};
+ghost use Rattle.task_words.specs.Needs.{need_call, need_wake, need_walk};
 ghost use Rattle.task_words.specs.States.{IsWakeMask};
 ghost use Rattle.task_words.specs.Views.{IsOf, IsSameSeat};
 ghost use Rattle.uses.specs.Between.{IsBetween};
@@ -16,7 +17,7 @@ pub fn start<B: Kept, R: Wait>(rt: &R, wk: &Wk<B>, pass: &mut Pass, t: TaskNo, c
     requires task { t < wk.now.shape.tasks }
     requires processor { c < wk.now.shape.cpus }
     requires between { IsBetween pass.old }
-    requires spare { 0 < pass.old.turn.spare }
+    requires spare { need_call ≤ pass.old.turn.spare }
     ensures same { IsSameSeat pass.old pass.new }
     ensures between { IsBetween pass.new }
 {
@@ -28,7 +29,7 @@ pub fn wake<B: Kept, R: Wait>(rt: &R, wk: &Wk<B>, pass: &mut Pass, t: TaskNo) ->
     requires of { IsOf wk.now pass.old }
     requires task { t < wk.now.shape.tasks }
     requires between { IsBetween pass.old }
-    requires spare { 1 < pass.old.turn.spare }
+    requires spare { need_wake ≤ pass.old.turn.spare }
     ensures same { IsSameSeat pass.old pass.new }
     ensures between { IsBetween pass.new }
 {
@@ -47,7 +48,7 @@ pub fn wake_by<B: Kept, R: Wait>(
     requires task { t < wk.now.shape.tasks }
     requires mask { IsWakeMask mask }
     requires between { IsBetween pass.old }
-    requires spare { 1 < pass.old.turn.spare }
+    requires spare { need_wake ≤ pass.old.turn.spare }
     ensures same { IsSameSeat pass.old pass.new }
     ensures between { IsBetween pass.new }
 {
@@ -59,7 +60,7 @@ pub fn wake_all<B: Kept, R: Wait>(rt: &R, wk: &Wk<B>, pass: &mut Pass, k: CondNo
     requires of { IsOf wk.now pass.old }
     requires condition { k < wk.now.shape.conds }
     requires between { IsBetween pass.old }
-    requires spare { 2 * wk.now.shape.tasks ≤ pass.old.turn.spare }
+    requires spare { need_walk wk.now.shape.tasks ≤ pass.old.turn.spare }
     ensures same { IsSameSeat pass.old pass.new }
     ensures between { IsBetween pass.new }
 {
@@ -78,7 +79,7 @@ pub fn wake_some<B: Kept, R: Wait>(
     requires condition { k < wk.now.shape.conds }
     requires some { 0 < exclusive }
     requires between { IsBetween pass.old }
-    requires spare { 2 * wk.now.shape.tasks ≤ pass.old.turn.spare }
+    requires spare { need_walk wk.now.shape.tasks ≤ pass.old.turn.spare }
     ensures same { IsSameSeat pass.old pass.new }
     ensures between { IsBetween pass.new }
 {
@@ -90,7 +91,7 @@ pub fn bump_and_wake<B: Kept, R: Wait>(rt: &R, wk: &Wk<B>, pass: &mut Pass, k: C
     requires of { IsOf wk.now pass.old }
     requires condition { k < wk.now.shape.conds }
     requires between { IsBetween pass.old }
-    requires spare { 2 * wk.now.shape.tasks ≤ pass.old.turn.spare }
+    requires spare { need_walk wk.now.shape.tasks ≤ pass.old.turn.spare }
     ensures same { IsSameSeat pass.old pass.new }
     ensures between { IsBetween pass.new }
 {

@@ -1,7 +1,7 @@
 //! Whom a mask wakes, and that nothing wakes a task that is dead.
 ghost use Rattle.std.specs.Prelude.{◌≡◌, ◌<◌, true, Some};
 ghost use Rattle.task_words.specs.States.{IsWakeMask};
-ghost use Rattle.task_words.specs.Views.{IsOf, IsSame, IsSameSeat};
+ghost use Rattle.task_words.specs.Views.{IsOf, IsSame, IsOneSeat};
 ghost use Rattle.uses.specs.Between.{IsBetween, IsRunning};
 ghost use Rattle.word_steps.specs.Folds.{ended_known};
 
@@ -34,7 +34,7 @@ fn answer<B: Kept, R: Wait>(rt: &R, wk: &Wk<B>, pass: &mut Pass, mask: State) ->
     requires task { 0 < wk.now.shape.tasks }
     requires mask { IsWakeMask mask }
     requires between { IsBetween pass.old }
-    ensures same { IsSameSeat pass.old pass.new }
+    ensures same { IsOneSeat pass.old pass.new }
     ensures between { IsBetween pass.new }
 {
     pass.clear_turn();

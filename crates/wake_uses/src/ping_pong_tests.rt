@@ -1,7 +1,7 @@
 //! Two threads, each with a task of its own, that wake each other in turn: no wake is missed.
 ghost use Rattle.std.specs.Prelude.{◌≡◌, ◌<◌, true, IfNone, IfSome};
 ghost use Rattle.std.specs.List.{All};
-ghost use Rattle.task_words.specs.Views.{IsOf, IsSameSeat};
+ghost use Rattle.task_words.specs.Views.{IsOf, IsOneSeat};
 ghost use Rattle.uses.specs.Between.{IsBetween, IsRunning};
 
 use crate::running::{bump_and_wake, finish, prepare};
@@ -23,7 +23,7 @@ fn pick_queued<B: Kept, R: Wait>(rt: &R, wk: &Wk<B>, pass: &mut Pass, t: TaskNo)
     requires processor { pass.old.seat < wk.now.shape.cpus }
     requires task { t < wk.now.shape.tasks }
     requires between { IsBetween pass.old }
-    ensures same { IsSameSeat pass.old pass.new }
+    ensures same { IsOneSeat pass.old pass.new }
     ensures none { IfNone result (IsBetween pass.new) }
     ensures some { IfSome result (λ u. IsRunning u pass.new) }
 {
@@ -40,7 +40,7 @@ fn resume<B: Kept, R: Wait>(rt: &R, wk: &Wk<B>, pass: &mut Pass, t: TaskNo) -> b
     requires processor { pass.old.seat < wk.now.shape.cpus }
     requires task { t < wk.now.shape.tasks }
     requires between { IsBetween pass.old }
-    ensures same { IsSameSeat pass.old pass.new }
+    ensures same { IsOneSeat pass.old pass.new }
     ensures running { result ≡ true → IsRunning t pass.new }
 {
     let backoff = Backoff::new();
@@ -59,7 +59,7 @@ fn leave<B: Kept, R: Wait>(rt: &R, wk: &Wk<B>, pass: &mut Pass, t: TaskNo) -> bo
     requires processor { pass.old.seat < wk.now.shape.cpus }
     requires task { t < wk.now.shape.tasks }
     requires running { IsRunning t pass.old }
-    ensures same { IsSameSeat pass.old pass.new }
+    ensures same { IsOneSeat pass.old pass.new }
     ensures running { result ≡ true → IsRunning t pass.new }
 {
     pass.clear_turn();
@@ -84,7 +84,7 @@ fn sleep_until<B: Kept, R: Wait>(
     requires task { t < wk.now.shape.tasks }
     requires condition { k < wk.now.shape.conds }
     requires running { IsRunning t pass.old }
-    ensures same { IsSameSeat pass.old pass.new }
+    ensures same { IsOneSeat pass.old pass.new }
     ensures running { result ≡ true → IsRunning t pass.new }
 {
     for _ in rt.forever() {
@@ -114,7 +114,7 @@ fn await_raised<B: Kept, R: Wait>(
     requires task { t < wk.now.shape.tasks }
     requires condition { k < wk.now.shape.conds }
     requires running { IsRunning t pass.old }
-    ensures same { IsSameSeat pass.old pass.new }
+    ensures same { IsOneSeat pass.old pass.new }
     ensures running { result ≡ true → IsRunning t pass.new }
 {
     if load_cond(wk, pass, k) > count {
@@ -128,7 +128,7 @@ fn raise<B: Kept, R: Wait>(rt: &R, wk: &Wk<B>, pass: &mut Pass, t: TaskNo, k: Co
     requires of { IsOf wk.now pass.old }
     requires condition { k < wk.now.shape.conds }
     requires running { IsRunning t pass.old }
-    ensures same { IsSameSeat pass.old pass.new }
+    ensures same { IsOneSeat pass.old pass.new }
     ensures running { IsRunning t pass.new }
 {
     pass.clear_turn();
@@ -143,7 +143,7 @@ fn round<B: Kept, R: Wait>(rt: &R, wk: &Wk<B>, pass: &mut Pass, t: TaskNo, count
     requires task { (t < 2) × (wk.now.shape.tasks ≡ 2) }
     requires conditions { wk.now.shape.conds ≡ 2 }
     requires running { IsRunning t pass.old }
-    ensures same { IsSameSeat pass.old pass.new }
+    ensures same { IsOneSeat pass.old pass.new }
     ensures running { result ≡ true → IsRunning t pass.new }
 {
     if t == 0 {

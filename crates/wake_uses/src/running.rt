@@ -1,5 +1,6 @@
 //! Calls of a seat whose current task is on its queue.
-ghost use Rattle.std.specs.Prelude.{◌<◌, ◌≤◌, ◌*◌};
+ghost use Rattle.std.specs.Prelude.{◌<◌, ◌≤◌};
+ghost use Rattle.task_words.specs.Needs.{need_call, need_walk};
 ghost use Rattle.task_words.specs.Views.{IsOf, IsSame, IsSameSeat};
 ghost use Rattle.uses.specs.Between.{IsRunning};
 
@@ -12,7 +13,7 @@ use ttwu_core::Wake;
 pub fn wake_own<B: Kept>(wk: &Wk<B>, pass: &mut Pass, t: TaskNo) -> Wake
     requires of { IsOf wk.now pass.old }
     requires running { IsRunning t pass.old }
-    requires spare { 0 < pass.old.turn.spare }
+    requires spare { need_call ≤ pass.old.turn.spare }
     ensures same { IsSameSeat pass.old pass.new }
     ensures running { IsRunning t pass.new }
 {
@@ -24,7 +25,7 @@ pub fn wake_all<B: Kept, R: Wait>(rt: &R, wk: &Wk<B>, pass: &mut Pass, t: TaskNo
     requires of { IsOf wk.now pass.old }
     requires condition { k < wk.now.shape.conds }
     requires running { IsRunning t pass.old }
-    requires spare { 2 * wk.now.shape.tasks ≤ pass.old.turn.spare }
+    requires spare { need_walk wk.now.shape.tasks ≤ pass.old.turn.spare }
     ensures same { IsSameSeat pass.old pass.new }
     ensures running { IsRunning t pass.new }
 {
@@ -42,7 +43,7 @@ pub fn bump_and_wake<B: Kept, R: Wait>(
     requires of { IsOf wk.now pass.old }
     requires condition { k < wk.now.shape.conds }
     requires running { IsRunning t pass.old }
-    requires spare { 2 * wk.now.shape.tasks ≤ pass.old.turn.spare }
+    requires spare { need_walk wk.now.shape.tasks ≤ pass.old.turn.spare }
     ensures same { IsSameSeat pass.old pass.new }
     ensures running { IsRunning t pass.new }
 {

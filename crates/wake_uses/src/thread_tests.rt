@@ -2,7 +2,7 @@
 //! of a history.
 ghost use Rattle.std.specs.Prelude.{◌≡◌, ◌<◌, ◌≤◌, true};
 ghost use Rattle.std.specs.List.{All};
-ghost use Rattle.task_words.specs.Views.{IsOf, IsSameSeat};
+ghost use Rattle.task_words.specs.Views.{IsOf, IsOneSeat};
 ghost use Rattle.uses.specs.Between.{IsBetween, IsRunning};
 
 use crate::running::{self, finish, prepare};
@@ -38,11 +38,11 @@ fn give_up<B: Kept, R: Wait>(rt: &R, wk: &Wk<B>, pass: &mut Pass, t: TaskNo, k: 
     requires task { t < wk.now.shape.tasks }
     requires condition { k < wk.now.shape.conds }
     requires running { IsRunning t pass.old }
-    ensures same { IsSameSeat pass.old pass.new }
+    ensures same { IsOneSeat pass.old pass.new }
     ensures left { result ≡ true → IsBetween pass.new }
 {
     finish(rt, wk, pass, t, k);
-    pass.spare() > 0 && put_back(rt, wk, pass, t)
+    pass.spare() >= 8 && put_back(rt, wk, pass, t)
 }
 
 // The current task sleeps at a condition until that is raised, unless it is or the task is woken first; whether it left.
@@ -59,12 +59,12 @@ fn sleep<B: Kept, R: Wait>(
     requires task { t < wk.now.shape.tasks }
     requires condition { k < wk.now.shape.conds }
     requires running { IsRunning t pass.old }
-    ensures same { IsSameSeat pass.old pass.new }
+    ensures same { IsOneSeat pass.old pass.new }
     ensures left { result ≡ true → IsBetween pass.new }
 {
     let seen = load_cond(wk, pass, k);
     prepare(rt, wk, pass, t, k, exclusive);
-    if load_cond(wk, pass, k) != seen || pass.spare() < 2 {
+    if load_cond(wk, pass, k) != seen || pass.spare() < 12 {
         return give_up(rt, wk, pass, t, k);
     }
     if switch_out(rt, wk, pass, t) {
@@ -81,7 +81,7 @@ fn wake_among<B: Kept, R: Wait>(rt: &R, wk: &Wk<B>, pass: &mut Pass, t: TaskNo, 
     requires tasks { wk.now.shape.tasks ≡ 6 }
     requires condition { k < wk.now.shape.conds }
     requires running { IsRunning t pass.old }
-    ensures same { IsSameSeat pass.old pass.new }
+    ensures same { IsOneSeat pass.old pass.new }
     ensures left { result ≡ true → IsBetween pass.new }
 {
     prepare(rt, wk, pass, t, k, true);
@@ -100,14 +100,14 @@ fn raise<B: Kept, R: Wait>(rt: &R, wk: &Wk<B>, pass: &mut Pass, t: TaskNo, k: Co
     requires tasks { wk.now.shape.tasks ≡ 6 }
     requires condition { k < wk.now.shape.conds }
     requires running { IsRunning t pass.old }
-    ensures same { IsSameSeat pass.old pass.new }
+    ensures same { IsOneSeat pass.old pass.new }
     ensures left { result ≡ true → IsBetween pass.new }
 {
     if pass.spare() < 12 {
         return false;
     }
     running::bump_and_wake(rt, wk, pass, t, k);
-    pass.spare() > 0 && put_back(rt, wk, pass, t)
+    pass.spare() >= 8 && put_back(rt, wk, pass, t)
 }
 
 // Picks a task, if one waits, and runs it until it leaves; whether none is current then.
@@ -117,10 +117,10 @@ fn cycle<B: Kept, R: Wait>(rt: &R, wk: &Wk<B>, pass: &mut Pass, random: &mut u64
     requires tasks { wk.now.shape.tasks ≡ 6 }
     requires conditions { wk.now.shape.conds ≡ 2 }
     requires between { IsBetween pass.old }
-    ensures same { IsSameSeat pass.old pass.new }
+    ensures same { IsOneSeat pass.old pass.new }
     ensures between { result ≡ true → IsBetween pass.new }
 {
-    if pass.spare() == 0 {
+    if pass.spare() < 8 {
         return false;
     }
     let Some(t) = pick(rt, wk, pass) else {
@@ -133,7 +133,7 @@ fn cycle<B: Kept, R: Wait>(rt: &R, wk: &Wk<B>, pass: &mut Pass, random: &mut u64
         3 | 4 => sleep(rt, wk, pass, t, k, true),
         5 => wake_among(rt, wk, pass, t, k),
         6 => raise(rt, wk, pass, t, k),
-        _ => pass.spare() > 0 && put_back(rt, wk, pass, t),
+        _ => pass.spare() >= 8 && put_back(rt, wk, pass, t),
     }
 }
 
@@ -144,7 +144,7 @@ fn call<B: Kept, R: Wait>(rt: &R, wk: &Wk<B>, pass: &mut Pass, cpus: u32, random
     requires tasks { wk.now.shape.tasks ≡ 6 }
     requires conditions { wk.now.shape.conds ≡ 2 }
     requires between { IsBetween pass.old }
-    ensures same { IsSameSeat pass.old pass.new }
+    ensures same { IsOneSeat pass.old pass.new }
     ensures between { IsBetween pass.new }
 {
     pass.clear_turn();
@@ -177,7 +177,7 @@ fn turn<B: Kept, R: Wait>(rt: &R, wk: &Wk<B>, pass: &mut Pass, cpus: u32, random
     requires tasks { wk.now.shape.tasks ≡ 6 }
     requires conditions { wk.now.shape.conds ≡ 2 }
     requires between { IsBetween pass.old }
-    ensures same { IsSameSeat pass.old pass.new }
+    ensures same { IsOneSeat pass.old pass.new }
     ensures between { result ≡ true → IsBetween pass.new }
 {
     if below(random, 2) == 0 {

@@ -1,6 +1,6 @@
 //! Wait queues, by the steps of one or two seats.
 ghost use Rattle.std.specs.Prelude.{◌≡◌, ◌<◌, true};
-ghost use Rattle.task_words.specs.Views.{IsOf, IsSameSeat};
+ghost use Rattle.task_words.specs.Views.{IsOf, IsOneSeat};
 ghost use Rattle.uses.specs.Between.{IsBetween, IsRunning};
 
 use crate::running::{self, finish, prepare};
@@ -20,14 +20,14 @@ pub fn run_new<B: Kept, R: Wait>(rt: &R, wk: &Wk<B>, pass: &mut Pass, t: TaskNo)
     requires processor { pass.old.seat < wk.now.shape.cpus }
     requires task { t < wk.now.shape.tasks }
     requires between { IsBetween pass.old }
-    ensures same { IsSameSeat pass.old pass.new }
+    ensures same { IsOneSeat pass.old pass.new }
     ensures running { result ≡ true → IsRunning t pass.new }
 {
     pass.clear_turn();
     let Start::Started { m: 1 } = start(rt, wk, pass, t, 0) else {
         return false;
     };
-    if pass.spare() == 0 {
+    if pass.spare() < 8 {
         return false;
     }
     let Some(next) = pick(rt, wk, pass) else {
@@ -50,14 +50,14 @@ pub fn sleep_new<B: Kept, R: Wait>(
     requires task { t < wk.now.shape.tasks }
     requires condition { k < wk.now.shape.conds }
     requires between { IsBetween pass.old }
-    ensures same { IsSameSeat pass.old pass.new }
+    ensures same { IsOneSeat pass.old pass.new }
     ensures between { result ≡ true → IsBetween pass.new }
 {
     if !run_new(rt, wk, pass, t) {
         return false;
     }
     prepare(rt, wk, pass, t, k, exclusive);
-    if load_cond(wk, pass, k) != 0 || pass.spare() < 2 {
+    if load_cond(wk, pass, k) != 0 || pass.spare() < 12 {
         return false;
     }
     switch_out(rt, wk, pass, t)
@@ -68,7 +68,7 @@ fn first_two_run<B: Kept>(wk: &Wk<B>, pass: &mut Pass) -> bool
     requires of { IsOf wk.now pass.old }
     requires tasks { 2 < wk.now.shape.tasks }
     requires between { IsBetween pass.old }
-    ensures same { IsSameSeat pass.old pass.new }
+    ensures same { IsOneSeat pass.old pass.new }
     ensures between { IsBetween pass.new }
 {
     let states = [

@@ -28,19 +28,19 @@ fn wakes<B: Kept, R: Wait + Abort>(rt: &R, wk: &Wk<B>, own: &mut Pass, other: &m
     own.clear_turn();
     other.clear_turn();
     assert_eq!(rt; start(rt, wk, own, 0, 0), Start::Started { m: 1 });
-    assert!(rt; own.spare() > 2);
+    assert!(rt; own.spare() >= 12);
     let Some(t) = pick(rt, wk, own) else {
         assert!(rt; false);
         return;
     };
     assert_eq!(rt; t, 0);
     set_state(wk, own, State::TASK_INTERRUPTIBLE);
-    assert!(rt; own.spare() > 0);
+    assert!(rt; own.spare() >= 8);
     assert_eq!(rt; wake_own(wk, own, t), Wake::Woke { how: How::Own });
     set_state(wk, own, State::TASK_INTERRUPTIBLE);
     assert_eq!(rt; wake(rt, wk, other, t), Wake::Woke { how: How::Runnable });
     set_state(wk, own, State::TASK_INTERRUPTIBLE);
-    assert!(rt; own.spare() > 1);
+    assert!(rt; own.spare() >= 12);
     assert!(rt; switch_out(rt, wk, own, t));
     other.clear_turn();
     assert_eq!(rt;

@@ -23,12 +23,12 @@ give_queued-requires-clause-may g c κs =
     let queued = c.queue_task.ensures.trace in let gave = c.give_put.ensures.trace in
     let shape : c.give_put.new.pass.shape ≡ c.args.wk.now.shape =
     c.give_put.ensures.same.same.same_shape ∙ c.queue_task.ensures.same.same_shape ∙ c.lock_queue-queue.ensures.same.same.same_shape
-    ∙ ap (λ (p : PassView). p.shape) c.clear_turn.ensures ∙ c.requires.of.same_shape in
+    ∙ ap (λ (p : PassView). p.shape) c.clear_turn.ensures.cleared ∙ c.requires.of.same_shape in
     subst (λ (z : Shape). IsQueuedUnder z c.give_put.new.pass.trace t v) (sym shape) record {
       taken = v;
       held = ap (λ (z : List Rec). task_held z t) gave ∙ ap (λ (z : List Rec). task_held z t) queued
           ∙ ap (λ (z : List Rec). task_held z t) c.lock_queue-queue.ensures.trace
-          ∙ ap (λ (p : PassView). task_held p.trace t) c.clear_turn.ensures ∙ c.requires.placing.held;
+          ∙ ap (λ (p : PassView). task_held p.trace t) c.clear_turn.ensures.cleared ∙ c.requires.placing.held;
       kept = record { mask = refl; r = refl; narrowed = refl; pending = refl; stop_queued = refl };
       wake_cpu = c.requires.fits.wake_cpu;
       dest = c.requires.fits.dest;

@@ -1,6 +1,6 @@
-use Rattle.task_words.specs.Views.{IsSameSeat}
+use Rattle.task_words.specs.Views.{IsOneSeat}
 use Rattle.uses.specs.Between.{IsBetween}
 use Rattle.wake_uses.proofs.ping_pong_tests.resume.Given as goal
 
 abbrev pub invariant-loop : goal.invariant-loop
-invariant-loop g l = record { same : IsSameSeat l.initial.pass l.pass; between : IsBetween l.pass }
+invariant-loop g l = record { same : IsOneSeat l.initial.pass l.pass; between : IsBetween l.pass }
