@@ -28,6 +28,7 @@ pass_made old new trace same e = λ i. record {
   seat = same.same.same_seat i;
   trace = e i;
   turn = same.same_turn i;
+  told = same.same.same_told i;
 }
 
 -- a give after a walk along all pays what the seat owes
