@@ -12,9 +12,10 @@ use Rattle.core_data.specs.declared.values.WaitEntry.{WaitEntry}
 use Rattle.core_gives.specs.Waits.{give_by, walked_if, is_walk, has_task, sleeper_of}
 use Rattle.core_invariant.proofs.Puts.{put_here}
 use Rattle.core_invariant.specs.Sleepers.{IsAwake}
-use Rattle.core_kinds.specs.Steps.{normal, running, fresh, is_match, is_sleep, stored_word, numbered_reads, kept_reads}
+use Rattle.core_kinds.specs.Running.{MayLeave}
+use Rattle.core_kinds.specs.Steps.{normal, running, fresh, is_match, is_sleep, stored_word, numbered_reads, kept_reads, dead}
 use Rattle.core_kinds.specs.Waking.{ran_if, slept_if, noted_if, logged_if, seen_if, is_own_read, is_matched, is_refused, state_read, rq_read, busy_read, cpu_read, test_by, tested_if}
-use Rattle.core_law.specs.StepLaws.{SleepsAreKept, PassesAreKept, RefusalsAreTold, LoadsTell, GivesKeep, WordsMean}
+use Rattle.core_law.specs.StepLaws.{SleepsAreKept, PassesAreKept, RefusalsAreTold, LoadsTell, GivesKeep, StepsAsk, WordsMean}
 use Rattle.core_places.proofs.LastReads.{reads_here}
 use Rattle.handoff_data.specs.declared.entry.Entry.{Entry}
 use Rattle.handoff_data.specs.declared.entry.Entry.TheVariants.{Refused}
@@ -316,6 +317,24 @@ gives-keep core =
       rest = λ s t val taken stood done may out. let kept = may.kept taken out in (kept.narrowed, kept.pending, kept.stop_queued);
       untold = λ s t val stood done may. (may.not_stood, may.not_done);
       works = λ s c val may. may.kept;
+    }
+
+-- a task that leaves its queue by TASK_DEAD has disable count 0
+dies_at : (o : Option State) (count : ℕ) → o ≡ Some dead → MayLeave o count → count ≡ 0
+dies_at None count q may = absurd (grind (arith, q))
+dies_at (Some x) count q (inl a) = let same : x ≡ dead = grind (arith, q) in absurd (grind (arith, nat_tests, same, a))
+dies_at (Some x) count q (inr a) = a.1
+
+pub steps-ask : (core : Table) → StepsAsk core
+steps-ask core =
+    record {
+      dies = λ s c t may dead. dies_at (core.seen s) (core.count t) dead may.seen;
+      given_up = λ s t queue may current none. elim (may.switch.1 refl t current) [
+        | inl kept ↦ absurd (grind (arith, kept, none))
+        | inr left ↦ left.2.1
+      ];
+      picked = λ s c t queue may. may.chosen;
+      moved = λ s c t queue may. may.waiting;
     }
 
 pub words-mean : WordsMean

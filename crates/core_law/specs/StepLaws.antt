@@ -1,14 +1,16 @@
 -- What steps may change and what they keep, said in the words of the machine rather than in those of its steps.
 use Rattle.std.specs.Prelude.{◌≡◌, ◌≢◌, ◌+◌, ◌^◌, ◌<◌, ◌⊎◌, ◌↔◌, ◌++◌, ◌∷◌, [], ℕ, Bool, true, false, List, Option, Some, None, IsSome, bit_and}
+use Rattle.core_data.specs.Queue.{Queue, times_in}
 use Rattle.core_data.specs.Table.{Table}
 use Rattle.core_data.specs.declared.pos.TaskReads.{TaskReads}
 use Rattle.core_data.specs.declared.values.TaskVal.{TaskVal}
 use Rattle.core_data.specs.declared.values.WaitEntry.{WaitEntry}
 use Rattle.core_data.specs.declared.values.WorkItem.{WorkItem}
+use Rattle.core_gives.specs.Queues.{MayGiveQueue}
 use Rattle.core_gives.specs.Waits.{MayGiveWait, give_wait, has_task}
 use Rattle.core_invariant.specs.Sleepers.{IsAwake}
 use Rattle.core_kinds.specs.Locks.{MayGiveTask, MayGiveWorks}
-use Rattle.core_kinds.specs.Running.{queue_task, dequeue_task, move_task}
+use Rattle.core_kinds.specs.Running.{MayDequeue, MayMove, MaySetBusy, queue_task, dequeue_task, move_task}
 use Rattle.core_kinds.specs.Steps.{dead, fresh, is_sleep, IsBelowEnd}
 use Rattle.core_kinds.specs.Waking.{own_state, release, load_state, load_rq, load_busy, load_cpu, store_cpu, load_cond}
 use Rattle.handoff_data.specs.declared.entry.Entry.TheVariants.{Refused}
@@ -100,6 +102,15 @@ pub record GivesKeep (core : Table) : Type 0 where
   pub untold : (s t : ℕ) (val : TaskVal) (stood done : Bool) → MayGiveTask core s t val stood done
       → (stood ≡ false) × (done ≡ false)
   pub works : (s c : ℕ) (val : List WorkItem) → MayGiveWorks core s c val → core.works_out s c ≡ Some val
+
+-- What a step asks that no word shows later: a task dies, and is given up without its lock, only at disable count 0; a
+-- pick is of the task that the queue has as its next, and a move of one that waits there.
+pub record StepsAsk (core : Table) : Type 0 where
+  pub dies : (s c t : ℕ) → MayDequeue core s c t → core.seen s ≡ Some dead → core.count t ≡ 0
+  pub given_up : (s t : ℕ) (queue : Queue) → MayGiveQueue core s s queue → core.current s ≡ Some t → queue.cur ≡ None
+      → (core.lock t ≡ Some s) ⊎ (core.count t ≡ 0)
+  pub picked : (s c t : ℕ) (queue : Queue) → MaySetBusy core s c t queue → queue.cur ≡ Some t
+  pub moved : (s c t : ℕ) (queue : Queue) → MayMove core s c t queue → times_in queue.waiting t ≡ 1
 
 -- The sleep states are TASK_INTERRUPTIBLE (1) and TASK_UNINTERRUPTIBLE (2), and a number of changes or runs may rise as
 -- long as it is below 2^60.

@@ -4,6 +4,7 @@ mod looks;
 mod parts;
 mod passes;
 mod play;
+mod reads;
 mod sleeps;
 mod stops;
 mod words;

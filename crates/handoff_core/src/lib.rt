@@ -25,5 +25,6 @@ pub use run::{CoreRun, law_run, step_core};
 pub use step_data::start_core;
 pub use step_laws::{
     each_seat_stores_its_states, each_store_ends_reads, gives_keep, loads_tell,
-    no_step_wakes_the_dead, passes_are_kept, refusals_are_told, sleeps_are_kept, words_mean,
+    no_step_wakes_the_dead, passes_are_kept, refusals_are_told, sleeps_are_kept, steps_ask,
+    words_mean,
 };

@@ -3,7 +3,7 @@
 
 ghost use Rattle.core_data.specs.Table.{Table};
 ghost use Rattle.core_invariant.specs.Invariant.{Holds};
-ghost use Rattle.core_law.specs.StepLaws.{KeepsTheDead, StoresItsStates, EndsReads, SleepsAreKept, PassesAreKept, RefusalsAreTold, LoadsTell, GivesKeep, WordsMean};
+ghost use Rattle.core_law.specs.StepLaws.{KeepsTheDead, StoresItsStates, EndsReads, SleepsAreKept, PassesAreKept, RefusalsAreTold, LoadsTell, GivesKeep, StepsAsk, WordsMean};
 ghost use Rattle.core_law.specs.Steps.{Step};
 ghost use Rattle.core_law.specs.declared.event.Event.{Event};
 
@@ -47,6 +47,12 @@ pub fn loads_tell()
 /// record; a give of works leaves them.
 pub fn gives_keep()
     ensures { (core : Table) → GivesKeep core }
+{}
+
+/// What a step asks that no word shows later: a task dies, and is given up without its lock, only at disable count 0; a
+/// pick is of the queue's next task, and a move of one that waits.
+pub fn steps_ask()
+    ensures { (core : Table) → StepsAsk core }
 {}
 
 /// The sleep states are TASK_INTERRUPTIBLE and TASK_UNINTERRUPTIBLE, and numbers may rise as long as they are below 2^60.

@@ -11,3 +11,4 @@ pub mod ForestScripts
 pub mod CopyLaws
 pub mod TestScripts
 pub mod RunLaws
+pub mod LastingLaws

@@ -7,3 +7,4 @@ pub mod Codes
 pub mod Bodies
 pub mod Inside
 pub mod Nets
+pub mod Lastings

@@ -45,7 +45,7 @@ impl<W: Work> Names<Course<W>> for PlanNumbers {
 }
 
 impl<W: Work> Body<W> {
-    ghost use Rattle.std.specs.Prelude.{◌≡◌, [], IfOk, IsOk, OnErr, IsErr, Some, true, false};
+    ghost use Rattle.std.specs.Prelude.{◌≡◌, [], IfOk, IsOk, OnOk, OnErr, IsErr, Some, true, false};
     ghost use Rattle.rtrb.specs.Ring.{sent, known_free, producer_capacity};
     ghost use Rattle.pipe_bodies.specs.Courses.{plan_in};
     ghost use Rattle.pipe_bodies.specs.Rings.{in_ring, ring_out, got, known};
@@ -112,6 +112,7 @@ impl<W: Work> Body<W> {
         ensures lasting { self.new.lasting ≡ self.old.lasting }
         ensures ended { self.old.seen.ended ≡ true → self.new.seen.ended ≡ true }
         ensures broken { self.old.broken ≡ true → IsErr result × (self.new ≡ self.old) }
+        ensures sound { OnOk result (self.new.broken ≡ false) }
         ensures err { OnErr result (self.new.broken ≡ true) }
         ensures out { OnErr result ((self.new.seen.out ≡ self.old.seen.out) × (self.new.kept ≡ self.old.kept)
             × (self.new.seen.ended ≡ self.old.seen.ended) × (self.new.known.free ≡ self.old.known.free)) }

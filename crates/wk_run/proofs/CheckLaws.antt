@@ -1,16 +1,10 @@
 -- What a text of legal journals that the source tells rules out.
-use Rattle.std.proofs.Common.{◌≡◌, ℕ, ◌≤◌, List, [], ◌∷◌, ◌++◌, length, refl, ap, sym, subst, ◌∙◌, arith, Result, Ok, Err, get_or, map}
-use Rattle.std.specs.Prelude.{Option, Some, None, codes}
-use Rattle.std.specs.String.{string_bytes}
-use Rattle.std.specs.declared.string.String.{String}
-use Rattle.std.specs.declared.alloc.Global.{Global}
+use Rattle.std.proofs.Common.{◌≡◌, ℕ, ◌≤◌, List, length, sym, subst, ◌∙◌, Ok, Err}
+use Rattle.std.specs.Prelude.{Option, Some}
 use Rattle.handoff_data.specs.History.{History}
-use Rattle.handoff_data.specs.Legal.{IsLegal}
 use Rattle.journal_legal.specs.Verdicts.{IsFirstBad, IsLowestUnended}
 use Rattle.journal_text.specs.Text.{reading}
 use Rattle.wk_run.specs.Check.{IsFaultOf, IsLegalText, ReadsIllegal, journal_limit}
-use Rattle.wk_run.specs.Input.{ReadsInput}
-use Rattle.wk_run.specs.Words.{IsRun, IsCheck}
 use Rattle.wk_run.specs.declared.journal_fault.JournalFault.{JournalFault}
 use Rattle.wk_run.specs.declared.journal_fault.JournalFault.TheVariants as fault
 use Rattle.wk_run.proofs.RunLaws.{read_all}
@@ -40,17 +34,3 @@ pub journals-read : (bytes : List ℕ) (j : History) (left : Option (List ℕ)) 
 journals-read bytes j left why within legal refused =
     let same : bytes ≡ refused.read = read_all journal_limit bytes refused.read left within refused.input in
     refused.no_legal j (subst (λ (b : List ℕ). IsLegalText b j) same legal)
-
-first_byte : List (List ℕ) → ℕ
-first_byte ((b ∷ bytes) ∷ texts) = b
-first_byte _ = 0
-
-other_bytes : (a b : ℕ) → a ≡ 114 → b ≡ 99 → a ≡ b → ⊥
-other_bytes a b is is' same = omega arith
-
--- the words of one command are those of no other
-pub run-not_check : (words : List (String Global)) → IsRun words → IsCheck words → ⊥
-unfolding first_byte
-run-not_check words run check =
-    let both : codes "run" ∷ [] ≡ codes "check" ∷ [] = sym run ∙ check in
-    other_bytes (first_byte (codes "run" ∷ [])) (first_byte (codes "check" ∷ [])) refl refl (ap first_byte both)

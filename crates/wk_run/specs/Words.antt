@@ -1,17 +1,28 @@
--- Which words of the command line have a reading.
-use Rattle.std.specs.Prelude.{◌≡◌, ◌⊎◌, List, [], ◌∷◌, map, codes}
+-- What the words of the command line say.
+use Rattle.std.specs.Prelude.{ℕ, List, [], ◌∷◌, map, codes, Option, Some, None, if◌then◌else◌}
+use Rattle.std.specs.Str.{bytes_eq}
 use Rattle.std.specs.String.{string_bytes}
 use Rattle.std.specs.declared.string.String.{String}
 use Rattle.std.specs.declared.alloc.Global.{Global}
+use Rattle.wk_run.specs.declared.words.RunOptions.{RunOptions}
+use Rattle.wk_run.specs.declared.words.Words.{Words}
+use Rattle.wk_run.specs.declared.words.Words.TheVariants.{Run, Check}
 
--- the one word `run`
-abbrev pub IsRun : List (String Global) → Type 0
-IsRun words = map string_bytes words ≡ codes "run" ∷ []
+-- the options of a command that gives none
+abbrev pub no_options : RunOptions
+no_options = record {}
 
--- the one word `check`
-abbrev pub IsCheck : List (String Global) → Type 0
-IsCheck words = map string_bytes words ≡ codes "check" ∷ []
+-- the word of a command that stands alone
+abbrev pub command_of : List ℕ → Option Words
+command_of word =
+    if bytes_eq word (codes "run") then Some (Run no_options)
+    else if bytes_eq word (codes "check") then Some Check
+    else None
 
--- the words of a command
-abbrev pub HasReading : List (String Global) → Type 0
-HasReading words = IsRun words ⊎ IsCheck words
+abbrev pub said_by : List (List ℕ) → Option Words
+said_by (word ∷ []) = command_of word
+said_by _ = None
+
+-- the command that the words give, with its options, if they give one
+abbrev pub reading_of : List (String Global) → Option Words
+reading_of words = said_by (map string_bytes words)

@@ -1,14 +1,18 @@
 // Tests of `check`. Expected answers are those of the rules, found by hand. In the texts ` ; ` stands for a line end.
 use super::*;
-use std::alloc::{AllocError, Global};
+use handoff_data::NoMemory;
+use std::alloc::Global;
 use std::process::Abort;
 use std::test::Fail;
+
+// The room of a sink that takes any line here.
+const ROOM: usize = 256;
 
 const NINE: &str =
     "journal 1 ; cpus 1 ; tasks 1 ; seats 1 ; seat 0 ; new 0 1 0 ; pick 0 1 0 ; sleep 0 2 0 ; finish 0 2 0 ; wake 0 2 ; enq 0 3 0 direct ; pick 0 3 0 ; die 0 4 0 ; finish 0 4 0 ; end";
 
 // The text with its line ends.
-fn lines_of(alloc: Global, text: &str) -> Result<Vec<u8>, AllocError> {
+fn lines_of(alloc: Global, text: &str) -> Result<Vec<u8>, NoMemory> {
     let mut bytes = Vec::new(alloc);
     for line in text.split(" ; ") {
         bytes.extend_from_slice(line.as_bytes())?;
@@ -22,19 +26,19 @@ fn check<R: AllocGlobal>(
     rt: &R,
     text: &str,
     fails: (&[u64], &[u64]),
-) -> Result<(Status, Vec<u8>), AllocError> {
+) -> Result<(Status, Vec<u8>), NoMemory> {
     let mut source = MemSource::new(
         lines_of(rt.alloc(), text)?,
         Vec::from_slice(rt.alloc(), fails.0)?,
     );
-    let mut sink = MemSink::new(rt.alloc(), Vec::from_slice(rt.alloc(), fails.1)?);
+    let mut sink = MemSink::new(rt.alloc(), ROOM, Vec::from_slice(rt.alloc(), fails.1)?)?;
     let mut words = Vec::new(rt.alloc());
     words.push(String::from_str(rt.alloc(), "check")?)?;
     let status = wakerun(rt.alloc(), words.as_slice(), &mut source, &mut sink);
     Ok((status, Vec::from_slice(rt.alloc(), sink.as_slice())?))
 }
 
-fn expect_legal<R: Abort + AllocGlobal>(rt: &R, text: &str, line: &str) -> Result<(), AllocError> {
+fn expect_legal<R: Abort + AllocGlobal>(rt: &R, text: &str, line: &str) -> Result<(), NoMemory> {
     let (status, taken) = check(rt, text, (&[], &[]))?;
     assert_eq!(rt; status, Status::Ok, "{text}");
     assert_eq!(rt; taken.as_slice(), line.as_bytes(), "{text}");
@@ -45,7 +49,7 @@ fn expect_fault<R: Abort + AllocGlobal>(
     rt: &R,
     text: &str,
     fault: JournalFault,
-) -> Result<(), AllocError> {
+) -> Result<(), NoMemory> {
     let (status, taken) = check(rt, text, (&[], &[]))?;
     assert_eq!(rt; status, Status::Illegal(fault), "{text}");
     assert!(rt; taken.is_empty(), "{text}");

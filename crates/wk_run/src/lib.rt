@@ -19,6 +19,7 @@ pub use memory::{MemSink, MemSource};
 pub use standard::{StdSink, StdSource};
 pub use status::Status;
 pub use top::wakerun;
+pub use words::{RunOptions, Words, read_words};
 
 #[cfg(test)]
 mod check_tests;

@@ -3,7 +3,8 @@ ghost use Rattle.std.specs.Io.KnownBytes.{Keeps, WriteAppends};
 ghost use Rattle.wk_run.specs.Ends.{HasCause};
 
 use super::*;
-use std::alloc::{AllocError, Global};
+use handoff_data::NoMemory;
+use std::alloc::Global;
 use std::process::Abort;
 use std::test::Fail;
 
@@ -14,9 +15,12 @@ const HELLO: &str =
 
 const HELLO_REPORT: &str = "c: 1 HELLO\nc: 2 WORLD\n";
 
+// The room of a sink that takes any report here.
+const ROOM: usize = 256;
+
 const BAD: Status = Status::BadScript { line: 1, code: 3 };
 
-fn words(alloc: Global, texts: &[&str]) -> Result<Vec<String>, AllocError> {
+fn words(alloc: Global, texts: &[&str]) -> Result<Vec<String>, NoMemory> {
     let mut words = Vec::new(alloc);
     for text in texts {
         words.push(String::from_str(alloc, text)?)?;
@@ -31,10 +35,10 @@ fn expect_run<R: Abort + AllocGlobal>(
     input: &str,
     fails: (&[u64], &[u64]),
     expected: (Status, &str),
-) -> Result<(), AllocError> {
+) -> Result<(), NoMemory> {
     let bytes = Vec::from_slice(rt.alloc(), input.as_bytes())?;
     let mut source = MemSource::new(bytes, Vec::from_slice(rt.alloc(), fails.0)?);
-    let mut sink = MemSink::new(rt.alloc(), Vec::from_slice(rt.alloc(), fails.1)?);
+    let mut sink = MemSink::new(rt.alloc(), ROOM, Vec::from_slice(rt.alloc(), fails.1)?)?;
     let words = words(rt.alloc(), texts)?;
     let status = wakerun(rt.alloc(), words.as_slice(), &mut source, &mut sink);
     assert_eq!(rt; status, expected.0, "{input}");
@@ -151,12 +155,41 @@ fn each_answer_has_its_cause(rt: HostRuntime) -> Result<(), Fail> {
 fn the_source_is_read_to_a_byte_past_the_limit(rt: HostRuntime) -> Result<(), Fail> {
     let bytes = vec![in rt.alloc(); b'|'; 16_777_217 + 5]?;
     let mut source = MemSource::new(bytes, Vec::new(rt.alloc()));
-    let mut sink = MemSink::new(rt.alloc(), Vec::new(rt.alloc()));
+    let mut sink = MemSink::new(rt.alloc(), ROOM, Vec::new(rt.alloc()))?;
     let words = words(rt.alloc(), &["run"])?;
     let status = wakerun(rt.alloc(), words.as_slice(), &mut source, &mut sink);
     assert_eq!(rt; status, Status::BadScript { line: 1, code: 1 });
     let mut piece = [0u8; 64];
     assert_eq!(rt; source.read(&mut piece), Ok(5));
+    Ok(())
+}
+
+#[test]
+fn a_sink_takes_no_more_than_it_has_room_for(rt: HostRuntime) -> Result<(), Fail> {
+    let mut sink = MemSink::new(rt.alloc(), 3, Vec::new(rt.alloc()))?;
+    assert_eq!(rt; sink.write(b"abcd"), Err(Failed));
+    assert_eq!(rt; sink.write(b"ab"), Ok(2));
+    assert_eq!(rt; sink.write(b"cd"), Err(Failed));
+    assert_eq!(rt; sink.write(b"c"), Ok(1));
+    assert_eq!(rt; sink.write(b""), Ok(0));
+    assert_eq!(rt; sink.as_slice(), b"abc".as_slice());
+    Ok(())
+}
+
+#[test]
+fn words_have_one_reading_at_most(rt: HostRuntime) -> Result<(), Fail> {
+    let cases: [(&[&str], Option<Words>); 6] = [
+        (&["run"], Some(Words::Run(RunOptions))),
+        (&["check"], Some(Words::Check)),
+        (&[], None),
+        (&["run", "check"], None),
+        (&["runs"], None),
+        (&[""], None),
+    ];
+    for (texts, reading) in cases {
+        let words = words(rt.alloc(), texts)?;
+        assert_eq!(rt; read_words(words.as_slice()), reading);
+    }
     Ok(())
 }
 

@@ -1,19 +1,21 @@
 // The top call, which does all that the program does.
-ghost use Rattle.std.specs.Prelude.{◌≡◌, ◌≢◌, ◌⊎◌, ◌↔◌, ◌≤◌, ℕ, Some, List};
+ghost use Rattle.std.specs.Prelude.{◌≡◌, ◌≢◌, ◌⊎◌, ◌↔◌, ◌≤◌, ℕ, Some, None, List};
 ghost use Rattle.handoff_data.specs.History.{History};
 ghost use Rattle.task_script.specs.Script.{IsScript};
 ghost use Rattle.task_script.specs.declared.script.Script.{Script};
 ghost use Rattle.wk_run.specs.Check.{IsLegalText, ReadsIllegal, WritesVerdict, WritesVerdictPart};
 ghost use Rattle.wk_run.specs.Ends.{Rose};
 ghost use Rattle.wk_run.specs.Run.{ReadsFault, WritesReport, WritesReportPart};
-ghost use Rattle.wk_run.specs.Words.{IsRun, IsCheck, HasReading};
+ghost use Rattle.wk_run.specs.Words.{reading_of};
+ghost use Rattle.wk_run.specs.declared.words.RunOptions.{RunOptions};
+ghost use Rattle.wk_run.specs.declared.words.Words.TheVariants.{Run, Check};
 ghost use Rattle.wk_run.specs.declared.journal_fault.JournalFault.{JournalFault as Fault};
 
 use crate::check::check_cmd;
 use crate::command::run_cmd;
 use crate::ends::{Sink, Source};
 use crate::status::Status;
-use crate::words::is_command;
+use crate::words::{Words, read_words};
 use std::alloc::Global;
 
 /// Does what the words of the command line ask for: `run` reads a script from `input` and writes its report to `out`,
@@ -21,7 +23,7 @@ use std::alloc::Global;
 ///
 /// It waits for nobody and returns. `words` are the words behind the program's name. Of several answers that would
 /// fit, the first of `Usage`, `ReadFault`, `BadScript` or `Illegal`, and `WriteFault` is given, and `NoMemory` in the
-/// place of any but `Usage`.
+/// place of any but `Usage`. What the source has left after `NoMemory` or `ReadFault` is not said.
 pub fn wakerun<S: Source, K: Sink>(
     alloc: Global,
     words: &[String],
@@ -29,29 +31,31 @@ pub fn wakerun<S: Source, K: Sink>(
     out: &mut K,
 ) -> Status
     // The words have no reading: nothing was read or written.
-    ensures usage { (result ≡ Status.Usage) ↔ ¬ (HasReading words.now) }
+    ensures usage { (result ≡ Status.Usage) ↔ (reading_of words.now ≡ None) }
     ensures unread { result ≡ Status.Usage → input.new ≡ input.old }
 
     // The source was read to its end, the bytes are a script, and the sink took exactly its report; or they are a text
     // of legal journals, and the sink took exactly the line with the number of their entries.
-    ensures run_ok { IsRun words.now → result ≡ Status.Ok
+    ensures run_ok { (options : RunOptions) → reading_of words.now ≡ Some (Run options) → result ≡ Status.Ok
         → WritesReport (S.remaining input.old) (S.remaining input.new) (K.taken out.old) (K.taken out.new) }
-    ensures check_ok { IsCheck words.now → result ≡ Status.Ok
+    ensures check_ok { reading_of words.now ≡ Some Check → result ≡ Status.Ok
         → WritesVerdict (S.remaining input.old) (S.remaining input.new) (K.taken out.old) (K.taken out.new) }
 
     // The source was read to its end or to one byte past the limit. The bytes are no script, and this is their first
     // fault; or they are no text of legal journals, and this is why.
     ensures bad_script { (line code : ℕ) → result ≡ Status.BadScript line code
-        → IsRun words.now × ReadsFault (S.remaining input.old) (S.remaining input.new) line code }
+        → ((options : RunOptions) × (reading_of words.now ≡ Some (Run options)))
+        × ReadsFault (S.remaining input.old) (S.remaining input.new) line code }
     ensures illegal { (fault : Fault) → result ≡ Status.Illegal fault
-        → IsCheck words.now × ReadsIllegal (S.remaining input.old) (S.remaining input.new) fault }
+        → (reading_of words.now ≡ Some Check)
+        × ReadsIllegal (S.remaining input.old) (S.remaining input.new) fault }
 
     // A fault of an end is the cause of the answer that names it. What was taken is then the front of the output.
     ensures read_fault { result ≡ Status.ReadFault → Rose (S.faults input.old) (S.faults input.new) }
     ensures write_fault { result ≡ Status.WriteFault → Rose (K.faults out.old) (K.faults out.new) }
-    ensures run_part { IsRun words.now → result ≡ Status.WriteFault
+    ensures run_part { (options : RunOptions) → reading_of words.now ≡ Some (Run options) → result ≡ Status.WriteFault
         → WritesReportPart (S.remaining input.old) (S.remaining input.new) (K.taken out.old) (K.taken out.new) }
-    ensures check_part { IsCheck words.now → result ≡ Status.WriteFault
+    ensures check_part { reading_of words.now ≡ Some Check → result ≡ Status.WriteFault
         → WritesVerdictPart (S.remaining input.old) (S.remaining input.new) (K.taken out.old) (K.taken out.new) }
 
     // With every other answer the sink is as before, and each count rises only with the answer that names it.
@@ -61,20 +65,19 @@ pub fn wakerun<S: Source, K: Sink>(
 
     // Words that read, bytes that are a script or legal journals, and no rise of a count give the whole output, or want
     // of memory.
-    ensures run_complete { IsRun words.now → (bytes : List ℕ) → (script : Script)
+    ensures run_complete { (options : RunOptions) → reading_of words.now ≡ Some (Run options)
+        → (bytes : List ℕ) → (script : Script)
         → S.remaining input.old ≡ Some bytes → IsScript bytes script
         → ¬ (Rose (S.faults input.old) (S.faults input.new)) → ¬ (Rose (K.faults out.old) (K.faults out.new))
         → (result ≡ Status.Ok) ⊎ (result ≡ Status.NoMemory) }
-    ensures check_complete { IsCheck words.now → (bytes : List ℕ) → (journals : History)
+    ensures check_complete { reading_of words.now ≡ Some Check → (bytes : List ℕ) → (journals : History)
         → S.remaining input.old ≡ Some bytes → IsLegalText bytes journals
         → ¬ (Rose (S.faults input.old) (S.faults input.new)) → ¬ (Rose (K.faults out.old) (K.faults out.new))
         → (result ≡ Status.Ok) ⊎ (result ≡ Status.NoMemory) }
 {
-    if is_command(words, "run") {
-        return run_cmd(alloc, input, out);
+    match read_words(words) {
+        None => Status::Usage,
+        Some(Words::Run(_options)) => run_cmd(alloc, input, out),
+        Some(Words::Check) => check_cmd(alloc, input, out),
     }
-    if is_command(words, "check") {
-        return check_cmd(alloc, input, out);
-    }
-    Status::Usage
 }

@@ -102,35 +102,3 @@ fn a_dead_task_stays_dead(rt: HostRuntime) -> Result<(), Fail> {
     )?;
     Ok(())
 }
-
-// What a seat read of a task, and that a store of a word of the task, or a new take of its lock, ends it.
-#[test]
-fn a_seat_keeps_what_it_read_until_it_stores(rt: HostRuntime) -> Result<(), Fail> {
-    plays(
-        &rt,
-        "
-        start_0 ; pick_0 ; prepare_0 ; leave_0 ;
-        1 take_task 0 ; unread 1 0 state ; unread 1 0 number ; unread 1 0 cpu ;
-        1 load_rq 0 ; unread 1 0 rq ; read 1 0 number 2 ; 1 load_busy 0 ; unread 1 0 busy ; rests_not 1 0 state ;
-        1 load_state 0 - ; read 1 0 state TASK_INTERRUPTIBLE ; unread 1 0 rq ; rests 1 0 state ; rests_not 1 0 rq ;
-        1 load_rq 0 ; read 1 0 rq 0 2 ; read 1 0 number 2 ; unread 1 0 busy ; rests 1 0 rq ;
-        1 load_busy 0 ; read 1 0 busy ; rests_not 1 0 busy ;
-        clear_0 ; 1 load_busy 0 ; read 1 0 idle ; rests 1 0 busy ; 1 load_cpu 0 ; read 1 0 cpu 0 ;
-        1 load_state 0 TASK_NORMAL ; 1 load_rq 0 ; 1 load_busy 0 ; 1 store_waking 0 ;
-        unread 1 0 state ; unread 1 0 rq ; unread 1 0 busy ; read 1 0 number 2 ; read 1 0 cpu 0 ; rests_not 1 0 state ;
-        1 load_state 0 - ; rests_not 1 0 state ; 1 load_busy 0 ; 1 store_cpu 0 1 ; read 1 0 cpu 1 ; unread 1 0 state ;
-        1 take_queue 1 ; 1 store_rq_on 1 0 ; read 1 0 number 3 ; unread 1 0 rq ;
-
-        opening ;
-        1 take_task 0 ; 1 load_state 0 - ; 1 load_rq 0 ; 1 load_cpu 0 ; read 1 0 rq 0 0 ; read 1 0 number 0 ; 1 give_task 0 ;
-        1 take_task 0 ; unread 1 0 state ; unread 1 0 rq ; unread 1 0 number ; unread 1 0 cpu ; rests_not 1 0 state ;
-
-        opening ;
-        start_0 ; pick_0 ; 0 load_state 0 - ; seen 0 - ; 0 take_queue 0 ; seen 0 - ; 0 load_state 0 - ; seen 0 TASK_RUNNING ;
-        0 give_queue 0 cur 0 left - waiting ; seen 0 - ;
-        0 take_queue 0 ; 0 load_state 0 - ; 0 own_state 0 TASK_INTERRUPTIBLE ; seen 0 - ; unread 0 0 state ;
-        0 load_state 0 - ; 0 store_rq_off 0 0 ; read 0 0 number 2 ; unread 0 0 state ;
-        ",
-    )?;
-    Ok(())
-}

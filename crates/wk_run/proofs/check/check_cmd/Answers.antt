@@ -1,8 +1,7 @@
 -- What was read is judged whole, and what is written is the line on it.
-use Rattle.std.proofs.Common.{◌≡◌, ◌∙◌, ℕ, List, Err, ap, subst}
+use Rattle.std.proofs.Common.{◌∙◌, ℕ, List, Err, ap, subst}
 use Rattle.std.specs.Prelude.{Option}
 use Rattle.std.specs.Io.KnownBytes.{Appends}
-use Rattle.handoff_data.specs.History.{History}
 use Rattle.wk_run.specs.Check.{IsFaultOf, IsLegalText, ReadsIllegal}
 use Rattle.wk_run.specs.Input.{WritesPart}
 use Rattle.wk_run.specs.declared.check.CheckError.{CheckError}
