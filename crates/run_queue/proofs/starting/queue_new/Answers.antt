@@ -1,4 +1,4 @@
-use Rattle.std.proofs.Common.{◌≡◌, ◌∙◌, ℕ, ◌∷◌, List, sym, subst, ap}
+use Rattle.std.proofs.Common.{◌≡◌, ◌∙◌, ℕ, ◌∷◌, List, sym, subst, ap, inl, inr}
 use Rattle.core_data.specs.Queue.{Queue}
 use Rattle.handoff_data.specs.declared.shape.Shape.{Shape}
 use Rattle.std.specs.Prelude.{unwrap_or}
@@ -8,7 +8,8 @@ use Rattle.word_steps.specs.Folds.{queue_held, current_task, task_to_clear}
 use Rattle.run_queue.proofs.Steps.{give_new_may}
 use Rattle.run_queue.proofs.starting.queue_new.Goals as goal
 use Rattle.word_rule.specs.May.{MayGiveQueueVal}
-use Rattle.word_rule.specs.Told.{TakenQueue}
+use Rattle.task_words.specs.Gives.{since}
+use Rattle.word_rule.specs.Told.{TakenQueue, IsOff}
 use Rattle.word_steps.specs.Records.{Rec, Took, Gave, Queued, Released}
 use Rattle.word_steps.specs.declared.val.Val.TheVariants as val
 
@@ -71,3 +72,26 @@ returns-clause-clear g c =
     (λ i. (c.store_running.ensures.same.same.same_seat i, c.store_running.ensures.trace i)) c.lock_queue-queue.ensures.taken in
     ap (λ (z : ℕ × List Rec). task_to_clear z.0 z.1) (λ i. (seat i, did i))
     ∙ taken_clear c.store_running.new.pass.shape s c.args.c v (Released t ∷ old) told
+
+-- the task is new, so it stands on no queue
+pub push-requires-clause-room : goal.push-requires-clause-room
+push-requires-clause-room g c κs within =
+    let t = c.args.t in
+    let begun = c.store_running.new.pass in
+    let v = c.lock_queue-queue.result.val in
+    let k = c.lock_queue-queue.result.cpu in
+    let cpu = c.lock_queue-queue.ensures.processor in
+    let seat = c.queue_task.ensures.same.same_seat ∙ c.lock_queue-queue.ensures.same.same.same_seat in
+    let shape = c.queue_task.ensures.same.same_shape ∙ c.lock_queue-queue.ensures.same.same.same_shape in
+    let did : c.queue_task.new.pass.trace ≡ Queued t k 0 0 ∷ Took k (val.Queue v) ∷ begun.trace =
+    c.queue_task.ensures.trace
+    ∙ ap (λ (z : List Rec). Queued t k 0 0 ∷ z) (c.lock_queue-queue.ensures.trace
+    ∙ ap (λ (n : ℕ). Took n (val.Queue v) ∷ begun.trace) (sym cpu)) in
+    inl (record {
+      rs = begun.trace;
+      on = 0;
+      m = 0;
+      did = ap since did;
+      told = subst (λ (z : Shape × ℕ × ℕ). TakenQueue z.0 z.1 begun.trace z.2 v) (λ i. (sym shape i, sym seat i, sym cpu i)) c.lock_queue-queue.ensures.taken;
+      off = subst (λ (z : List Rec). IsOff z t) (sym c.store_running.ensures.trace) (inr (inr (c.requires.locked, c.requires.never)));
+    })
