@@ -80,6 +80,7 @@ fn take_off<B: Kept, R: Wait>(rt: &R, wk: &Wk<B>, pass: &mut Pass, t: TaskNo) ->
 }
 
 // Puts a task that moves at the back of its new processor's queue.
+#[tactic(auto, using(crate::proofs::Shapes::queued_here, crate::proofs::Shapes::put_here))]
 fn queue_moved<B: Kept, R: Wait>(rt: &R, wk: &Wk<B>, pass: &mut Pass, t: TaskNo, to: CpuNo, m: u64)
     requires of { IsOf wk.now pass.old }
     requires task { t < wk.now.shape.tasks }

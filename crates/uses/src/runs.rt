@@ -15,6 +15,7 @@ use task_words::{
 };
 
 /// Puts a new task at the back of its processor's queue, as Linux's `wake_up_new_task`; whether it was new.
+#[tactic(auto, using(crate::proofs::Shapes::queued_here, crate::proofs::Shapes::woken_here))]
 pub fn start<B: Kept, R: Wait>(rt: &R, wk: &Wk<B>, pass: &mut Pass, t: TaskNo) -> bool
     requires of { IsOf wk.now pass.old }
     requires task { t < wk.now.shape.tasks }
@@ -44,6 +45,7 @@ pub fn start<B: Kept, R: Wait>(rt: &R, wk: &Wk<B>, pass: &mut Pass, t: TaskNo) -
 }
 
 /// Puts a new task at the back of its processor's queue, as `start`, but leaves it TASK_NEW; whether it was new.
+#[tactic(auto, using(crate::proofs::Shapes::queued_here, crate::proofs::Shapes::put_here))]
 pub fn start_new<B: Kept, R: Wait>(rt: &R, wk: &Wk<B>, pass: &mut Pass, t: TaskNo) -> bool
     requires of { IsOf wk.now pass.old }
     requires task { t < wk.now.shape.tasks }

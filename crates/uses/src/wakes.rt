@@ -114,6 +114,7 @@ fn claim<B: Kept, R: Wait>(rt: &R, wk: &Wk<B>, pass: &mut Pass, t: TaskNo, m: u6
 }
 
 // Puts a claimed task at the back of its processor's queue, to run.
+#[tactic(auto, using(crate::proofs::Shapes::queued_here, crate::proofs::Shapes::woken_here))]
 fn queue_woken<B: Kept, R: Wait>(rt: &R, wk: &Wk<B>, pass: &mut Pass, t: TaskNo, to: CpuNo, m: u64)
     requires of { IsOf wk.now pass.old }
     requires task { t < wk.now.shape.tasks }
