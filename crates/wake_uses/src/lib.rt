@@ -5,6 +5,8 @@
 mod close_tests;
 mod idle;
 #[cfg(test)]
+mod journal_tests;
+#[cfg(test)]
 mod mask_tests;
 mod opening;
 #[cfg(test)]
