@@ -68,7 +68,7 @@ finished_settles k s old new free did =
         passed = λ t e. still.passed t (first.apart.passed j t e);
         retaken = still.retaken;
       };
-      untouched = then.untouched;
+      untouched = record { works = then.untouched.works; body = then.untouched.body; ended = then.untouched.ended; stays = then.untouched.stays };
       current = then.current;
       clear = then.clear;
     })
@@ -90,7 +90,7 @@ bumped_settles s k v old new free x paid = record {
     passed = still.passed;
     retaken = still.retaken ∙ put_other (has_retaken old) k false j (apart_of (wait_held old) k j w free there);
   };
-  untouched = x.untouched;
+  untouched = record { works = x.untouched.works; body = x.untouched.body; ended = x.untouched.ended; stays = x.untouched.stays };
   current = x.current;
   clear = x.clear;
 }

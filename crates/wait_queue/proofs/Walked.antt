@@ -76,7 +76,7 @@ around s k v w given rs after free x = record {
     passed = λ t e. x.apart.passed j t (grind (arith, nat_tests, apart, e));
     retaken = ap (λ (h : ℕ → Bool). h j) x.apart.retaken ∙ put_other (has_retaken rs) k true j apart;
   };
-  untouched = x.apart.untouched;
+  untouched = record { works = x.apart.untouched.works; body = x.apart.untouched.body; ended = x.apart.untouched.ended; stays = x.apart.untouched.stays };
   current = x.current;
   clear = x.clear;
 }
