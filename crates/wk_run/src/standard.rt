@@ -1,27 +1,28 @@
-// Standard input and output. They tell no bytes.
-ghost use Rattle.std.specs.Prelude.{◌≡◌, None};
+// A reader of std as a source, and a writer of std as a sink: standard input and output, or any other.
+ghost use Rattle.std.specs.Prelude.{◌≡◌};
 
 use crate::ends::{Failed, Sink, Source};
-use std::io::{Read, Stdin, Stdout, Write};
+use std::io::{Read, Write};
 
-/// Standard input as a source.
+/// A reader as a source: its bytes are those that the reader tells, which standard input doesn't.
 #[derive(Drop)]
-pub struct StdSource {
-    stream: Stdin,
+pub struct StdSource<R: Read> {
+    stream: R,
     faults: u64,
 }
 
-impl StdSource {
-    /// Standard input, with no fault so far.
-    pub fn new(stream: Stdin) -> StdSource
-        ensures { ⟦<StdSource as Source>⟧.faults result ≡ 0 }
+impl<R: Read> StdSource<R> {
+    /// A reader as a source, with no fault so far.
+    pub fn new(stream: R) -> StdSource<R>
+        ensures bytes { ⟦<StdSource<R> as Source>⟧.remaining result ≡ R.remaining stream }
+        ensures faults { ⟦<StdSource<R> as Source>⟧.faults result ≡ 0 }
     {
         StdSource { stream, faults: 0 }
     }
 }
 
-impl Source for StdSource {
-    ghost remaining = { λ _. None };
+impl<R: Read> Source for StdSource<R> {
+    ghost remaining = { λ s. R.remaining s.stream };
 
     ghost faults = { λ s. s.faults };
 
@@ -36,24 +37,25 @@ impl Source for StdSource {
     }
 }
 
-/// Standard output as a sink.
+/// A writer as a sink: what it took is what the writer tells, which standard output doesn't.
 #[derive(Drop)]
-pub struct StdSink {
-    stream: Stdout,
+pub struct StdSink<W: Write> {
+    stream: W,
     faults: u64,
 }
 
-impl StdSink {
-    /// Standard output, with no fault so far.
-    pub fn new(stream: Stdout) -> StdSink
-        ensures { ⟦<StdSink as Sink>⟧.faults result ≡ 0 }
+impl<W: Write> StdSink<W> {
+    /// A writer as a sink, with no fault so far.
+    pub fn new(stream: W) -> StdSink<W>
+        ensures bytes { ⟦<StdSink<W> as Sink>⟧.taken result ≡ W.contents stream }
+        ensures faults { ⟦<StdSink<W> as Sink>⟧.faults result ≡ 0 }
     {
         StdSink { stream, faults: 0 }
     }
 }
 
-impl Sink for StdSink {
-    ghost taken = { λ _. None };
+impl<W: Write> Sink for StdSink<W> {
+    ghost taken = { λ s. W.contents s.stream };
 
     ghost faults = { λ s. s.faults };
 
