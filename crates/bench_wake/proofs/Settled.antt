@@ -12,9 +12,9 @@ settles_between old new between same settles = record {
     nothing = record {
       tasks = λ u. settles.tasks u (between.free.nothing.tasks u);
       queues = settles.queues between.free.nothing.queues;
-      works = λ c. (λ i. settles.works i c) ∙ between.free.nothing.works c;
+      works = λ c. (λ i. settles.untouched.works i c) ∙ between.free.nothing.works c;
       waits = λ k. settles.waits k (between.free.nothing.waits k);
-      body = settles.body ∙ between.free.nothing.body;
+      body = settles.untouched.body ∙ between.free.nothing.body;
     };
     unclaimed = λ u. settles.claimed u (between.free.unclaimed u);
   };
@@ -27,5 +27,6 @@ between_free pass between = record {
   tasks = between.free.nothing.tasks;
   queues = between.free.nothing.queues;
   claimed = between.free.unclaimed;
+  cleared = between.clear;
   stays = λ t e. absurd (let no : None ≡ Some t = sym between.idle ∙ e in cc);
 }

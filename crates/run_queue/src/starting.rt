@@ -50,6 +50,7 @@ pub fn start<B: Kept, R: Wait>(rt: &R, wk: &Wk<B>, pass: &mut Pass, t: TaskNo, c
     ensures same { IsSameSeat pass.old pass.new }
     ensures did { DidStart t c pass.old pass.new result }
     ensures rests { Rests pass.old.seat pass.old.trace pass.new.trace }
+    ensures spare { pass.old.turn.spare ≤ pass.new.turn.spare + 1 }
 {
     let mut task = lock_task(rt, wk, pass, t);
     let seen = load_state(wk, pass, t);

@@ -1,5 +1,6 @@
 mod Loops
 mod Resting
 mod Sequence
+mod Sparing
 mod Steps
 mod Waiting

@@ -1,5 +1,5 @@
 //! The wake-up of the waker's own current task.
-ghost use Rattle.std.specs.Prelude.{◌≡◌, ℕ, ◌<◌, ◌≤◌, Some, IsSome, true};
+ghost use Rattle.std.specs.Prelude.{◌≡◌, ℕ, ◌+◌, ◌<◌, ◌≤◌, Some, IsSome, true};
 ghost use Rattle.core_kinds.specs.Steps.{normal};
 ghost use Rattle.run_queue.specs.Rests.{Rests};
 ghost use Rattle.task_words.specs.Needs.{need_call};
@@ -24,6 +24,7 @@ pub fn wake_own<B: Kept>(wk: &Wk<B>, pass: &mut Pass, mask: State) -> Wake
     ensures did { DidWakeOwn mask pass.old pass.new result }
     ensures rests { Rests pass.old.seat pass.old.trace pass.new.trace }
     ensures passed { mask ≡ normal → (k t : ℕ) → current_task pass.old.seat pass.old.trace ≡ Some t → has_passed pass.new.trace k t ≡ true }
+    ensures spare { pass.old.turn.spare ≤ pass.new.turn.spare + 1 }
 {
     let Some(t) = pass.current() else {
         unreachable!()

@@ -1,12 +1,12 @@
 //! The wake-up of another task.
-ghost use Rattle.std.specs.Prelude.{◌≡◌, ◌≢◌, ℕ, ◌<◌, ◌≤◌, true, false, None, Some};
+ghost use Rattle.std.specs.Prelude.{◌≡◌, ◌≢◌, ℕ, ◌+◌, ◌<◌, ◌≤◌, true, false, None, Some};
 ghost use Rattle.core_kinds.specs.Steps.{normal};
 ghost use Rattle.run_queue.specs.Rests.{Rests};
 ghost use Rattle.task_words.specs.Needs.{need_wake};
 ghost use Rattle.task_words.specs.States.{IsWakeMask};
 ghost use Rattle.task_words.specs.Views.{IsOf, IsSameSeat};
 ghost use Rattle.ttwu_core.specs.Wakes.{DidWake};
-ghost use Rattle.word_steps.specs.Folds.{task_held, queue_held, is_claimed, current_task, has_passed};
+ghost use Rattle.word_steps.specs.Folds.{task_held, queue_held, is_claimed, current_task, task_to_clear, has_passed};
 
 use crate::answers::{How, Wake};
 use crate::claiming::{choose, claim, queue_woken};
@@ -18,7 +18,7 @@ use task_words::{Kept, Pass, Wk, lock_task, match_state};
 
 /// Wakes a task that isn't the pass's current one, where its state has a bit of the mask, as Linux's `try_to_wake_up`:
 /// a task that is still queued is runnable again, and one that is off every queue is queued on the processor that
-/// placement gives.
+/// placement gives. It makes two entries at most. The pass hasn't the task's busy word to clear itself, for which it would wait for good.
 pub fn wake<B: Kept, R: Wait>(rt: &R, wk: &Wk<B>, pass: &mut Pass, t: TaskNo, mask: State) -> Wake
     requires of { IsOf wk.now pass.old }
     requires task { t < wk.now.shape.tasks }
@@ -27,11 +27,13 @@ pub fn wake<B: Kept, R: Wait>(rt: &R, wk: &Wk<B>, pass: &mut Pass, t: TaskNo, ma
     requires free_queues { (c : ℕ) → queue_held pass.old.trace c ≡ None }
     requires unclaimed { is_claimed pass.old.trace t ≡ false }
     requires other { current_task pass.old.seat pass.old.trace ≢ Some t }
+    requires cleared { task_to_clear pass.old.seat pass.old.trace ≢ Some t }
     requires spare { need_wake ≤ pass.old.turn.spare }
     ensures same { IsSameSeat pass.old pass.new }
     ensures did { DidWake t mask wk.now.shape pass.old pass.new result }
     ensures rests { Rests pass.old.seat pass.old.trace pass.new.trace }
     ensures passed { mask ≡ normal → (k : ℕ) → has_passed pass.new.trace k t ≡ true }
+    ensures spare { pass.old.turn.spare ≤ pass.new.turn.spare + 2 }
 {
     let mut task = lock_task(rt, wk, pass, t);
     let seen = match_state(wk, pass, t, mask);

@@ -20,7 +20,18 @@ done_between pass is = record {
   clear = is.clear;
 }
 
--- Two passes
+-- One pass, and two
+
+pub one_all : (P : PassView → Type 0) (a : PassView) → P a → All P (a ∷ [])
+one_all P a x zero d lt = x
+one_all P a x (suc k) d lt = absurd (omega (arith, lt))
+
+pub one_each : (a : PassView) → a.seat ≡ 0 → HasEachSeat 1 (map (λ (p : PassView). p.seat) (a ∷ []))
+one_each a first = record { each = each }
+  where
+    each : (s : ℕ) → s < 1 → Contains (map (λ (p : PassView). p.seat) (a ∷ [])) s
+    each zero lt = (0, omega arith, first)
+    each (suc s) lt = absurd (omega (arith, lt))
 
 pub both_all : (P : PassView → Type 0) (a b : PassView) → P a → P b → All P (a ∷ b ∷ [])
 both_all P a b x y zero d lt = x

@@ -16,8 +16,9 @@ pub record IsBetween (pass : PassView) : Type 0 where
   pub idle : current_task pass.seat pass.trace ≡ None
   pub clear : task_to_clear pass.seat pass.trace ≡ None
 
--- .. or has this current task, on its queue
+-- .. or has this current task, on its queue, and no busy word to clear
 pub record IsRunning (t : ℕ) (pass : PassView) : Type 0 where
   pub free : IsFree pass.trace
   pub current : current_task pass.seat pass.trace ≡ Some t
   pub stays : stays_queued pass.trace ≡ true
+  pub clear : task_to_clear pass.seat pass.trace ≡ None

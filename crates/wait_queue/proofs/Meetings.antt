@@ -9,7 +9,7 @@ use Rattle.handoff_data.specs.declared.shape.Shape.{Shape}
 use Rattle.run_queue.specs.Rests.{Rests}
 use Rattle.task_words.specs.Views.{PassView, IsSameSeat}
 use Rattle.wait_queue.proofs.Parts.{any_there}
-use Rattle.wait_queue.proofs.Passes.{same_seat_again, rests_none, rests_again, passed_still, passed_more, spare_woken}
+use Rattle.wait_queue.proofs.Passes.{same_seat_again, rests_none, rests_again, passed_still, passed_more}
 use Rattle.wait_queue.proofs.Turning.{head_or, rest_of, turned_cut}
 use Rattle.wait_queue.specs.Meets.{Meeting, DidWakeTask, HasMet, HasMetOne, HasPassedAll, is_true, is_true_exclusive, entries_of, staying, count_true, count_exclusive}
 use Rattle.wait_queue.specs.Walks.{HasWalked, IsTurned}
@@ -167,9 +167,9 @@ module _ (shape : Shape) (limit : Option ℕ) (taken entries given : List WaitEn
   pub underway_more : IsUnderway shape limit taken entries old now met woken exclusive
       → ((n : ℕ) → limit ≡ Some n → exclusive < n) → met < length taken
       → HasMetOne shape given entries now next true_wakes exclusive_wakes → IsSameSeat now next
-      → Rests now.seat now.trace next.trace
+      → Rests now.seat now.trace next.trace → now.turn.spare ≤ next.turn.spare + 2
       → IsUnderway shape limit taken given old next (met + 1) (woken + true_wakes) (exclusive + exclusive_wakes)
-  underway_more u below lt h same rests = by_rest u.rest u.all (sym u.there ∙ h.head)
+  underway_more u below lt h same rests spent = by_rest u.rest u.all (sym u.there ∙ h.head)
     where
       x : Meeting
       x = record { entry = h.entry; answer = h.answer }
@@ -185,7 +185,6 @@ module _ (shape : Shape) (limit : Option ℕ) (taken entries given : List WaitEn
           let rested = subst (λ s. Rests s now.trace next.trace) seat rests in
           let len = length-append u.meetings (x ∷ []) in
           let many = u.many in
-          let spent = spare_woken h.entry.t shape now next h.answer h.did in
           let spare = u.spare in
           let more = exclusive_more x u.meetings in
           let exclusives = u.exclusives in

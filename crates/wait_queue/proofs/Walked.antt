@@ -6,6 +6,7 @@ use Rattle.std.proofs.lemmas.Bool.Decides.{nat_tests}
 use Rattle.std.proofs.lemmas.List.{append-nil}
 use Rattle.core_data.specs.declared.values.WaitEntry.{WaitEntry}
 use Rattle.core_gives.specs.Waits.{is_walk}
+use Rattle.core_stores.proofs.Columns.{put_there, put_other}
 use Rattle.handoff_data.specs.declared.shape.Shape.{Shape}
 use Rattle.run_queue.specs.Rests.{Rests}
 use Rattle.task_words.specs.Views.{PassView, IsSame}
@@ -43,10 +44,22 @@ pub walk_pays : (k : ℕ) (trace : List Rec) (v given : List WaitEntry) → has_
 walk_pays k trace v given retaken all =
     paid_if (owes_walk trace k) (has_retaken trace k) (is_walk (has_passed trace k) v) k (owes_walk trace) refl retaken all
 
+-- no debt comes by a give
+owes_if : (b : Bool) (k j : ℕ) (h : ℕ → Bool) → h j ≡ false → put_if b k false h j ≡ false
+owes_if true k j h e = elim (cases_eq j k) [
+  | inl same ↦ put_there h k false j same
+  | inr apart ↦ put_other h k false j apart ∙ e
+]
+owes_if false k j h e = e
+
+pub apart_of : {A : Type 0} (held : ℕ → Option A) (k j : ℕ) (v : A) → held k ≡ None → held j ≡ Some v → j ≢ k
+apart_of held k j v free there same =
+    let no : ◌≡◌ {A = Option _} None (Some v) = sym free ∙ ap held (sym same) ∙ there in grind (arith, no)
+
 -- the lock of a wait queue was taken, and is given
-around : (s k : ℕ) (v w given : List WaitEntry) (rs after : List Rec) → Rests s (Took k (val.Wait v) ∷ rs) after
-    → Settles s rs (Gave k (val.Wait w) (val.Wait given) ∷ after)
-around s k v w given rs after x = record {
+pub around : (s k : ℕ) (v w given : List WaitEntry) (rs after : List Rec) → wait_held rs k ≡ None
+    → Rests s (Took k (val.Wait v) ∷ rs) after → Settles s rs (Gave k (val.Wait w) (val.Wait given) ∷ after)
+around s k v w given rs after free x = record {
   tasks = x.tasks;
   queues = x.queues;
   waits = λ j e. elim (cases_eq j k) [
@@ -56,19 +69,23 @@ around s k v w given rs after x = record {
         grind (arith, nat_tests, apart, held, e)
   ];
   claimed = x.claimed;
-  works = x.apart.untouched.works;
-  body = x.apart.untouched.body;
-  ended = x.apart.untouched.ended;
+  owes = λ j e. owes_if _ k j (owes_walk after) (ap (λ (h : ℕ → Bool). h j) x.apart.owes ∙ e);
+  still = λ j u there. let apart = apart_of (wait_held rs) k j u free there in record {
+    held = put_other (wait_held after) k None j apart ∙ ap (λ (h : ℕ → Option (List WaitEntry)). h j) x.apart.waits
+        ∙ put_other (wait_held rs) k (Some v) j apart ∙ there;
+    passed = λ t e. x.apart.passed j t (grind (arith, nat_tests, apart, e));
+    retaken = ap (λ (h : ℕ → Bool). h j) x.apart.retaken ∙ put_other (has_retaken rs) k true j apart;
+  };
+  untouched = record { works = x.apart.untouched.works; body = x.apart.untouched.body; ended = x.apart.untouched.ended; stays = x.apart.untouched.stays };
   current = x.current;
-  stays = x.apart.untouched.stays;
   clear = x.clear;
 }
 
-pub walk_settles : (s seat k cond : ℕ) (v w given : List WaitEntry) (rs old after new : List Rec) → old ≡ Took k (val.Wait v) ∷ rs
-    → Rests seat old after → seat ≡ s → cond ≡ k → new ≡ Gave cond (val.Wait w) (val.Wait given) ∷ after → Settles s rs new
-walk_settles s seat k cond v w given rs old after new took rests same at gave =
+pub walk_settles : (s seat k cond : ℕ) (v w given : List WaitEntry) (rs old after new : List Rec) → wait_held rs k ≡ None
+    → old ≡ Took k (val.Wait v) ∷ rs → Rests seat old after → seat ≡ s → cond ≡ k → new ≡ Gave cond (val.Wait w) (val.Wait given) ∷ after → Settles s rs new
+walk_settles s seat k cond v w given rs old after new free took rests same at gave =
     subst (Settles s rs) (sym (gave ∙ ap (λ (n : ℕ). Gave n (val.Wait w) (val.Wait given) ∷ after) at))
-    (around s k v w given rs after (subst (λ (z : ℕ × List Rec). Rests z.0 z.1 after) (λ i. (same i, took i)) rests))
+    (around s k v w given rs after free (subst (λ (z : ℕ × List Rec). Rests z.0 z.1 after) (λ i. (same i, took i)) rests))
 
 module _ (shape : Shape) (limit : Option ℕ) (given v : List WaitEntry) (old after : PassView) (woken k : ℕ) where
   -- the lock is held still, as it was taken

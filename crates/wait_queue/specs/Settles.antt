@@ -1,26 +1,35 @@
 -- What a call on a wait queue asks of its seat, and what it leaves as it was.
 use Rattle.std.specs.Prelude.{◌≡◌, ℕ, true, false, List, Some, None}
-use Rattle.word_steps.specs.Folds.{task_held, queue_held, works_held, wait_held, body_held, ended_known, current_task, stays_queued, task_to_clear, is_claimed}
+use Rattle.core_data.specs.declared.values.WaitEntry.{WaitEntry}
+use Rattle.task_words.specs.Untouched.{Untouched}
+use Rattle.word_steps.specs.Folds.{task_held, queue_held, wait_held, current_task, stays_queued, task_to_clear, is_claimed, has_passed, has_retaken, owes_walk}
 use Rattle.word_steps.specs.Records.{Rec}
 
--- the seat may wake any task: it holds no task's lock and no queue's, has claimed no task, and its current task, if there
--- is one, has not left its queue
+-- the seat may wake any task: it holds no task's lock and no queue's, has claimed no task, has no busy word to clear, which
+-- a wake-up might wait for, and its current task, if there is one, has not left its queue
 pub record IsFree (s : ℕ) (trace : List Rec) : Type 0 where
   pub tasks : (t : ℕ) → task_held trace t ≡ None
   pub queues : (c : ℕ) → queue_held trace c ≡ None
   pub claimed : (t : ℕ) → is_claimed trace t ≡ false
+  pub cleared : task_to_clear s trace ≡ None
   pub stays : (t : ℕ) → current_task s trace ≡ Some t → stays_queued trace ≡ true
 
--- no lock is held after it that wasn't before, no task is claimed that wasn't, no works or body was taken or given, the
--- same task is current, as queued as before, and the same busy word is to clear
+-- what the seat knows of a wait queue that it holds: its entries as they were taken, whom it has passed since, and that it
+-- took the lock after it last raised the condition
+pub record IsHeldStill (old new : List Rec) (k : ℕ) (v : List WaitEntry) : Type 0 where
+  pub held : wait_held new k ≡ Some v
+  pub passed : (t : ℕ) → has_passed old k t ≡ true → has_passed new k t ≡ true
+  pub retaken : has_retaken new k ≡ has_retaken old k
+
+-- no lock is held after it that wasn't before, no task is claimed that wasn't, no condition is owed a walk that wasn't,
+-- what is known of a wait queue that is held stays, the same task is current, and the same busy word is to clear
 pub record Settles (s : ℕ) (old new : List Rec) : Type 0 where
   pub tasks : (t : ℕ) → task_held old t ≡ None → task_held new t ≡ None
   pub queues : ((c : ℕ) → queue_held old c ≡ None) → (c : ℕ) → queue_held new c ≡ None
   pub waits : (k : ℕ) → wait_held old k ≡ None → wait_held new k ≡ None
   pub claimed : (t : ℕ) → is_claimed old t ≡ false → is_claimed new t ≡ false
-  pub works : works_held new ≡ works_held old
-  pub body : body_held new ≡ body_held old
-  pub ended : ended_known new ≡ ended_known old
+  pub owes : (k : ℕ) → owes_walk old k ≡ false → owes_walk new k ≡ false
+  pub still : (k : ℕ) (v : List WaitEntry) → wait_held old k ≡ Some v → IsHeldStill old new k v
+  pub untouched : Untouched old new
   pub current : current_task s new ≡ current_task s old
-  pub stays : stays_queued new ≡ stays_queued old
   pub clear : task_to_clear s new ≡ task_to_clear s old

@@ -31,6 +31,7 @@ fn enter_once<B: Kept>(wk: &Wk<B>, pass: &Pass, wait: &mut WaitGuard<B>, t: Task
 /// state, both under the lock of the wait queue, as Linux's `prepare_to_wait` and `prepare_to_wait_exclusive`: an
 /// exclusive entry goes to the tail, another to the head. After it the task tests the condition, and sleeps or calls
 /// `finish`.
+#[tactic(auto, using(crate::proofs::Settling::prepared_settles))]
 pub fn prepare<B: Kept, R: Wait>(
     rt: &R,
     wk: &Wk<B>,
@@ -60,6 +61,7 @@ pub fn prepare<B: Kept, R: Wait>(
 
 /// Stores TASK_RUNNING as the state of the current task, and takes its entry out of the wait queue of a condition, if it
 /// has one there, as Linux's `finish_wait`.
+#[tactic(auto, using(crate::proofs::Settling::finished_settles))]
 pub fn finish<B: Kept, R: Wait>(rt: &R, wk: &Wk<B>, pass: &mut Pass, k: CondNo)
     requires of { IsOf wk.now pass.old }
     requires condition { k < wk.now.shape.conds }

@@ -40,6 +40,7 @@ fn is_asked(limit: Option<u32>, count: u32) -> bool
 }
 
 // Wakes a task with TASK_NORMAL, the pass's own current one without a lock.
+#[tactic(auto, using(crate::proofs::Settling::none_to_clear))]
 fn wake_task<B: Kept, R: Wait>(rt: &R, wk: &Wk<B>, pass: &mut Pass, t: TaskNo) -> Wake
     requires of { IsOf wk.now pass.old }
     requires task { t < wk.now.shape.tasks }
@@ -49,6 +50,7 @@ fn wake_task<B: Kept, R: Wait>(rt: &R, wk: &Wk<B>, pass: &mut Pass, t: TaskNo) -
     ensures did { DidWakeTask t wk.now.shape pass.old pass.new result }
     ensures rests { Rests pass.old.seat pass.old.trace pass.new.trace }
     ensures passed { (k : ℕ) → has_passed pass.new.trace k t ≡ true }
+    ensures spare { pass.old.turn.spare ≤ pass.new.turn.spare + 2 }
 {
     if pass.current() == Some(t) {
         wake_own(wk, pass, State::TASK_NORMAL)
@@ -68,6 +70,7 @@ fn meet<B: Kept, R: Wait>(rt: &R, wk: &Wk<B>, pass: &mut Pass, entries: &mut Wai
     ensures same { IsSameSeat pass.old pass.new }
     ensures did { HasMetOne wk.now.shape entries.new entries.old pass.old pass.new result.woken result.exclusive }
     ensures rests { Rests pass.old.seat pass.old.trace pass.new.trace }
+    ensures spare { pass.old.turn.spare ≤ pass.new.turn.spare + 2 }
 {
     let Some(entry) = entries.pop_front() else {
         unreachable!()
@@ -127,6 +130,7 @@ pub fn walk_entries<B: Kept, R: Wait>(
     ensures same { IsSameSeat pass.old pass.new }
     ensures did { HasWalked wk.now.shape limit entries.new entries.old pass.old pass.new result }
     ensures rests { Rests pass.old.seat pass.old.trace pass.new.trace }
+    ensures spare { pass.old.turn.spare ≤ pass.new.turn.spare + 2 * wk.now.shape.tasks }
 {
     few_tasks(wk);
     let all = entries.len();

@@ -1,5 +1,5 @@
 //! Walks along the wait queue of a condition.
-ghost use Rattle.std.specs.Prelude.{◌≡◌, ◌<◌, ◌≤◌, false, None, Some, IfSome};
+ghost use Rattle.std.specs.Prelude.{◌≡◌, ◌<◌, ◌≤◌, ◌+◌, ◌*◌, false, None, Some, IfSome};
 ghost use Rattle.task_words.specs.Needs.{need_walk};
 ghost use Rattle.task_words.specs.Views.{IsOf, IsSameSeat};
 ghost use Rattle.wait_queue.specs.Settles.{IsFree, Settles};
@@ -22,6 +22,7 @@ fn walk<B: Kept, R: Wait>(rt: &R, wk: &Wk<B>, pass: &mut Pass, k: CondNo, limit:
     ensures same { IsSameSeat pass.old pass.new }
     ensures did { IsWalked wk.now.shape k limit pass.old pass.new result }
     ensures settles { Settles pass.old.seat pass.old.trace pass.new.trace }
+    ensures spare { pass.old.turn.spare ≤ pass.new.turn.spare + 2 * wk.now.shape.tasks }
     ensures paid { limit ≡ None → owes_walk pass.new.trace k ≡ false }
 {
     let mut wait = lock_wait(rt, wk, pass, k);
@@ -41,6 +42,7 @@ pub fn wake_all<B: Kept, R: Wait>(rt: &R, wk: &Wk<B>, pass: &mut Pass, k: CondNo
     ensures same { IsSameSeat pass.old pass.new }
     ensures did { IsWalked wk.now.shape k None pass.old pass.new result }
     ensures settles { Settles pass.old.seat pass.old.trace pass.new.trace }
+    ensures spare { pass.old.turn.spare ≤ pass.new.turn.spare + 2 * wk.now.shape.tasks }
     ensures paid { owes_walk pass.new.trace k ≡ false }
 {
     walk(rt, wk, pass, k, None)
@@ -64,6 +66,7 @@ pub fn wake_some<B: Kept, R: Wait>(
     ensures same { IsSameSeat pass.old pass.new }
     ensures did { IsWalked wk.now.shape k (Some exclusive) pass.old pass.new result }
     ensures settles { Settles pass.old.seat pass.old.trace pass.new.trace }
+    ensures spare { pass.old.turn.spare ≤ pass.new.turn.spare + 2 * wk.now.shape.tasks }
 {
     walk(rt, wk, pass, k, Some(exclusive))
 }
@@ -79,6 +82,7 @@ pub fn bump_and_wake<B: Kept, R: Wait>(rt: &R, wk: &Wk<B>, pass: &mut Pass, k: C
     ensures same { IsSameSeat pass.old pass.new }
     ensures did { IsRaisedAndWalked wk.now.shape k pass.old pass.new result }
     ensures settles { Settles pass.old.seat pass.old.trace pass.new.trace }
+    ensures spare { pass.old.turn.spare ≤ pass.new.turn.spare + 2 * wk.now.shape.tasks }
     ensures paid { owes_walk pass.new.trace k ≡ false }
 {
     bump_cond(wk, pass, k);

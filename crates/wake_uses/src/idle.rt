@@ -1,6 +1,7 @@
 //! Calls of a seat with no current task.
 ghost use Rattle.std.specs.Prelude.{◌<◌, ◌≤◌};
 ghost use Rattle.task_words.specs.Needs.{need_call, need_wake, need_walk};
+ghost use Rattle.task_words.specs.States.{IsWakeMask};
 ghost use Rattle.task_words.specs.Views.{IsOf, IsSameSeat};
 ghost use Rattle.uses.specs.Between.{IsBetween};
 
@@ -32,7 +33,26 @@ pub fn wake<B: Kept, R: Wait>(rt: &R, wk: &Wk<B>, pass: &mut Pass, t: TaskNo) ->
     ensures same { IsSameSeat pass.old pass.new }
     ensures between { IsBetween pass.new }
 {
-    ttwu_core::wake(rt, wk, pass, t, State::TASK_NORMAL)
+    wake_by(rt, wk, pass, t, State::TASK_NORMAL)
+}
+
+/// Wakes a task that sleeps as a mask says.
+pub fn wake_by<B: Kept, R: Wait>(
+    rt: &R,
+    wk: &Wk<B>,
+    pass: &mut Pass,
+    t: TaskNo,
+    mask: State,
+) -> Wake
+    requires of { IsOf wk.now pass.old }
+    requires task { t < wk.now.shape.tasks }
+    requires mask { IsWakeMask mask }
+    requires between { IsBetween pass.old }
+    requires spare { need_wake ≤ pass.old.turn.spare }
+    ensures same { IsSameSeat pass.old pass.new }
+    ensures between { IsBetween pass.new }
+{
+    ttwu_core::wake(rt, wk, pass, t, mask)
 }
 
 /// Wakes each task with an entry at a condition; how many it woke.

@@ -25,6 +25,7 @@ pub fn begin(
     ensures cpus { IfOk result (λ r. r.0.shape.cpus ≡ cpus) }
     ensures tasks { IfOk result (λ r. r.0.shape.tasks ≡ tasks) }
     ensures conditions { IfOk result (λ r. r.0.shape.conds ≡ conds) }
+    ensures agents { IfOk result (λ r. r.0.shape.agents ≡ 0) }
 {
     let shape = Shape {
         cpus,

@@ -1,5 +1,5 @@
 //! The seats that a test begins with.
-ghost use Rattle.std.specs.Prelude.{◌≡◌, ◌<◌, ◌≤◌, IfOk};
+ghost use Rattle.std.specs.Prelude.{◌≡◌, ◌+◌, ◌<◌, ◌≤◌, IfOk};
 ghost use Rattle.task_words.specs.Views.{IsOf};
 ghost use Rattle.uses.specs.Between.{IsBetween};
 
@@ -17,6 +17,8 @@ pub fn one_seat(alloc: Global, tasks: u32, conds: u32) -> Result<(Wk<()>, Pass),
     ensures processor { IfOk result (λ r. r.1.seat < r.0.shape.cpus) }
     ensures tasks { IfOk result (λ r. r.0.shape.tasks ≡ tasks) }
     ensures conditions { IfOk result (λ r. r.0.shape.conds ≡ conds) }
+    ensures first { IfOk result (λ r. r.1.seat ≡ 0) }
+    ensures seats { IfOk result (λ r. r.0.shape.cpus + r.0.shape.agents ≡ 1) }
 {
     let (wk, mut passes) = begin(alloc, 1, tasks, conds)?;
     let Some(pass) = passes.pop() else {

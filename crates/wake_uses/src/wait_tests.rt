@@ -14,8 +14,8 @@ use std::test::Fail;
 use task_words::{Kept, Pass, Wk, bump_cond, load_cond, load_state};
 use uses::{pick, switch_out};
 
-// Starts a task on the processor 0, which picks it; whether it then runs.
-fn run_new<B: Kept, R: Wait>(rt: &R, wk: &Wk<B>, pass: &mut Pass, t: TaskNo) -> bool
+/// Starts a task on the processor 0, which picks it; whether it then runs.
+pub fn run_new<B: Kept, R: Wait>(rt: &R, wk: &Wk<B>, pass: &mut Pass, t: TaskNo) -> bool
     requires of { IsOf wk.now pass.old }
     requires processor { pass.old.seat < wk.now.shape.cpus }
     requires task { t < wk.now.shape.tasks }
@@ -36,8 +36,8 @@ fn run_new<B: Kept, R: Wait>(rt: &R, wk: &Wk<B>, pass: &mut Pass, t: TaskNo) -> 
     next == t
 }
 
-// Starts a task, which then sleeps at a condition that nobody has raised; whether it sleeps.
-fn sleep_new<B: Kept, R: Wait>(
+/// Starts a task, which then sleeps at a condition that nobody has raised; whether it sleeps.
+pub fn sleep_new<B: Kept, R: Wait>(
     rt: &R,
     wk: &Wk<B>,
     pass: &mut Pass,

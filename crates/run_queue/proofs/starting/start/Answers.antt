@@ -9,7 +9,9 @@ use Rattle.run_queue.specs.Queueing.{placed}
 use Rattle.run_queue.specs.Starts.{queued_new}
 use Rattle.run_queue.proofs.Guards.{gave_task, held_there}
 use Rattle.run_queue.proofs.Steps.{held_started, placed_current, placed_clear, started_rests, give_started_may, other_rests, changed_rests}
+use Rattle.run_queue.proofs.Sparing.{spare_start}
 use Rattle.run_queue.proofs.starting.start.Given.{Over}
+use Rattle.run_queue.specs.declared.answer.Start.TheVariants as start
 use Rattle.word_rule.specs.May.{MayGiveTaskVal}
 use Rattle.word_steps.specs.Folds.{task_held, current_task, task_to_clear}
 use Rattle.run_queue.proofs.starting.start.Goals as goal
@@ -181,3 +183,11 @@ returns-clause-rests g c =
     ∙ placed_current s t c.args.c c.place.result (reads_of g c))
     (ap (task_to_clear s) c.give-2.ensures.trace ∙ cleared ∙ ap (task_to_clear s) (placed_did g c)
     ∙ placed_clear s t c.args.c c.place.result (reads_of g c))
+
+pub returns-then-ne-clause-spare : goal.returns-then-ne-clause-spare
+returns-then-ne-clause-spare g c =
+    spare_start c.args.t c.args.c c.args.pass.now c.give.new.pass (start.NotNew c.load_state-seen.result) (returns-then-ne-clause-did g c)
+
+pub returns-clause-spare : goal.returns-clause-spare
+returns-clause-spare g c =
+    spare_start c.args.t c.args.c c.args.pass.now c.give-2.new.pass (start.Started 1) (returns-clause-did g c)

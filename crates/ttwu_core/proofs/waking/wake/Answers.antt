@@ -3,6 +3,7 @@ use Rattle.std.specs.Prelude.{Option, unwrap_or}
 use Rattle.core_data.specs.declared.values.TaskVal.{TaskVal}
 use Rattle.core_stores.proofs.Columns.{put_there}
 use Rattle.ttwu_core.proofs.Resting.{keeps_again, placed_keeps, placed_claimed, placed_moving, placed_numbers, queued_others, queued_unclaimed, woken_may_give, rests_after}
+use Rattle.ttwu_core.proofs.Sparing.{spare_wake}
 use Rattle.ttwu_core.proofs.waking.wake.Goals as goal
 use Rattle.run_queue.specs.Rests.{Rests}
 use Rattle.run_queue.proofs.Guards.{held_there}
@@ -13,6 +14,8 @@ use Rattle.ttwu_core.specs.Finds.{DidFind, off_reads}
 use Rattle.word_rule.specs.May.{MayGiveTaskVal}
 use Rattle.ttwu_core.specs.Keeps.{Keeps}
 use Rattle.ttwu_core.specs.Wakes.{tested}
+use Rattle.ttwu_core.specs.declared.answers.How.TheVariants as how
+use Rattle.ttwu_core.specs.declared.answers.Wake.TheVariants as wake
 use Rattle.word_steps.specs.Folds.{task_held, is_claimed, is_moving, number_read}
 use Rattle.word_steps.specs.Records.{Rec, Gave, Claimed, LoadedState}
 use Rattle.word_steps.specs.declared.val.Val.TheVariants as val
@@ -182,3 +185,8 @@ queue_woken-requires-clause-unmoved g c κs within =
     ∙ ap (λ (h : ℕ → Bool). h t) (placed_moving c.lock_task-task.result.task c.choose-c.result c.place.result c.claim.new.pass.trace
     ∙ c.claim.ensures.moving ∙ c.find.ensures.moving ∙ ap is_moving test)
     ∙ put_there (is_moving old) t false t refl
+
+pub returns-clause-spare : goal.returns-clause-spare
+returns-clause-spare g c =
+    spare_wake c.args.t c.args.mask c.args.wk.now.shape c.args.pass.now c.give-2.new.pass (wake.Woke (how.Queued c.choose-c.result))
+    (returns-clause-did g c)

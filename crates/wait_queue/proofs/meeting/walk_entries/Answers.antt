@@ -69,7 +69,7 @@ rotate-requires-clause-few g c =
     let more = underway_more c.args.wk.now.shape c.args.limit c.args.entries.now c.loop-met.entries c.meet-one.new.entries
     c.args.pass.now c.loop-met.pass c.meet-one.new.pass c.loop-met.met c.loop-met.tally.woken c.loop-met.tally.exclusive
     c.meet-one.result.woken c.meet-one.result.exclusive c.loop-met.invariant.walk c.loop-met.invariant.below lt
-    c.meet-one.ensures.did c.meet-one.ensures.same c.meet-one.ensures.rests in
+    c.meet-one.ensures.did c.meet-one.ensures.same c.meet-one.ensures.rests c.meet-one.ensures.spare in
     let walk = underway_length c.args.wk.now.shape c.args.limit c.args.entries.now c.meet-one.new.entries c.args.pass.now
     c.meet-one.new.pass (c.loop-met.met + 1) (c.loop-met.tally.woken + c.meet-one.result.woken)
     (c.loop-met.tally.exclusive + c.meet-one.result.exclusive) more in
@@ -84,7 +84,7 @@ rotate-requires-clause-count g c =
     let more = underway_more c.args.wk.now.shape c.args.limit c.args.entries.now c.loop-met.entries c.meet-one.new.entries
     c.args.pass.now c.loop-met.pass c.meet-one.new.pass c.loop-met.met c.loop-met.tally.woken c.loop-met.tally.exclusive
     c.meet-one.result.woken c.meet-one.result.exclusive c.loop-met.invariant.walk c.loop-met.invariant.below lt
-    c.meet-one.ensures.did c.meet-one.ensures.same c.meet-one.ensures.rests in
+    c.meet-one.ensures.did c.meet-one.ensures.same c.meet-one.ensures.rests c.meet-one.ensures.spare in
     let walk = underway_length c.args.wk.now.shape c.args.limit c.args.entries.now c.meet-one.new.entries c.args.pass.now
     c.meet-one.new.pass (c.loop-met.met + 1) (c.loop-met.tally.woken + c.meet-one.result.woken)
     (c.loop-met.tally.exclusive + c.meet-one.result.exclusive) more in
@@ -99,7 +99,7 @@ returns-then-is_asked-clause-did g c =
     let more = underway_more c.args.wk.now.shape c.args.limit c.args.entries.now c.loop-met.entries c.meet-one.new.entries
     c.args.pass.now c.loop-met.pass c.meet-one.new.pass c.loop-met.met c.loop-met.tally.woken c.loop-met.tally.exclusive
     c.meet-one.result.woken c.meet-one.result.exclusive c.loop-met.invariant.walk c.loop-met.invariant.below lt
-    c.meet-one.ensures.did c.meet-one.ensures.same c.meet-one.ensures.rests in
+    c.meet-one.ensures.did c.meet-one.ensures.same c.meet-one.ensures.rests c.meet-one.ensures.spare in
     let left : c.len-all.result - c.loop-met.met - 1 ≡ length c.args.entries.now - (c.loop-met.met + 1) = omega arith in
     walked_reached c.args.wk.now.shape c.args.limit c.args.entries.now c.meet-one.new.entries c.rotate.new.entries
     c.args.pass.now c.meet-one.new.pass (c.loop-met.met + 1) (c.loop-met.tally.woken + c.meet-one.result.woken)
@@ -112,10 +112,19 @@ loop-met-preserved g c =
     let more = underway_more c.args.wk.now.shape c.args.limit c.args.entries.now c.loop-met.entries c.meet-one.new.entries
     c.args.pass.now c.loop-met.pass c.meet-one.new.pass c.loop-met.met c.loop-met.tally.woken c.loop-met.tally.exclusive
     c.meet-one.result.woken c.meet-one.result.exclusive c.loop-met.invariant.walk c.loop-met.invariant.below lt
-    c.meet-one.ensures.did c.meet-one.ensures.same c.meet-one.ensures.rests in
+    c.meet-one.ensures.did c.meet-one.ensures.same c.meet-one.ensures.rests c.meet-one.ensures.spare in
     let exclusives = more.exclusives in
     record {
       walk = more;
       below = still_below c.args.limit (c.loop-met.tally.exclusive + c.meet-one.result.exclusive)
           (λ n e. let most = more.most n e in omega arith) (c.is_asked.ensures.not c.if-is_asked.false);
     }
+
+pub returns-then-is_asked-clause-spare : goal.returns-then-is_asked-clause-spare
+returns-then-is_asked-clause-spare g c =
+    let len = c.len-all.ensures in
+    let lt : c.loop-met.met < length c.args.entries.now = (let test = c.loop-met-test.true in omega arith) in
+    let spent = c.meet-one.ensures.spare in
+    let spare = c.loop-met.invariant.walk.spare in
+    let room = c.requires.taken.room in
+    omega arith

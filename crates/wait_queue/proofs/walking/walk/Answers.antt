@@ -46,5 +46,5 @@ pub returns-clause-settles : goal.returns-clause-settles
 returns-clause-settles g c =
     walk_settles c.args.pass.now.seat c.lock_wait-wait.new.pass.seat c.args.k c.lock_wait-wait.result.cond c.lock_wait-wait.result.val
     _ c.walk_entries-woken.new.entries c.args.pass.now.trace c.lock_wait-wait.new.pass.trace c.walk_entries-woken.new.pass.trace
-    c.give.new.pass.trace c.lock_wait-wait.ensures.trace c.walk_entries-woken.ensures.rests c.lock_wait-wait.ensures.same.same.same_seat
+    c.give.new.pass.trace c.requires.free_wait c.lock_wait-wait.ensures.trace c.walk_entries-woken.ensures.rests c.lock_wait-wait.ensures.same.same.same_seat
     c.lock_wait-wait.ensures.condition c.give.ensures.trace
