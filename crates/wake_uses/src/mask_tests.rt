@@ -88,7 +88,7 @@ fn dead<R: Wait + Abort>(rt: &R, wk: &Wk<()>, own: &mut Pass, other: &mut Pass)
     assert!(rt; run_new(rt, wk, own, 0));
     end_body(wk, own, 0);
     own.clear_turn();
-    assert!(rt; die(rt, wk, own, 0));
+    die(rt, wk, own, 0);
     let seen = State::TASK_DEAD;
     assert_eq!(rt;
         answer(rt, wk, other, State::TASK_NORMAL),
