@@ -1,5 +1,8 @@
 //! Steps and plain operations, with the time that each took.
 ghost use Rattle.std.specs.Prelude.{◌≡◌, ◌<◌};
+ghost use Rattle.bench_steps.specs.Small.{IsSmall};
+ghost use Rattle.task_words.specs.Views.{IsOf};
+ghost use Rattle.uses.specs.Between.{IsBetween};
 
 use crate::own::{Body, Match, OwnStep, SetRunning, SetState, Turn, begin_own, repeat_own};
 use crate::placing::{Placing, Run, SetCpu, place_often};
@@ -10,10 +13,11 @@ use crate::plain::{
 use crate::starts::{Round, Start, Started, TASKS, start_all};
 use crate::step::{Step, repeat};
 use crate::steps::{Bump, Busy, Cond, Cpu, Queue, Rq, State, Task, WaitQueue, Works};
-use crate::table::small_table;
+use crate::table::{small_seat, small_table};
 use std::rt::Runtime;
 use std::sync::Wait;
 use std::time::{Duration, Instant};
+use task_words::{Pass, Wk};
 
 /// Nanoseconds of one step, and of the plain operations beside it.
 #[derive(Clone, Copy, Drop)]
@@ -110,22 +114,32 @@ fn time_own<S: OwnStep, P: Plain, R: Runtime + AllocGlobal + Wait>(
     count: u32,
     dozes: bool,
 ) -> Option<Took> {
-    let Ok((wk, mut passes)) = small_table(rt.alloc(), 1, 1) else {
-        return None;
-    };
-    let mut pass = passes.pop()?;
-    if pass.seat() != 0 || !begin_own(rt, &wk, &mut pass, dozes) {
+    let (wk, mut pass) = small_seat(rt.alloc())?;
+    let step = time_own_steps::<S, R>(rt, &wk, &mut pass, count, dozes)?;
+    let plain = time_plain::<P, R>(rt, count)?;
+    Some(Took { step, plain })
+}
+
+// What such a step takes, made so many times; none where the seat stops running its task.
+fn time_own_steps<S: OwnStep, R: Runtime + AllocGlobal + Wait>(
+    rt: &R,
+    wk: &Wk<()>,
+    pass: &mut Pass,
+    count: u32,
+    dozes: bool,
+) -> Option<f64>
+    requires of { IsOf wk.now pass.old }
+    requires small { IsSmall wk.now.shape }
+    requires between { IsBetween pass.old }
+{
+    if pass.seat() != 0 || !begin_own(rt, wk, pass, dozes) {
         return None;
     }
     let begun = Instant::now(rt).ok()?;
-    let done = repeat_own::<S, R>(rt, &wk, &mut pass, count);
-    let step = each(begun.elapsed(rt).ok()?, count);
-    let plain = time_plain::<P, R>(rt, count)?;
-    if done {
-        Some(Took { step, plain })
-    } else {
-        None
+    if !repeat_own::<S, R>(rt, wk, pass, count) {
+        return None;
     }
+    Some(each(begun.elapsed(rt).ok()?, count))
 }
 
 // A store of a seat that has the lock of a new task.

@@ -18,6 +18,7 @@ use task_words::{
 pub trait Placing {
     fn once(wk: &Wk<()>, pass: &mut Pass, task: &TaskGuard<()>, c: CpuNo)
         requires of { IsOf wk.now pass.old }
+        requires table { task.now.of ≡ wk.now.name }
         requires task { task.now.task < wk.now.shape.tasks }
         requires processor { c < wk.now.shape.cpus }
         requires placing { IsPlacing task.now.task c task.now.val pass.old.trace }
@@ -67,6 +68,7 @@ fn repeat_placing<P: Placing>(
     count: u32,
 )
     requires of { IsOf wk.now pass.old }
+    requires table { task.now.of ≡ wk.now.name }
     requires task { task.now.task < wk.now.shape.tasks }
     requires processor { c < wk.now.shape.cpus }
     requires placing { IsPlacing task.now.task c task.now.val pass.old.trace }

@@ -1,5 +1,5 @@
 //! A table to step on.
-ghost use Rattle.std.specs.Prelude.{◌≡◌, ◌<◌, ◌≤◌, IfOk};
+ghost use Rattle.std.specs.Prelude.{◌≡◌, ◌<◌, ◌≤◌, IfOk, IfSome};
 ghost use Rattle.std.specs.List.{All};
 ghost use Rattle.bench_steps.specs.Small.{IsSmall};
 ghost use Rattle.task_words.specs.Views.{IsOf};
@@ -29,4 +29,17 @@ pub fn small_table(alloc: Global, cpus: u32, tasks: u32) -> Result<(Wk<()>, Vec<
     };
     let bodies = Vec::from_elem(alloc, (), tasks as usize)?;
     Wk::new(alloc, &shape, bodies)
+}
+
+/// A table of one processor, one task and one condition, with the pass of its seat.
+pub fn small_seat(alloc: Global) -> Option<(Wk<()>, Pass)>
+    ensures of { IfSome result (λ r. IsOf r.0 r.1) }
+    ensures between { IfSome result (λ r. IsBetween r.1) }
+    ensures small { IfSome result (λ r. IsSmall r.0.shape) }
+{
+    let Ok((wk, mut passes)) = small_table(alloc, 1, 1) else {
+        return None;
+    };
+    let pass = passes.pop()?;
+    Some((wk, pass))
 }
