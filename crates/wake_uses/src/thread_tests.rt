@@ -85,9 +85,8 @@ fn wake_among<B: Kept, R: Wait>(rt: &R, wk: &Wk<B>, pass: &mut Pass, t: TaskNo, 
     ensures left { result ≡ true → IsBetween pass.new }
 {
     prepare(rt, wk, pass, t, k, true);
-    if pass.spare() < 12 {
-        return false;
-    }
+    // A walk asks for a whole turn. What was done before it has been told, and `prepare` makes no entry.
+    pass.clear_turn();
     running::wake_all(rt, wk, pass, t, k);
     give_up(rt, wk, pass, t, k)
 }
@@ -103,15 +102,20 @@ fn raise<B: Kept, R: Wait>(rt: &R, wk: &Wk<B>, pass: &mut Pass, t: TaskNo, k: Co
     ensures same { IsOneSeat pass.old pass.new }
     ensures left { result ≡ true → IsBetween pass.new }
 {
-    if pass.spare() < 12 {
-        return false;
-    }
+    // A walk asks for a whole turn. What was done before it has been told.
+    pass.clear_turn();
     running::bump_and_wake(rt, wk, pass, t, k);
     pass.spare() >= 8 && put_back(rt, wk, pass, t)
 }
 
 // Picks a task, if one waits, and runs it until it leaves; whether none is current then.
-fn cycle<B: Kept, R: Wait>(rt: &R, wk: &Wk<B>, pass: &mut Pass, random: &mut u64) -> bool
+fn cycle<B: Kept, R: Wait>(
+    rt: &R,
+    wk: &Wk<B>,
+    pass: &mut Pass,
+    random: &mut u64,
+    journal: &mut Journal,
+) -> bool
     requires of { IsOf wk.now pass.old }
     requires processor { pass.old.seat < wk.now.shape.cpus }
     requires tasks { wk.now.shape.tasks ≡ 6 }
@@ -127,6 +131,10 @@ fn cycle<B: Kept, R: Wait>(rt: &R, wk: &Wk<B>, pass: &mut Pass, random: &mut u64
         return true;
     };
     run(wk, pass, t);
+    if tell(pass.turn(), journal).is_err() {
+        return false;
+    }
+    pass.clear_turn();
     let k = below(random, CONDS);
     match below(random, 8) {
         0 | 1 | 2 => sleep(rt, wk, pass, t, k, false),
@@ -170,7 +178,14 @@ fn call<B: Kept, R: Wait>(rt: &R, wk: &Wk<B>, pass: &mut Pass, cpus: u32, random
 }
 
 // One turn of a seat; whether each of its calls ended as it has to.
-fn turn<B: Kept, R: Wait>(rt: &R, wk: &Wk<B>, pass: &mut Pass, cpus: u32, random: &mut u64) -> bool
+fn turn<B: Kept, R: Wait>(
+    rt: &R,
+    wk: &Wk<B>,
+    pass: &mut Pass,
+    cpus: u32,
+    random: &mut u64,
+    journal: &mut Journal,
+) -> bool
     requires of { IsOf wk.now pass.old }
     requires cpus { cpus ≡ wk.now.shape.cpus }
     requires processor { pass.old.seat < wk.now.shape.cpus }
@@ -185,7 +200,7 @@ fn turn<B: Kept, R: Wait>(rt: &R, wk: &Wk<B>, pass: &mut Pass, cpus: u32, random
         return true;
     }
     pass.clear_turn();
-    cycle(rt, wk, pass, random)
+    cycle(rt, wk, pass, random, journal)
 }
 
 // Adds the entries of a turn to a journal.
@@ -219,7 +234,9 @@ fn work<B: Kept, R: Wait>(
     }
     let mut random = pass.seat() as u64 + 1;
     for _ in 0..turns {
-        if !turn(rt, wk, &mut pass, cpus, &mut random) || tell(pass.turn(), &mut journal).is_err() {
+        if !turn(rt, wk, &mut pass, cpus, &mut random, &mut journal)
+            || tell(pass.turn(), &mut journal).is_err()
+        {
             return (journal, false);
         }
     }
