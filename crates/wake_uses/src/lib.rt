@@ -1,8 +1,6 @@
 //! Callers of wake-ups and wait queues, each from a seat that stands between two scenarios or has a current task.
 #![tactic(auto)]
 
-#[cfg(test)]
-mod close_tests;
 mod idle;
 #[cfg(test)]
 mod journal_tests;
