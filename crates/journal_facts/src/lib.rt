@@ -1,4 +1,8 @@
 //! What entries of journals tell, as facts in their order, and questions to them, each of them one binary search.
+//!
+//! `fact.rt`, `telling.rt` and `members.rt` are the facts of entries, `facts.rt` the type that has them in order,
+//! `searching.rt` the binary searches, `asking.rt` the questions: is a fact told, before an index, earlier, from a
+//! number on; the last one; the highest.
 #![tactic(auto)]
 
 mod asking;

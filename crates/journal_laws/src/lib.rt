@@ -1,5 +1,8 @@
 //! What legal journals tell, as laws on the definitions of the rules: the rules are there for these sentences.
 //! Each function is a law: its contract is the sentence over all journals, and there is nothing to run.
+//!
+//! `specs/` has what they say; `proofs/` one file a law (`ChangeLaws`, `RunLaws`, `WakeLaws`, `ListLaws`, `OutageLaws`,
+//! `RequestLaws`) over `Once` and `Numbering`.
 #![tactic(auto)]
 
 ghost use Rattle.std.specs.Prelude.{ℕ, ◌<◌};

@@ -1,5 +1,10 @@
 //! The eleven rules of journals, decided for one entry after another by the facts that all entries tell, and whether
 //! tasks have ended.
+//!
+//! A file a group of rules, over small questions in the words of the rules (`asked.rt`): `ranges.rt` has rule 1,
+//! `numbers.rt` 2, `causes.rt` 3 and 4, `rises.rt` 5, `runs.rt` 6, `leaves.rt` 7, `listings.rt` 8 with a mark a waker
+//! (`marks.rt`), `turns.rt` 9, `masks.rt` 10 and 11; `ends.rt` whether a task has ended. A rule may change without the
+//! others.
 #![tactic(auto)]
 
 mod asked;

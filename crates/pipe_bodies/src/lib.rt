@@ -1,4 +1,10 @@
 //! Text tasks as bodies over bounded rings, a line a turn.
+//!
+//! `body.rt` is the body, `parts.rt` one turn of it by cases, `held.rt` the items to be put out, `work.rt` works that a
+//! caller brings, `copies.rt` copies of plans, `building.rt` the net, `settling.rt` what bodies that have ended have
+//! kept, `running.rt` rounds and random orders, `laws.rt` the law.
+//!
+//! The layers above cite `specs/Nets`, `Turns`, `Bodies` and `Lastings`; `Codes` and `Inside` are the crate's own.
 #![tactic(auto)]
 
 mod body;

@@ -1,5 +1,7 @@
 //! Where each task is, as the entries of journals tell: a table that makes an entry's move, or refuses it; and the
 //! verdict on whole journals.
+//!
+//! `moves.rt` is the table of moves as two functions, `table.rt` the places.
 #![tactic(auto)]
 
 mod moves;

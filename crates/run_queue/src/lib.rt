@@ -1,4 +1,7 @@
 //! Run queues: a task is placed on a processor, and a new task is started.
+//!
+//! `starting.rt` starts a new task, `placing.rt` places one. `specs/`: `Starts` (what a start did, by its answer),
+//! `Queueing`, `Rests` (what a call leaves as it was).
 #![tactic(auto)]
 
 mod answer;

@@ -1,5 +1,14 @@
 //! The shared words of a machine of tasks, and the single steps of its seats on them: each kind of step of the core as a
 //! call of running threads.
+//!
+//! `wk.rt` and `pass.rt` are the types, `life.rt` and `close.rt` the beginning and the end, `laws.rt` the law between
+//! any two steps. The calls: `locks.rt` over `guards.rt`, `gives.rt` (a give for each thing that a seat does with a
+//! queue), `bodies.rt`, `loads.rt`, `states.rt`, `conds.rt`, `runs.rt`, `waits.rt`.
+//!
+//! `specs/`: `Views` (what contracts see), `Shown`, `Guards`, `Lending` (what they see of a guard), `Gives` and
+//! `Queues` (what a seat did with a queue), `Needs` (room that calls ask for), `Untouched` (the frame that wake-ups,
+//! starts and walks share), `Between` and `Closing` (what holds between steps, and at the end). `proofs/`: `Finer`,
+//! `Read` (loads between a take and a give), `Allowed`, `Frames`, `Ends`, `Sleepers`.
 #![tactic(auto)]
 
 mod bodies;

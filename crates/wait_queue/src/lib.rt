@@ -1,4 +1,8 @@
 //! Wait queues and their walks, after Linux's `kernel/sched/wait.c`.
+//!
+//! `entering.rt` has `prepare` and `finish`, `meeting.rt` entries met one after the other, `walking.rt` the walks under
+//! the lock, `law.rt` the laws. `specs/`: `Entering` and `Walks` (what a call did), `Meets` (its meetings), `Settles`
+//! (what it asks and leaves), `Laws`.
 #![tactic(auto)]
 
 mod entering;

@@ -1,5 +1,8 @@
 //! The kinds of step on one word, each as a type with its record, its condition and its laws; and the same laws of the
 //! steps that take values and bodies out and bring them home.
+//!
+//! `loads.rt`, `masks.rt` (loads against a mask, a type each), `stores.rt`, `runs.rt` (queue words, busy words);
+//! `laws.rt` says that takes and gives are events. A kind may change without the others.
 #![tactic(auto)]
 
 mod laws;
