@@ -2,6 +2,8 @@
 //
 // Usage: bench_pipes [LINES CATS]. With no words it runs a small chain and prints how many lines came out, which is the
 // same at any speed; with them it prints nanoseconds.
+//
+// `queues.rt` has the plain queues that do the same.
 #![tactic(auto)]
 
 mod queues;
