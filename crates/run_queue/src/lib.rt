@@ -1,4 +1,6 @@
 //! Run queues: a task is placed on a processor, and a new task is started.
+//!
+//! In comments T is the task, and what stands in brackets is the race of `docs/PROTOCOLS.md` that the order bars.
 #![tactic(auto)]
 
 mod answer;

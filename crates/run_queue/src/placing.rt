@@ -18,6 +18,8 @@ pub fn place<B: Kept>(wk: &Wk<B>, pass: &mut Pass, task: &TaskGuard<B>, c: CpuNo
     ensures same { IsSame pass.old pass.new }
     ensures trace { pass.new.trace ≡ placed task.now.task result c pass.old.trace }
 {
+    // Both under the task's lock, which the guard shows, and off every queue: nobody's way to the task goes by this
+    // word now (moved under the switch, the wrong queue).
     let from = load_cpu(wk, pass, task.task());
     if from != c {
         store_cpu(wk, pass, task, c);

@@ -1,5 +1,7 @@
-//! The shared words of a machine of tasks, and the single steps of its seats on them: each kind of step of the core as a
-//! call of running threads.
+//! The shared words of a machine of tasks, and the single steps of its seats on them: each kind of step of the core as
+//! a call of running threads.
+//!
+//! In comments T is the task, and what stands in brackets is the race of `docs/PROTOCOLS.md` that the order bars.
 #![tactic(auto)]
 
 mod bodies;

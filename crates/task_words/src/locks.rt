@@ -1,4 +1,15 @@
 //! Locks, taken and given.
+//!
+//! Lock order. A seat takes a lock only while each lock that it has stands above it here:
+//!
+//! | Rank | Lock | Taken by | Several at once |
+//! |---|---|---|---|
+//! | 1 | of a condition's wait queue | `lock_wait` | never |
+//! | 2 | of a task | `lock_task` | the lower number first |
+//! | 3 | of a processor's queue | `lock_queue` | never |
+//! | 4 | of a processor's works | `lock_works` | never |
+//!
+//! The callers keep it, and no contract asks for it: deadlock isn't excluded by proof (crossed locks).
 ghost use Rattle.std.specs.Prelude.{◌≡◌, ◌<◌, ◌∷◌, None, unwrap_or};
 ghost use Rattle.task_words.specs.Views.{IsOf, IsSame};
 ghost use Rattle.word_rule.specs.May.{MayGiveTaskVal, MayGiveQueueVal, MayGiveWorksVal, MayGiveWaitVal};
@@ -84,6 +95,8 @@ impl<B: Kept> TaskGuard<B> {
         ensures trace { pass.new.trace ≡ Gave self.task (val.Task (unwrap_or (task_held pass.old.trace self.task) self.val)) (val.Task self.val) ∷ pass.old.trace }
     {
         let TaskGuard { taken, task } = self;
+        // T is settled by now, and never off every queue at TASK_WAKING: who takes the lock next can wake it (two
+        // wakers).
         give::<B, TaskLock>(&wk.words, &mut pass.token, task, taken);
     }
 }

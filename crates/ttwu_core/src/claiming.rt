@@ -65,6 +65,8 @@ pub fn claim<B: Kept, R: Wait>(rt: &R, wk: &Wk<B>, pass: &mut Pass, t: TaskNo, m
     ensures moving { is_moving pass.new.trace ≡ is_moving pass.old.trace }
     ensures numbers { number_read pass.new.trace ≡ number_read pass.old.trace }
 {
+    // The busy word counts only where it is read after TASK_WAKING: what was read before may be older than T's last run
+    // (busy before `on_rq`). While it is set, T's last processor is still switching away from T (queued while busy).
     store_waking(wk, pass, t, m);
     await_clear(rt, wk, pass, t);
 }
@@ -116,8 +118,12 @@ pub fn queue_woken<B: Kept, R: Wait>(
     ensures keeps { Keeps pass.old.seat pass.old.trace pass.new.trace }
 {
     let mut queue = lock_queue(rt, wk, pass, c);
+    // The queue word under the lock of the queue that T goes into, and T's processor is that queue's: who reads 1 and
+    // takes this lock finds T there (the wrong queue).
     queue_task(rt, wk, pass, &queue, t, Rq { on: 0, m });
     queue.push(wk, pass, t);
+    // TASK_RUNNING before the queue's lock goes back: else T is picked at TASK_WAKING, stores a sleep state, and this
+    // store would wipe it out (picked while waking).
     store_running(wk, pass, t);
     queue.give_woken(wk, pass);
 }

@@ -1,4 +1,6 @@
 //! The wake-up of a task, after Linux's `try_to_wake_up`.
+//!
+//! In comments T is the task, and what stands in brackets is the race of `docs/PROTOCOLS.md` that the order bars.
 #![tactic(auto)]
 
 mod answers;

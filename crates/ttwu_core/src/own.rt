@@ -29,6 +29,8 @@ pub fn wake_own<B: Kept>(wk: &Wk<B>, pass: &mut Pass, mask: State) -> Wake
     let Some(t) = pass.current() else {
         unreachable!()
     };
+    // No lock: T is queued, and none but this seat takes it off or stores its state while it is the current task
+    // (two wakers).
     let seen = match_state(wk, pass, t, mask);
     if !matches(seen, mask) {
         return Wake::NoMatch { seen };

@@ -1,4 +1,6 @@
 //! Wait queues and their walks, after Linux's `kernel/sched/wait.c`.
+//!
+//! In comments T is the task, and what stands in brackets is the race of `docs/PROTOCOLS.md` that the order bars.
 #![tactic(auto)]
 
 mod entering;

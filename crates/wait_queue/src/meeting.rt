@@ -75,6 +75,8 @@ fn meet<B: Kept, R: Wait>(rt: &R, wk: &Wk<B>, pass: &mut Pass, entries: &mut Wai
     let Some(entry) = entries.pop_front() else {
         unreachable!()
     };
+    // The wake-up is made with the wait queue's lock held, and an entry that wakes nobody goes back: its task may be
+    // about to sleep on it (the entry that vanishes).
     match wake_task(rt, wk, pass, entry.t) {
         Wake::Woke { .. } => Tally {
             woken: 1,

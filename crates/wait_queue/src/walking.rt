@@ -26,6 +26,8 @@ fn walk<B: Kept, R: Wait>(rt: &R, wk: &Wk<B>, pass: &mut Pass, k: CondNo, limit:
     ensures paid { limit ≡ None → owes_walk pass.new.trace k ≡ false }
 {
     let mut wait = lock_wait(rt, wk, pass, k);
+    // Each entry is met before the lock goes back; where a limit ends the walk, the seat still owes the condition one
+    // (the walk that ends too soon).
     let woken = walk_entries(rt, wk, pass, wait.val_mut(wk), limit);
     wait.give(wk, pass);
     woken
@@ -85,6 +87,8 @@ pub fn bump_and_wake<B: Kept, R: Wait>(rt: &R, wk: &Wk<B>, pass: &mut Pass, k: C
     ensures spare { pass.old.turn.spare ≤ pass.new.turn.spare + 2 * wk.now.shape.tasks }
     ensures paid { owes_walk pass.new.trace k ≡ false }
 {
+    // The raise before the lock: a sleeper whose entry comes in after the walk stores its state later still, and then
+    // reads the raised condition (the walk before the raise).
     bump_cond(wk, pass, k);
     wake_all(rt, wk, pass, k)
 }

@@ -1,5 +1,5 @@
-//! What the locks of tasks and queues guard, each in a box of its own: a lock that is taken, or given, moves no more than
-//! its address.
+//! What the locks of tasks and queues guard, each in a box of its own: a lock that is taken, or given, moves no more
+//! than its address.
 ghost use Rattle.std.specs.Prelude.{◌≡◌};
 
 use core_data::{QueueVal, TaskVal};

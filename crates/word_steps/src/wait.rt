@@ -13,8 +13,8 @@ use std::marker::Model;
 
 /// The entries of a wait queue, the head first, after Linux's `struct wait_queue_head`. Contracts see that list.
 ///
-/// Room for 200 entries, one for each task of the largest shape, is reserved from the start, so that putting one in takes
-/// no memory. It is in a box, so that a lock which is taken, or given, moves no more than an address.
+/// Room for 200 entries, one for each task of the largest shape, is reserved from the start, so that putting one in
+/// takes no memory. It is in a box, so that a lock which is taken, or given, moves no more than an address.
 #[derive(Drop)]
 pub struct WaitQueue {
     entries: Box<VecDeque<WaitEntry>>,
