@@ -63,7 +63,7 @@ impl WaitQueue {
     /// The room that each wait queue reserves.
     const ROOM: usize = 200;
 
-    /// An empty wait queue.
+    /// An empty wait queue. Answers `NoMemory` where memory runs out.
     pub fn new(alloc: Global) -> Result<WaitQueue, NoMemory>
         ensures { IfOk result (λ w. w ≡ []) }
     {

@@ -34,7 +34,7 @@ impl WorksBox {
     /// The room that the works of each processor reserve.
     const ROOM: usize = 200;
 
-    /// No works.
+    /// No works. Answers `NoMemory` where memory runs out.
     pub fn new(alloc: Global) -> Result<WorksBox, NoMemory>
         ensures { IfOk result (λ w. w ≡ []) }
     {
