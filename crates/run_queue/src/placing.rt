@@ -9,7 +9,8 @@ use handoff_data::CpuNo;
 use task_words::{Kept, Pass, TaskGuard, Wk, load_cpu, store_cpu};
 
 /// Brings a task that is on no queue to a processor: its processor word is stored where it is another. It answers the
-/// processor that the word had. As Linux's `try_to_wake_up` calls `set_task_cpu` where the processor changes.
+/// processor that the word had. As Linux's `try_to_wake_up` calls `set_task_cpu` (`kernel/sched/core.c`) where the
+/// processor changes.
 pub fn place<B: Kept>(wk: &Wk<B>, pass: &mut Pass, task: &TaskGuard<B>, c: CpuNo) -> CpuNo
     requires of { IsOf wk.now pass.old }
     requires table { task.now.of ≡ wk.now.name }

@@ -40,8 +40,8 @@ fn queue_new<B: Kept, R: Wait>(rt: &R, wk: &Wk<B>, pass: &mut Pass, t: TaskNo, c
     queue.give(wk, pass);
 }
 
-/// Starts a new task on a processor, as Linux's `wake_up_new_task`: it is placed there, and put at the back of that
-/// processor's queue as TASK_RUNNING.
+/// Starts a new task on a processor, as Linux's `wake_up_new_task` (`kernel/sched/core.c`): it is placed there, and put
+/// at the back of that processor's queue as TASK_RUNNING.
 pub fn start<B: Kept, R: Wait>(rt: &R, wk: &Wk<B>, pass: &mut Pass, t: TaskNo, c: CpuNo) -> Start
     requires of { IsOf wk.now pass.old }
     requires task { t < wk.now.shape.tasks }

@@ -25,7 +25,8 @@ use handoff_data::{CondNo, CpuNo, TaskNo};
 use std::sync::Wait;
 use word_table::{Kept, QueueLock, TaskLock, WaitLock, WorksLock, give, take};
 
-/// Takes the lock of a task, as Linux's `raw_spin_lock(&p->pi_lock)`, and waits until it is free.
+/// Takes the lock of a task, as Linux's `raw_spin_lock(&p->pi_lock)` (`kernel/sched/core.c`), and waits until it is
+/// free.
 pub fn lock_task<B: Kept, R: Wait>(rt: &R, wk: &Wk<B>, pass: &mut Pass, t: TaskNo) -> TaskGuard<B>
     requires of { IsOf wk.now pass.old }
     requires task { t < wk.now.shape.tasks }
@@ -40,7 +41,8 @@ pub fn lock_task<B: Kept, R: Wait>(rt: &R, wk: &Wk<B>, pass: &mut Pass, t: TaskN
     TaskGuard { taken, task: t }
 }
 
-/// Takes the lock of a processor's queue, as Linux's `raw_spin_rq_lock`, and waits until it is free.
+/// Takes the lock of a processor's queue, as Linux's `raw_spin_rq_lock` (`kernel/sched/sched.h`), and waits until it is
+/// free.
 pub fn lock_queue<B: Kept, R: Wait>(rt: &R, wk: &Wk<B>, pass: &mut Pass, c: CpuNo) -> QueueGuard<B>
     requires of { IsOf wk.now pass.old }
     requires processor { c < wk.now.shape.cpus }
@@ -55,7 +57,8 @@ pub fn lock_queue<B: Kept, R: Wait>(rt: &R, wk: &Wk<B>, pass: &mut Pass, c: CpuN
     QueueGuard { taken, cpu: c }
 }
 
-/// Takes the lock of a processor's works, as Linux's `raw_spin_lock(&stopper->lock)`, and waits until it is free.
+/// Takes the lock of a processor's works, as Linux's `raw_spin_lock(&stopper->lock)` (`kernel/stop_machine.c`), and
+/// waits until it is free.
 pub fn lock_works<B: Kept, R: Wait>(rt: &R, wk: &Wk<B>, pass: &mut Pass, c: CpuNo) -> WorksGuard<B>
     requires of { IsOf wk.now pass.old }
     requires processor { c < wk.now.shape.cpus }
@@ -69,7 +72,8 @@ pub fn lock_works<B: Kept, R: Wait>(rt: &R, wk: &Wk<B>, pass: &mut Pass, c: CpuN
     WorksGuard { taken, cpu: c }
 }
 
-/// Takes the lock of a condition's wait queue, as Linux's `spin_lock(&wq_head->lock)`, and waits until it is free.
+/// Takes the lock of a condition's wait queue, as Linux's `spin_lock(&wq_head->lock)` (`kernel/sched/wait.c`), and
+/// waits until it is free.
 pub fn lock_wait<B: Kept, R: Wait>(rt: &R, wk: &Wk<B>, pass: &mut Pass, k: CondNo) -> WaitGuard<B>
     requires of { IsOf wk.now pass.old }
     requires condition { k < wk.now.shape.conds }

@@ -135,10 +135,10 @@ fn queue_entry(t: TaskNo, c: CpuNo, seen: Rq) -> Entry
     }
 }
 
-/// Queues a task, as Linux's `activate_task` stores TASK_ON_RQ_QUEUED: a new one, one that the seat wakes, or one that
-/// it moves. The caller has the locks of the task and of the queue, whose processor is the task's; `seen` is the queue
-/// word as it has read or stored it under the task's lock. No other seat changes the word meanwhile, so the call waits
-/// only where its number has come to 2^60.
+/// Queues a task, as Linux's `activate_task` (`kernel/sched/core.c`) stores TASK_ON_RQ_QUEUED: a new one, one that the
+/// seat wakes, or one that it moves. The caller has the locks of the task and of the queue, whose processor is the
+/// task's; `seen` is the queue word as it has read or stored it under the task's lock. No other seat changes the word
+/// meanwhile, so the call waits only where its number has come to 2^60.
 pub fn queue_task<B: Kept, R: Wait>(
     rt: &R,
     wk: &Wk<B>,
@@ -164,8 +164,9 @@ pub fn queue_task<B: Kept, R: Wait>(
     pass.turn.log(queue_entry(t, queue.cpu, seen));
 }
 
-/// Takes the seat's current task off its queue, as Linux's `deactivate_task`: it sleeps, or, where `dies`, it is dead,
-/// by the state that the seat read under its queue's lock. It answers the number of changes before.
+/// Takes the seat's current task off its queue, as Linux's `deactivate_task` (`kernel/sched/core.c`): it sleeps, or,
+/// where `dies`, it is dead, by the state that the seat read under its queue's lock. It answers the number of changes
+/// before.
 pub fn dequeue_task<B: Kept, R: Wait>(
     rt: &R,
     wk: &Wk<B>,
@@ -196,8 +197,8 @@ pub fn dequeue_task<B: Kept, R: Wait>(
     m
 }
 
-/// Takes a waiting task out of a queue, to be moved, as Linux's `deactivate_task` with TASK_ON_RQ_MIGRATING. It answers
-/// the number of changes before.
+/// Takes a waiting task out of a queue, to be moved, as Linux's `deactivate_task` (`kernel/sched/core.c`) with
+/// TASK_ON_RQ_MIGRATING. It answers the number of changes before.
 pub fn move_task<B: Kept, R: Wait>(
     rt: &R,
     wk: &Wk<B>,
@@ -228,7 +229,7 @@ pub fn move_task<B: Kept, R: Wait>(
 }
 
 /// Sets the busy word of the task that is next in the seat's own queue, which then is the seat's current task, as
-/// Linux's `prepare_task` stores `on_cpu`. It answers the number of changes before.
+/// Linux's `prepare_task` (`kernel/sched/core.c`) stores `on_cpu`. It answers the number of changes before.
 pub fn set_busy<B: Kept, R: Wait>(
     rt: &R,
     wk: &Wk<B>,
@@ -312,8 +313,8 @@ fn change_busy<B: Kept, R: Wait>(rt: &R, wk: &Wk<B>, token: &mut Token, t: TaskN
     busy_again(rt, wk, token, t)
 }
 
-/// Clears the busy word of the task that the seat has switched out, as Linux's `finish_task`. It answers the number of
-/// changes before.
+/// Clears the busy word of the task that the seat has switched out, as Linux's `finish_task` (`kernel/sched/core.c`).
+/// It answers the number of changes before.
 pub fn clear_busy<B: Kept>(wk: &Wk<B>, pass: &mut Pass, t: TaskNo) -> u64
     requires of { IsOf wk.now pass.old }
     requires task { t < wk.now.shape.tasks }

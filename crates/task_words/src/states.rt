@@ -20,7 +20,8 @@ use word_kinds::{
 };
 use word_table::{Kept, Token, load, store};
 
-/// Stores the state of the seat's own current task, as Linux's `set_current_state`. TASK_DEAD needs the task's lock.
+/// Stores the state of the seat's own current task, as Linux's `set_current_state` (`include/linux/sched.h`). TASK_DEAD
+/// needs the task's lock.
 pub fn set_state<B: Kept>(wk: &Wk<B>, pass: &mut Pass, state: State)
     requires of { IsOf wk.now pass.old }
     requires may { IsOwnStore pass.old.seat pass.old.trace state }
@@ -35,7 +36,8 @@ pub fn set_state<B: Kept>(wk: &Wk<B>, pass: &mut Pass, state: State)
     store::<B, StoreOwn>(&wk.words, &mut pass.token, t, state.0 as u64);
 }
 
-/// Stores TASK_RUNNING as the state of the seat's own current task, as Linux's `__set_current_state(TASK_RUNNING)`.
+/// Stores TASK_RUNNING as the state of the seat's own current task, as Linux's `__set_current_state(TASK_RUNNING)`
+/// (`include/linux/sched.h`).
 pub fn set_running<B: Kept>(wk: &Wk<B>, pass: &mut Pass)
     requires of { IsOf wk.now pass.old }
     requires may { IsOwnStore pass.old.seat pass.old.trace running }
@@ -76,7 +78,8 @@ pub fn store_running<B: Kept>(wk: &Wk<B>, pass: &mut Pass, t: TaskNo)
     store::<B, StoreRunning>(&wk.words, &mut pass.token, t, 0);
 }
 
-/// Stores the processor of a task that is on no queue, under its lock, as Linux's `set_task_cpu`.
+/// Stores the processor of a task that is on no queue, under its lock, as Linux's `set_task_cpu`
+/// (`kernel/sched/core.c`).
 pub fn store_cpu<B: Kept>(wk: &Wk<B>, pass: &mut Pass, task: &TaskGuard<B>, c: CpuNo)
     requires of { IsOf wk.now pass.old }
     requires table { task.now.of ≡ wk.now.name }

@@ -50,7 +50,7 @@ fn await_clear<B: Kept, R: Wait>(rt: &R, wk: &Wk<B>, pass: &mut Pass, t: TaskNo)
 }
 
 /// Claims a task that is off every queue after `m` changes, and waits until no processor is busy with it, as Linux's
-/// `try_to_wake_up` stores TASK_WAKING and then waits for `p->on_cpu` to be clear.
+/// `try_to_wake_up` stores TASK_WAKING and then waits for `p->on_cpu` to be clear (`kernel/sched/core.c`).
 pub fn claim<B: Kept, R: Wait>(rt: &R, wk: &Wk<B>, pass: &mut Pass, t: TaskNo, m: u64)
     requires of { IsOf wk.now pass.old }
     requires task { t < wk.now.shape.tasks }
@@ -82,7 +82,8 @@ fn pointer_of(val: &TaskVal) -> CpuMask
     }
 }
 
-/// The processor that a woken task is put on, as Linux's `select_task_rq`, with every processor active.
+/// The processor that a woken task is put on, as Linux's `select_task_rq` (`kernel/sched/core.c`), with every processor
+/// active.
 pub fn choose<B: Kept>(wk: &Wk<B>, val: &TaskVal) -> CpuNo
     ensures chosen { IsChosen val.now wk.now.shape result }
     ensures processor { result < wk.now.shape.cpus }
@@ -91,7 +92,8 @@ pub fn choose<B: Kept>(wk: &Wk<B>, val: &TaskVal) -> CpuNo
     fallback(val.wake_cpu, &pointer_of(val), false, &all, &all, &all).0
 }
 
-/// Puts a claimed task at the back of its processor's queue, as Linux's `ttwu_queue` and `ttwu_do_activate`.
+/// Puts a claimed task at the back of its processor's queue, as Linux's `ttwu_queue` and `ttwu_do_activate`
+/// (`kernel/sched/core.c`).
 pub fn queue_woken<B: Kept, R: Wait>(
     rt: &R,
     wk: &Wk<B>,

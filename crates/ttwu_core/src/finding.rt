@@ -42,8 +42,8 @@ fn await_off<B: Kept, R: Wait>(rt: &R, wk: &Wk<B>, pass: &mut Pass, t: TaskNo) -
     unreachable!()
 }
 
-/// Looks where a task is, whose state matched under its lock, as Linux's `try_to_wake_up` tries `ttwu_runnable`: where
-/// it is still queued under the lock of its queue, TASK_RUNNING is stored there.
+/// Looks where a task is, whose state matched under its lock, as Linux's `try_to_wake_up` tries `ttwu_runnable`
+/// (`kernel/sched/core.c`): where it is still queued under the lock of its queue, TASK_RUNNING is stored there.
 pub fn find<B: Kept, R: Wait>(rt: &R, wk: &Wk<B>, pass: &mut Pass, t: TaskNo) -> Found
     requires of { IsOf wk.now pass.old }
     requires task { t < wk.now.shape.tasks }

@@ -1,4 +1,4 @@
-//! The wake-up of a task, after Linux's `try_to_wake_up`.
+//! The wake-up of a task, after Linux's `try_to_wake_up` (`kernel/sched/core.c`).
 //!
 //! In comments T is the task, and what stands in brackets is the race of `docs/PROTOCOLS.md` that the order bars.
 #![tactic(auto)]

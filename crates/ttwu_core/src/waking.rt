@@ -16,10 +16,10 @@ use run_queue::place;
 use std::sync::Wait;
 use task_words::{Kept, Pass, Wk, lock_task, match_state};
 
-/// Wakes a task that isn't the pass's current one, where its state has a bit of the mask, as Linux's `try_to_wake_up`:
-/// a task that is still queued is runnable again, and one that is off every queue is queued on the processor that
-/// placement gives. It makes two entries at most. The pass hasn't the task's busy word to clear itself, for which it
-/// would wait for good.
+/// Wakes a task that isn't the pass's current one, where its state has a bit of the mask, as Linux's `try_to_wake_up`
+/// (`kernel/sched/core.c`): a task that is still queued is runnable again, and one that is off every queue is queued on
+/// the processor that placement gives. It makes two entries at most. The pass hasn't the task's busy word to clear
+/// itself, for which it would wait for good.
 pub fn wake<B: Kept, R: Wait>(rt: &R, wk: &Wk<B>, pass: &mut Pass, t: TaskNo, mask: State) -> Wake
     requires of { IsOf wk.now pass.old }
     requires task { t < wk.now.shape.tasks }

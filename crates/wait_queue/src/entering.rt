@@ -28,9 +28,9 @@ fn enter_once<B: Kept>(wk: &Wk<B>, pass: &Pass, wait: &mut WaitGuard<B>, t: Task
 }
 
 /// Puts an entry of the current task into the wait queue of a condition, where it has none there, and stores a sleep
-/// state, both under the lock of the wait queue, as Linux's `prepare_to_wait` and `prepare_to_wait_exclusive`: an
-/// exclusive entry goes to the tail, another to the head. After it the task tests the condition, and sleeps or calls
-/// `finish`.
+/// state, both under the lock of the wait queue, as Linux's `prepare_to_wait` and `prepare_to_wait_exclusive`
+/// (`kernel/sched/wait.c`): an exclusive entry goes to the tail, another to the head. After it the task tests the
+/// condition, and sleeps or calls `finish`.
 #[tactic(auto, using(crate::proofs::Settling::prepared_settles))]
 pub fn prepare<B: Kept, R: Wait>(
     rt: &R,
@@ -64,7 +64,7 @@ pub fn prepare<B: Kept, R: Wait>(
 }
 
 /// Stores TASK_RUNNING as the state of the current task, and takes its entry out of the wait queue of a condition, if
-/// it has one there, as Linux's `finish_wait`.
+/// it has one there, as Linux's `finish_wait` (`kernel/sched/wait.c`).
 #[tactic(auto, using(crate::proofs::Settling::finished_settles))]
 pub fn finish<B: Kept, R: Wait>(rt: &R, wk: &Wk<B>, pass: &mut Pass, k: CondNo)
     requires of { IsOf wk.now pass.old }

@@ -33,8 +33,8 @@ fn walk<B: Kept, R: Wait>(rt: &R, wk: &Wk<B>, pass: &mut Pass, k: CondNo, limit:
     woken
 }
 
-/// Wakes each task with an entry at a condition, as Linux's `wake_up_all` with TASK_NORMAL; how many it woke. Their
-/// entries leave. After it the pass owes the condition no walk.
+/// Wakes each task with an entry at a condition, as Linux's `wake_up_all` (`include/linux/wait.h`) with TASK_NORMAL;
+/// how many it woke. Their entries leave. After it the pass owes the condition no walk.
 pub fn wake_all<B: Kept, R: Wait>(rt: &R, wk: &Wk<B>, pass: &mut Pass, k: CondNo) -> u32
     requires of { IsOf wk.now pass.old }
     requires condition { k < wk.now.shape.conds }
@@ -51,7 +51,8 @@ pub fn wake_all<B: Kept, R: Wait>(rt: &R, wk: &Wk<B>, pass: &mut Pass, k: CondNo
 }
 
 /// Wakes tasks with an entry at a condition from the head on, until `exclusive` of them have an exclusive entry or none
-/// is left, as Linux's `wake_up_nr` with TASK_NORMAL; how many it woke. Their entries leave. `exclusive` is above 0.
+/// is left, as Linux's `wake_up_nr` (`include/linux/wait.h`) with TASK_NORMAL; how many it woke. Their entries leave.
+/// `exclusive` is above 0.
 pub fn wake_some<B: Kept, R: Wait>(
     rt: &R,
     wk: &Wk<B>,
