@@ -17,7 +17,7 @@ struct Stage {
     feeds_left: bool,
 }
 
-/// Lines of this text.
+/// Lines of this text. Answers `NoMemory` where memory runs out.
 pub fn texts(alloc: Global, count: u32, text: &str) -> Result<VecDeque<Item>, NoMemory> {
     let mut texts = VecDeque::new(alloc);
     for _ in 0..count {
@@ -31,7 +31,7 @@ pub fn texts(alloc: Global, count: u32, text: &str) -> Result<VecDeque<Item>, No
 
 /// Moves lines through so many `cat`, each of which reads the one before it and a source without lines, through queues
 /// of this room, in rounds, until all have ended. Answers the lines as they came out. As a body does, a stage takes an
-/// item in one step and puts it out in another.
+/// item in one step and puts it out in another. Answers `NoMemory` where memory runs out.
 pub fn run(
     alloc: Global,
     texts: VecDeque<Item>,

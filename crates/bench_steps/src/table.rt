@@ -9,7 +9,8 @@ use handoff_data::{NoMemory, Shape};
 use std::alloc::Global;
 use task_words::{Pass, Wk};
 
-/// A table of so many processors and tasks, and of one condition, with the passes of its seats.
+/// A table of so many processors and tasks, and of one condition, with the passes of its seats. Answers `NoMemory`
+/// where memory runs out.
 #[tactic(auto, using(uses::proofs::Begin::firsts_between))]
 pub fn small_table(alloc: Global, cpus: u32, tasks: u32) -> Result<(Wk<()>, Vec<Pass>), NoMemory>
     requires cpus { (0 < cpus) × (cpus ≤ 16) }

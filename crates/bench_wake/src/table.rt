@@ -9,7 +9,8 @@ use handoff_data::{NoMemory, Shape};
 use std::alloc::Global;
 use task_words::{Pass, Wk};
 
-/// A table of so many processors, tasks and conditions, with the passes of its seats.
+/// A table of so many processors, tasks and conditions, with the passes of its seats. Answers `NoMemory` where memory
+/// runs out.
 #[tactic(auto, using(uses::proofs::Begin::firsts_between))]
 pub fn new_table(
     alloc: Global,

@@ -81,7 +81,7 @@ impl QueueVal {
     /// The room that each queue reserves for waiting tasks.
     const ROOM: usize = 200;
 
-    /// An empty queue.
+    /// An empty queue. Answers `NoMemory` where memory runs out.
     pub fn new(alloc: Global) -> Result<QueueVal, NoMemory>
         ensures { IfOk result (λ q. q ≡ record { waiting = []; cur = None; left = None }) }
     {

@@ -3,8 +3,8 @@
 use handoff_data::{CpuMask, CpuNo, SeatNo, TaskNo};
 use std::marker::Model;
 
-/// What a task's lock guards, after the fields of Linux's `struct task_struct` that `p->pi_lock` and the
-/// affinity code guard.
+/// What a task's lock guards, after the fields of Linux's `struct task_struct` (`include/linux/sched.h`) that
+/// `p->pi_lock` and the affinity code guard.
 #[derive(Clone, Copy)]
 pub struct TaskVal {
     /// The affinity mask in force.
@@ -23,11 +23,12 @@ pub struct TaskVal {
     pub dest: CpuNo,
 }
 
-/// One sleeper in a wait queue, after Linux's `struct wait_queue_entry`.
+/// One sleeper in a wait queue, after Linux's `struct wait_queue_entry` (`include/linux/wait.h`).
 #[derive(Clone, Copy)]
 pub struct WaitEntry {
     pub t: TaskNo,
-    /// Whether a walk may stop behind it once its task is woken, as Linux's WQ_FLAG_EXCLUSIVE says.
+    /// Whether a walk may stop behind it once its task is woken, as Linux's WQ_FLAG_EXCLUSIVE (`include/linux/wait.h`)
+    /// says.
     pub exclusive: bool,
 }
 

@@ -18,7 +18,8 @@ use crate::queue::QueueVal;
 use crate::values::{ListVal, TaskVal, WaitVal, WorksVal};
 use handoff_data::{CpuNo, SeatNo, State};
 
-/// The words of a task, after Linux's `struct task_struct`, its lock, the value under it, and its body.
+/// The words of a task, after Linux's `struct task_struct` (`include/linux/sched.h`), its lock, the value under it, and
+/// its body.
 #[derive(Clone, Copy)]
 pub struct TaskWords {
     pub state: State,
@@ -52,7 +53,7 @@ pub enum Phase {
     Rising,
 }
 
-/// The words of a processor, after Linux's `struct rq`, its locks, and the values under them.
+/// The words of a processor, after Linux's `struct rq` (`kernel/sched/sched.h`), its locks, and the values under them.
 #[derive(Drop)]
 pub struct CpuWords {
     pub hint: u32,

@@ -120,7 +120,8 @@ fn happen(core: &mut Core, event: &Event) -> Result<(), NoMemory>
     }
 }
 
-/// The core after an event, or none where the event isn't possible in this core.
+/// The core after an event, or none where the event isn't possible in this core. Answers `NoMemory` where memory runs
+/// out.
 pub fn step_core(core: &Core, event: &Event) -> Result<Option<Core>, NoMemory>
     ensures { IfOk result (λ o. MatchOption o (May (table core.now) event.now.seat event.now.step → ⊥) (λ next. Step (table core.now) event.now (table next))) }
 {
@@ -139,7 +140,8 @@ pub struct CoreRun {
     pub taken: usize,
 }
 
-/// Takes events up to the first impossible one. The invariant, where it holds of the core, holds after each event taken.
+/// Takes events up to the first impossible one. The invariant, where it holds of the core, holds after each event
+/// taken. Answers `NoMemory` where memory runs out.
 pub fn law_run(mut core: Core, events: &[Event]) -> Result<CoreRun, NoMemory>
     ensures ran { IfOk result (λ run. Ran (table core) (take run.taken events.now) (table run.core)) }
     ensures within { IfOk result (λ run. run.taken ≤ length events.now) }

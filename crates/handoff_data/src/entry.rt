@@ -142,7 +142,7 @@ impl Journal {
         self.entries.as_slice()
     }
 
-    /// Adds an entry at the end. A refusal leaves the journal as it was.
+    /// Adds an entry at the end. A refusal leaves the journal as it was. Answers `NoMemory` where memory runs out.
     pub fn push(&mut self, entry: Entry) -> Result<(), NoMemory>
         ensures ok { OnOk result (self.new ≡ self.old ++ entry ∷ []) }
         ensures err { OnErr result (self.new ≡ self.old) }

@@ -39,7 +39,7 @@ impl Lines {
         }
     }
 
-    /// Adds a line at the end. A refusal leaves the lines as they were.
+    /// Adds a line at the end. A refusal leaves the lines as they were. Answers `NoMemory` where memory runs out.
     pub fn push(&mut self, line: Line) -> Result<(), NoMemory>
         ensures ok { OnOk result (self.new ≡ self.old ++ line ∷ []) }
         ensures err { OnErr result (self.new ≡ self.old) }

@@ -5,7 +5,8 @@ ghost use Rattle.handoff_data.specs.Mask.{HasCpu, IsEmpty, has_cpu, mask_with, n
 
 use crate::numbers::CpuNo;
 
-/// A set of processors, whose numbers are below 16. It takes no memory. After Linux's `cpumask_t`.
+/// A set of processors, whose numbers are below 16. It takes no memory. After Linux's `cpumask_t`
+/// (`include/linux/cpumask.h`).
 #[derive(Clone, Copy, Debug, PartialEq, Eq, PartialOrd, Ord)]
 pub struct CpuMask {
     bits: u128,

@@ -3,7 +3,7 @@
 ghost use Rattle.std.specs.Prelude.{◌≡◌, ◌↔◌, IsTrue};
 ghost use Rattle.handoff_data.specs.State.{Matches};
 
-/// The state bits of a task, as in the word `__state` of Linux's `struct task_struct`.
+/// The state bits of a task, as in the word `__state` of Linux's `struct task_struct` (`include/linux/sched.h`).
 #[derive(Clone, Copy, Debug, PartialEq, Eq, PartialOrd, Ord, Hash)]
 pub struct State(pub u16);
 

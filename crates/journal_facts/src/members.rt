@@ -61,7 +61,7 @@ fn push_masks(members: &mut Vec<Fact>, entries: &[Entry]) -> Result<(), NoMemory
     Ok(())
 }
 
-/// The processors that the masks of all journals have, in order.
+/// The processors that the masks of all journals have, in order. Answers `NoMemory` where memory runs out.
 pub fn members_of(alloc: Global, seats: &[Journal]) -> Result<Facts, NoMemory>
     ensures told { IfOk result (λ facts. (f : Fact) → Contains facts f ↔ IsMember seats.now f) }
 {

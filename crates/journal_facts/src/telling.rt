@@ -151,7 +151,7 @@ fn push_journal(facts: &mut Vec<Fact>, seat: SeatNo, entries: &[Entry]) -> Resul
     Ok(())
 }
 
-/// What the journals of all seats tell, in order.
+/// What the journals of all seats tell, in order. Answers `NoMemory` where memory runs out.
 pub fn facts_of(alloc: Global, seats: &[Journal]) -> Result<Facts, NoMemory>
     requires { length seats.now < 2 ^ 32 }
     ensures told { IfOk result (λ facts. (f : Fact) → Contains facts f ↔ IsTold seats.now f) }

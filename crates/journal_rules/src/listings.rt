@@ -144,7 +144,7 @@ fn empty_marks(alloc: Global, count: usize) -> Result<Vec<Option<Mark>>, NoMemor
     Ok(vec![in alloc; None; count]?)
 }
 
-/// The marks before the first entry of all journals: nothing is taken yet.
+/// The marks before the first entry of all journals: nothing is taken yet. Answers `NoMemory` where memory runs out.
 pub fn no_marks(alloc: Global, journals: &Journals) -> Result<Vec<Option<Mark>>, NoMemory>
     ensures { IfOk result (λ marks. AreMarks journals.now 0 0 marks.items) }
 {

@@ -120,7 +120,7 @@ fn take_words(alloc: Global, draft: &mut Draft, word: &[u8], rest: &[u8]) -> Res
     }
 }
 
-/// Takes a line, if it may come next. One that may not changes nothing.
+/// Takes a line, if it may come next. One that may not changes nothing. Answers `NoMemory` where memory runs out.
 #[tactic(auto, unfolding(crate::specs::Lines::line_after))]
 pub fn take_line(alloc: Global, draft: &mut Draft, line: &[u8]) -> Result<bool, NoMemory>
     ensures { IfOk result (λ fits. Takes fits (line_after (progress draft.old) line.now) (progress draft.new)) }

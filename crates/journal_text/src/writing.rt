@@ -163,7 +163,7 @@ fn push_seats(alloc: Global, lines: &mut Lines, seats: &[Journal]) -> Result<(),
     Ok(())
 }
 
-/// The lines of the journals' text, without line feeds.
+/// The lines of the journals' text, without line feeds. Answers `NoMemory` where memory runs out.
 pub fn write_journal(alloc: Global, journals: &Journals) -> Result<Lines, NoMemory>
     ensures { IfOk result (λ lines. lines ≡ spelling journals.now) }
 {

@@ -79,7 +79,8 @@ ghost use Rattle.std.specs.Prelude.{◌+◌, All};
 ///
 /// The tasks are a forest, and each course has the plan of its task. The bodies are joined as the tasks say (`IsNet`):
 /// each has the number of its task, its plan, and an end of the ring to each task that it reads and from the one that
-/// reads it. Each ring has room for `room` items (`HasRoom`), and no body has had a turn (`IsFresh`).
+/// reads it. Each ring has room for `room` items (`HasRoom`), and no body has had a turn (`IsFresh`). Answers
+/// `NoMemory` where memory runs out.
 pub fn build_courses<W: Work>(
     alloc: Global,
     room: u32,
@@ -124,7 +125,7 @@ pub struct Net;
 
 impl Net {
     /// The rings of a script, which have its room, and a body for each of its tasks, which has had no turn. The script
-    /// stays: each body has a copy of its plan.
+    /// stays: each body has a copy of its plan. Answers `NoMemory` where memory runs out.
     pub fn build<W: Work>(alloc: Global, script: &Script) -> Result<Vec<Body<W>>, NoMemory>
         requires script { (bytes : List ℕ) × IsScript bytes script.now }
         ensures net { IfOk result (λ r. IsNet script.now.tasks (map lasting_of r.items)) }

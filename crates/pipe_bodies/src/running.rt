@@ -42,7 +42,8 @@ fn turn_one<W: Work>(bodies: &mut Vec<Body<W>>, place: usize) -> Result<(), NoMe
 }
 
 /// Gives the bodies a turn each, round after round, until all have ended, for at most so many rounds. Answers what each
-/// kept, which is what the plain run of the tasks gives, or none where the rounds weren't enough.
+/// kept, which is what the plain run of the tasks gives, or none where the rounds weren't enough. Answers `NoMemory`
+/// where memory runs out.
 pub fn run_bodies<W: Work>(
     alloc: Global,
     tasks: &[TaskDef],
@@ -67,7 +68,8 @@ pub fn run_bodies<W: Work>(
 }
 
 /// Gives bodies turns in a random order, which the seed tells, until all have ended, for at most so many turns. Answers
-/// what each kept, which is what the plain run of the tasks gives, or none where the turns weren't enough.
+/// what each kept, which is what the plain run of the tasks gives, or none where the turns weren't enough. Answers
+/// `NoMemory` where memory runs out.
 pub fn run_shuffled<W: Work>(
     alloc: Global,
     tasks: &[TaskDef],

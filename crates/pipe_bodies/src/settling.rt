@@ -97,7 +97,8 @@ use handoff_data::{Lines, NoMemory, TaskNo};
 use task_script::TaskDef;
 
 /// Takes apart bodies that have all ended, and answers what each of them kept: the lines of each task that no other
-/// reads, and none in the place of a task that is read. It is what the plain run of the tasks gives.
+/// reads, and none in the place of a task that is read. It is what the plain run of the tasks gives. Answers `NoMemory`
+/// where memory runs out.
 pub fn settle<W: Work>(
     alloc: Global,
     tasks: &[TaskDef],

@@ -114,6 +114,7 @@ impl<W: Work> Custom<W> {
         0
     }
 
+    /// Takes a line, and adds what it says of it to `out`. Answers `NoMemory` where memory runs out.
     pub fn eat(&mut self, line: &Line, out: &mut Lines) -> Result<(), NoMemory>
         ensures ok { OnOk result ((out.new ≡ out.old ++ says self.old 0 line.now)
             × (self.new ≡ next self.old 0 line.now)) }
@@ -122,6 +123,7 @@ impl<W: Work> Custom<W> {
         self.work.eat(line, out)
     }
 
+    /// Takes the end of its side, and adds what it says last to `out`. Answers `NoMemory` where memory runs out.
     pub fn end(&mut self, out: &mut Lines) -> Result<(), NoMemory>
         ensures ok { OnOk result (out.new ≡ out.old ++ last self.old 0) }
         ensures err { OnErr result ((out.new ≡ out.old) × (self.new ≡ self.old)) }

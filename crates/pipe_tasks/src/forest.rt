@@ -13,7 +13,7 @@ use task_script::{Plan, Script, TaskDef};
 
 /// Runs the tasks of a script one after another, each to its end before the next begins, and answers the lines of each
 /// task that no other reads, with no lines in the place of a task that is read. Each task is evaluated once: its lines
-/// are moved to its reader, which frees those that it doesn't pass on.
+/// are moved to its reader, which frees those that it doesn't pass on. Answers `NoMemory` where memory runs out.
 pub fn run_forest(alloc: Global, script: Script) -> Result<Vec<Lines>, NoMemory>
     requires { IsForest script.tasks }
     ensures { IfOk result (λ r. r.items ≡ forest_lines script.tasks) }

@@ -23,7 +23,8 @@ pub fn wanted_side(plan: &Plan) -> Option<u32>
 }
 
 /// Makes the next line of a source, or none where it has ended. The plan moves on with a line, and stays as it was
-/// where there is none, so that a source which has ended stays so. A refusal leaves it as it was too.
+/// where there is none, so that a source which has ended stays so. A refusal leaves it as it was too. Answers
+/// `NoMemory` where memory runs out.
 pub fn make_line(alloc: Global, plan: &mut Plan) -> Result<Option<Line>, NoMemory>
     requires { wants plan.old ≡ None }
     ensures line { IfOk result (λ r. MatchOption r (made plan.old ≡ None) (λ line. made plan.old ≡ Some (line, plan.new))) }
@@ -51,7 +52,7 @@ pub fn make_line(alloc: Global, plan: &mut Plan) -> Result<Option<Line>, NoMemor
 
 /// Gives a plan a line of the side that it wants: the lines that it puts out are added to `out`, and the plan moves on.
 /// The line is moved, and its bytes are changed in place or copied once where they get longer. A refusal leaves the
-/// plan and `out` as they were.
+/// plan and `out` as they were. Answers `NoMemory` where memory runs out.
 pub fn step_plan(
     alloc: Global,
     plan: &mut Plan,
@@ -73,7 +74,7 @@ pub fn step_plan(
 
 /// The line that a plan puts out for a line of the side that it wants, if it puts one out; it puts out no more than
 /// one. The line is moved, and its bytes are changed in place or copied once where they get longer. The plan stays:
-/// `move_plan` moves it on.
+/// `move_plan` moves it on. Answers `NoMemory` where memory runs out.
 pub fn said_line(
     alloc: Global,
     plan: &Plan,
@@ -128,7 +129,7 @@ pub fn move_plan(plan: &mut Plan)
 
 /// Tells a plan that the side that it wants has ended: the lines that it puts out for that are added to `out`. Answers
 /// whether the plan goes on, which is then moved on, and else stays as it was. A refusal leaves the plan and `out` as
-/// they were.
+/// they were. Answers `NoMemory` where memory runs out.
 pub fn end_plan(
     alloc: Global,
     plan: &mut Plan,

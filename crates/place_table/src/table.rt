@@ -32,7 +32,7 @@ impl Table {
     ghost use Rattle.handoff_data.specs.Moves.{MovesFrom, task_of as task_named};
     ghost use Rattle.place_table.specs.Table.{start_place, Applies, IsIllegal};
 
-    /// A table of this many tasks, each of them new and not busy.
+    /// A table of this many tasks, each of them new and not busy. Answers `NoMemory` where memory runs out.
     pub fn new(alloc: Global, tasks: u32) -> Result<Table, NoMemory>
         ensures { IfOk result (λ table. table ≡ replicate tasks start_place) }
     {

@@ -4,8 +4,8 @@ use Rattle.word_steps.specs.Folds.{task_held, queue_held, wait_held, current_tas
 use Rattle.word_steps.specs.Records.{Rec}
 use Rattle.task_words.specs.Untouched.{Untouched}
 
--- no wait queue, works or body was taken or given, and no condition raised; the current task has not left its queue; whom
--- the seat had passed on a walk it has passed still
+-- no wait queue, works or body was taken or given, and no condition raised; the current task has not left its queue;
+-- whom the seat had passed on a walk it has passed still
 pub record IsApart (old new : List Rec) : Type 0 where
   pub untouched : Untouched old new
   pub waits : wait_held new ≡ wait_held old

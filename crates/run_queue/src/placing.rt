@@ -9,7 +9,8 @@ use handoff_data::CpuNo;
 use task_words::{Kept, Pass, TaskGuard, Wk, load_cpu, store_cpu};
 
 /// Brings a task that is on no queue to a processor: its processor word is stored where it is another. It answers the
-/// processor that the word had. As Linux's `try_to_wake_up` calls `set_task_cpu` where the processor changes.
+/// processor that the word had. As Linux's `try_to_wake_up` calls `set_task_cpu` (`kernel/sched/core.c`) where the
+/// processor changes.
 pub fn place<B: Kept>(wk: &Wk<B>, pass: &mut Pass, task: &TaskGuard<B>, c: CpuNo) -> CpuNo
     requires of { IsOf wk.now pass.old }
     requires table { task.now.of ≡ wk.now.name }
@@ -18,6 +19,8 @@ pub fn place<B: Kept>(wk: &Wk<B>, pass: &mut Pass, task: &TaskGuard<B>, c: CpuNo
     ensures same { IsSame pass.old pass.new }
     ensures trace { pass.new.trace ≡ placed task.now.task result c pass.old.trace }
 {
+    // Both under the task's lock, which the guard shows, and off every queue: nobody's way to the task goes by this
+    // word now (moved under the switch, the wrong queue).
     let from = load_cpu(wk, pass, task.task());
     if from != c {
         store_cpu(wk, pass, task, c);

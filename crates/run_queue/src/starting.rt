@@ -31,6 +31,8 @@ fn queue_new<B: Kept, R: Wait>(rt: &R, wk: &Wk<B>, pass: &mut Pass, t: TaskNo, c
     ensures current { current_task pass.new.seat pass.new.trace ≡ current_task pass.old.seat pass.old.trace }
     ensures clear { task_to_clear pass.new.seat pass.new.trace ≡ task_to_clear pass.old.seat pass.old.trace }
 {
+    // TASK_RUNNING while T is still on no queue: who takes it from the queue finds it runnable (started twice,
+    // picked while waking).
     store_running(wk, pass, t);
     let mut queue = lock_queue(rt, wk, pass, c);
     queue_task(rt, wk, pass, &queue, t, Rq { on: 0, m: 0 });
@@ -38,8 +40,8 @@ fn queue_new<B: Kept, R: Wait>(rt: &R, wk: &Wk<B>, pass: &mut Pass, t: TaskNo, c
     queue.give(wk, pass);
 }
 
-/// Starts a new task on a processor, as Linux's `wake_up_new_task`: it is placed there, and put at the back of that
-/// processor's queue as TASK_RUNNING.
+/// Starts a new task on a processor, as Linux's `wake_up_new_task` (`kernel/sched/core.c`): it is placed there, and put
+/// at the back of that processor's queue as TASK_RUNNING.
 pub fn start<B: Kept, R: Wait>(rt: &R, wk: &Wk<B>, pass: &mut Pass, t: TaskNo, c: CpuNo) -> Start
     requires of { IsOf wk.now pass.old }
     requires task { t < wk.now.shape.tasks }
@@ -53,6 +55,8 @@ pub fn start<B: Kept, R: Wait>(rt: &R, wk: &Wk<B>, pass: &mut Pass, t: TaskNo, c
     ensures spare { pass.old.turn.spare ≤ pass.new.turn.spare + 1 }
 {
     let mut task = lock_task(rt, wk, pass, t);
+    // Both words under T's lock, the number too: a task at TASK_NEW whose number isn't 0 has been queued by another
+    // starter (started twice).
     let seen = load_state(wk, pass, t);
     if seen != State::TASK_NEW || load_rq(wk, pass, t).m != 0 {
         task.give(wk, pass);

@@ -44,7 +44,7 @@ pub fn is_since(acts: &[Act], fact: Act, end: Act) -> bool
     known
 }
 
-/// Makes a step the latest.
+/// Makes a step the latest. Answers `NoMemory` where memory runs out.
 pub fn note_act(acts: &mut Vec<Act>, act: Act) -> Result<(), NoMemory>
     ensures { OnOk result (acts.new.items ≡ with_act acts.old.items act) }
 {

@@ -51,7 +51,7 @@ pub fn set_body(held: &mut Held, t: Option<TaskNo>)
     held.body = t;
 }
 
-/// Adds the value of the lock of task `t`, as it was taken.
+/// Adds the value of the lock of task `t`, as it was taken. Answers `NoMemory` where memory runs out.
 pub fn hold_task(held: &mut Held, t: TaskNo, val: TaskVal) -> Result<(), NoMemory>
     ensures { OnOk result (held.new ≡ record held.old { tasks = held.old.tasks ++ record { t = t; val = val } ∷ [] }) }
 {
@@ -66,7 +66,7 @@ pub fn release_task(held: &mut Held, t: TaskNo)
     without_task(&mut held.tasks, t);
 }
 
-/// Adds the value of the queue's lock of processor `c`, as it was taken.
+/// Adds the value of the queue's lock of processor `c`, as it was taken. Answers `NoMemory` where memory runs out.
 pub fn hold_queue(held: &mut Held, c: CpuNo, val: QueueVal) -> Result<(), NoMemory>
     ensures { OnOk result (held.new ≡ record held.old { queues = held.old.queues ++ record { c = c; val = val } ∷ [] }) }
 {
@@ -81,7 +81,7 @@ pub fn release_queue(held: &mut Held, c: CpuNo)
     without_queue(&mut held.queues, c);
 }
 
-/// Adds the value of the works' lock of processor `c`, as it was taken.
+/// Adds the value of the works' lock of processor `c`, as it was taken. Answers `NoMemory` where memory runs out.
 pub fn hold_works(held: &mut Held, c: CpuNo, val: WorksVal) -> Result<(), NoMemory>
     ensures { OnOk result (held.new ≡ record held.old { works = held.old.works ++ record { c = c; val = val } ∷ [] }) }
 {
@@ -96,7 +96,7 @@ pub fn release_works(held: &mut Held, c: CpuNo)
     without_works(&mut held.works, c);
 }
 
-/// Adds the value of the wait queue's lock of condition `k`, as it was taken.
+/// Adds the value of the wait queue's lock of condition `k`, as it was taken. Answers `NoMemory` where memory runs out.
 pub fn hold_wait(held: &mut Held, k: CondNo, val: WaitVal) -> Result<(), NoMemory>
     ensures { OnOk result (held.new ≡ record held.old { waits = held.old.waits ++ record { k = k; val = val } ∷ [] }) }
 {

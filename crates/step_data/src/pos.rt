@@ -14,7 +14,7 @@ use crate::act::{is_since as is_act_since, note_act};
 use core_data::{Act, Asleep, Pos, TaskReads, Test, WaitEntry};
 use handoff_data::{CondNo, NoMemory, State, TaskNo};
 
-/// Makes a step the latest.
+/// Makes a step the latest. Answers `NoMemory` where memory runs out.
 pub fn note(pos: &mut Pos, act: Act) -> Result<(), NoMemory>
     ensures { OnOk result (pos.new ≡ record pos.old { recent = with_act pos.old.recent act }) }
 {
@@ -63,7 +63,7 @@ pub fn set_seen(pos: &mut Pos, state: Option<State>)
     pos.seen = state;
 }
 
-/// Sets what the task tested at the condition.
+/// Sets what the task tested at the condition. Answers `NoMemory` where memory runs out.
 pub fn set_test(pos: &mut Pos, test: Test) -> Result<(), NoMemory>
     ensures { OnOk result (pos.new ≡ record pos.old { tests = filter (is_other_test test) pos.old.tests ++ test ∷ [] }) }
 {
@@ -80,7 +80,8 @@ pub fn forget_sleep(pos: &mut Pos, t: TaskNo)
     without_sleeps(&mut pos.asleep, t);
 }
 
-/// At a give of condition `k`: tasks whose entry was taken out are no longer asleep there, and `sleeper` is.
+/// At a give of condition `k`: tasks whose entry was taken out are no longer asleep there, and `sleeper` is. Answers
+/// `NoMemory` where memory runs out.
 pub fn give_asleep(
     pos: &mut Pos,
     k: CondNo,
@@ -100,7 +101,7 @@ pub fn give_asleep(
     }
 }
 
-/// Sets what was read of the task.
+/// Sets what was read of the task. Answers `NoMemory` where memory runs out.
 pub fn set_reads(pos: &mut Pos, reads: TaskReads) -> Result<(), NoMemory>
     ensures { OnOk result (pos.new ≡ record pos.old { reads = filter (is_reads_of_other reads.t) pos.old.reads ++ reads ∷ [] }) }
 {

@@ -253,7 +253,8 @@ fn walk_if(core: &mut Core, s: SeatNo, k: CondNo, on: bool) -> Result<(), NoMemo
     Ok(())
 }
 
-/// Gives the lock of the wait queue of condition k, and puts its entries home.
+/// Gives the lock of the wait queue of condition k, and puts its entries home. Answers `NoMemory` where memory runs
+/// out.
 pub fn give_wait(core: &mut Core, s: SeatNo, k: CondNo, given: WaitVal) -> Result<(), NoMemory>
     requires { MayGiveWait (table core.old) s k given }
     ensures { OnOk result (table core.new ≡ give_wait (table core.old) s k given) }

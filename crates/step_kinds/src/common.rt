@@ -32,7 +32,8 @@ pub fn is_sleep(state: State) -> bool
     state.0 == 1 || state.0 == 2
 }
 
-/// What follows a store of a word of task t: what the seat has read of it holds no more.
+/// What follows a store of a word of task t: what the seat has read of it holds no more. Answers `NoMemory` where
+/// memory runs out.
 pub fn renew(core: &mut Core, s: SeatNo, t: TaskNo) -> Result<(), NoMemory>
     requires { s < (table core.old).seats }
     ensures { OnOk result (table core.new ≡ stored_word (table core.old) s t) }

@@ -92,7 +92,8 @@ fn read_state(core: &mut Core, s: SeatNo, t: TaskNo, state: State) -> Result<(),
     Ok(())
 }
 
-/// Loads the state of task t: what the seat notes of it, and Refused where it doesn't match the mask.
+/// Loads the state of task t: what the seat notes of it, and Refused where it doesn't match the mask. Answers
+/// `NoMemory` where memory runs out.
 pub fn load_state(
     core: &mut Core,
     s: SeatNo,
@@ -178,7 +179,7 @@ fn load_rq_so(
     Ok(())
 }
 
-/// Loads `on_rq` of task t, with the number of its changes.
+/// Loads `on_rq` of task t, with the number of its changes. Answers `NoMemory` where memory runs out.
 pub fn load_rq(core: &mut Core, s: SeatNo, t: TaskNo) -> Result<(), NoMemory>
     requires { (s < (table core.old).seats) × (t < (table core.old).tasks) }
     ensures { OnOk result (table core.new ≡ load_rq (table core.old) s t) }
@@ -224,7 +225,7 @@ fn load_busy_so(
     Ok(())
 }
 
-/// Loads the busy word of task t.
+/// Loads the busy word of task t. Answers `NoMemory` where memory runs out.
 pub fn load_busy(core: &mut Core, s: SeatNo, t: TaskNo) -> Result<(), NoMemory>
     requires { (s < (table core.old).seats) × (t < (table core.old).tasks) }
     ensures { OnOk result (table core.new ≡ load_busy (table core.old) s t) }
@@ -235,7 +236,7 @@ pub fn load_busy(core: &mut Core, s: SeatNo, t: TaskNo) -> Result<(), NoMemory>
     Ok(())
 }
 
-/// Loads the processor of task t.
+/// Loads the processor of task t. Answers `NoMemory` where memory runs out.
 pub fn load_cpu(core: &mut Core, s: SeatNo, t: TaskNo) -> Result<(), NoMemory>
     requires { (s < (table core.old).seats) × (t < (table core.old).tasks) }
     ensures { OnOk result (table core.new ≡ load_cpu (table core.old) s t) }
@@ -261,7 +262,7 @@ pub fn may_bump(core: &Core, s: SeatNo, k: CondNo) -> bool
     (s as usize) < seats(core) && (k as usize) < conds(core)
 }
 
-/// Raises condition k, whose counter wraps; the seat owes it a walk.
+/// Raises condition k, whose counter wraps; the seat owes it a walk. Answers `NoMemory` where memory runs out.
 pub fn bump(core: &mut Core, s: SeatNo, k: CondNo) -> Result<(), NoMemory>
     requires { MayBump (table core.old) s k }
     ensures { OnOk result (table core.new ≡ bump (table core.old) s k) }
@@ -272,7 +273,8 @@ pub fn bump(core: &mut Core, s: SeatNo, k: CondNo) -> Result<(), NoMemory>
     Ok(())
 }
 
-/// Loads the counter of condition k: the current task has tested it, where it has stored a sleep state.
+/// Loads the counter of condition k: the current task has tested it, where it has stored a sleep state. Answers
+/// `NoMemory` where memory runs out.
 pub fn load_cond(core: &mut Core, s: SeatNo, k: CondNo) -> Result<(), NoMemory>
     requires { MayBump (table core.old) s k }
     ensures { OnOk result (table core.new ≡ load_cond (table core.old) s k) }

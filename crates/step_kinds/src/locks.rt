@@ -62,7 +62,7 @@ fn begin_reads(core: &mut Core, s: SeatNo, t: TaskNo) -> Result<(), NoMemory>
     Ok(())
 }
 
-/// Takes the lock of task t, with its value.
+/// Takes the lock of task t, with its value. Answers `NoMemory` where memory runs out.
 pub fn take_task(core: &mut Core, s: SeatNo, t: TaskNo) -> Result<(), NoMemory>
     requires { MayTakeTask (table core.old) s t }
     ensures { OnOk result (table core.new ≡ take_task (table core.old) s t) }
@@ -192,7 +192,7 @@ pub fn unsee(core: &mut Core, s: SeatNo, c: CpuNo)
     }
 }
 
-/// Takes the lock of the queue of processor c, with the queue.
+/// Takes the lock of the queue of processor c, with the queue. Answers `NoMemory` where memory runs out.
 pub fn take_queue(core: &mut Core, s: SeatNo, c: CpuNo) -> Result<(), NoMemory>
     requires { MayTakeQueue (table core.old) s c }
     ensures { OnOk result (table core.new ≡ take_queue (table core.old) s c) }
@@ -205,7 +205,7 @@ pub fn take_queue(core: &mut Core, s: SeatNo, c: CpuNo) -> Result<(), NoMemory>
     Ok(())
 }
 
-/// Takes the lock of the works of processor c, with the works.
+/// Takes the lock of the works of processor c, with the works. Answers `NoMemory` where memory runs out.
 pub fn take_works(core: &mut Core, s: SeatNo, c: CpuNo) -> Result<(), NoMemory>
     requires { MayTakeWorks (table core.old) s c }
     ensures { OnOk result (table core.new ≡ take_works (table core.old) s c) }
@@ -216,7 +216,7 @@ pub fn take_works(core: &mut Core, s: SeatNo, c: CpuNo) -> Result<(), NoMemory>
     Ok(())
 }
 
-/// Takes the lock of the wait queue of condition k, with its entries.
+/// Takes the lock of the wait queue of condition k, with its entries. Answers `NoMemory` where memory runs out.
 pub fn take_wait(core: &mut Core, s: SeatNo, k: CondNo) -> Result<(), NoMemory>
     requires { MayTakeWait (table core.old) s k }
     ensures { OnOk result (table core.new ≡ take_wait (table core.old) s k) }

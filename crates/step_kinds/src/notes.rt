@@ -8,7 +8,7 @@ use core_data::{Act, Core, Test};
 use handoff_data::{CondNo, Entry, NoMemory, SeatNo, State, TaskNo};
 use step_stores::{forget_sleep, log, note, put_seen, set_test};
 
-/// Makes a step the latest of seat s, where `on`.
+/// Makes a step the latest of seat s, where `on`. Answers `NoMemory` where memory runs out.
 pub fn note_if(core: &mut Core, s: SeatNo, act: Act, on: bool) -> Result<(), NoMemory>
     requires { s < (table core.old).seats }
     ensures { OnOk result (table core.new ≡ noted_if on (table core.old) s act) }
@@ -19,7 +19,7 @@ pub fn note_if(core: &mut Core, s: SeatNo, act: Act, on: bool) -> Result<(), NoM
     Ok(())
 }
 
-/// Adds an entry to the journal of seat s, where `on`.
+/// Adds an entry to the journal of seat s, where `on`. Answers `NoMemory` where memory runs out.
 pub fn log_if(core: &mut Core, s: SeatNo, entry: Entry, on: bool) -> Result<(), NoMemory>
     requires { s < (table core.old).seats }
     ensures { OnOk result (table core.new ≡ logged_if on (table core.old) s entry) }
@@ -50,7 +50,7 @@ fn sleep(core: &mut Core, s: SeatNo, t: TaskNo) -> Result<(), NoMemory>
     Ok(())
 }
 
-/// The same, where `on`.
+/// The same, where `on`. Answers `NoMemory` where memory runs out.
 pub fn sleep_if(core: &mut Core, s: SeatNo, t: TaskNo, on: bool) -> Result<(), NoMemory>
     requires { s < (table core.old).seats }
     ensures { OnOk result (table core.new ≡ slept_if on (table core.old) s t) }
@@ -61,7 +61,7 @@ pub fn sleep_if(core: &mut Core, s: SeatNo, t: TaskNo, on: bool) -> Result<(), N
     Ok(())
 }
 
-/// Notes that seat s passed task t, where `on`.
+/// Notes that seat s passed task t, where `on`. Answers `NoMemory` where memory runs out.
 pub fn run_if(core: &mut Core, s: SeatNo, t: TaskNo, on: bool) -> Result<(), NoMemory>
     requires { s < (table core.old).seats }
     ensures { OnOk result (table core.new ≡ ran_if on (table core.old) s t) }
@@ -72,7 +72,7 @@ pub fn run_if(core: &mut Core, s: SeatNo, t: TaskNo, on: bool) -> Result<(), NoM
     Ok(())
 }
 
-/// Sets `v` as what task t tested at condition k, where `on`.
+/// Sets `v` as what task t tested at condition k, where `on`. Answers `NoMemory` where memory runs out.
 pub fn test_if(
     core: &mut Core,
     s: SeatNo,

@@ -93,7 +93,7 @@ fn queue_entry(words: TaskWords, t: TaskNo, c: CpuNo) -> Entry
     }
 }
 
-/// Queues task t.
+/// Queues task t. Answers `NoMemory` where memory runs out.
 pub fn queue_task(core: &mut Core, s: SeatNo, c: CpuNo, t: TaskNo) -> Result<(), NoMemory>
     requires { MayQueue (table core.old) s c t }
     ensures { OnOk result (table core.new ≡ queue_task (table core.old) s c t) }
@@ -147,7 +147,7 @@ fn dequeue_entry(state: Option<State>, changes: u64, t: TaskNo, c: CpuNo) -> Ent
     }
 }
 
-/// Takes the current task off its queue.
+/// Takes the current task off its queue. Answers `NoMemory` where memory runs out.
 pub fn dequeue_task(core: &mut Core, s: SeatNo, c: CpuNo, t: TaskNo) -> Result<(), NoMemory>
     requires { MayDequeue (table core.old) s c t }
     ensures { OnOk result (table core.new ≡ dequeue_task (table core.old) s c t) }
@@ -176,7 +176,7 @@ pub fn may_move(core: &Core, s: SeatNo, c: CpuNo, t: TaskNo, val: &QueueVal) -> 
         && words.changes < END
 }
 
-/// Takes task t off its queue, to be moved.
+/// Takes task t off its queue, to be moved. Answers `NoMemory` where memory runs out.
 pub fn move_task(
     core: &mut Core,
     s: SeatNo,
@@ -222,7 +222,7 @@ pub fn may_clear_busy(core: &Core, s: SeatNo, t: TaskNo) -> bool
     to_clear(core, s) == Some(t) && current(core, s) != Some(t) && task_words(core, t).runs < END
 }
 
-/// Clears the busy word of task t.
+/// Clears the busy word of task t. Answers `NoMemory` where memory runs out.
 pub fn clear_busy(core: &mut Core, s: SeatNo, t: TaskNo) -> Result<(), NoMemory>
     requires { MayClearBusy (table core.old) s t }
     ensures { OnOk result (table core.new ≡ clear_busy (table core.old) s t) }
@@ -255,7 +255,7 @@ fn pick(core: &mut Core, s: SeatNo, c: CpuNo, t: TaskNo, n: u64) -> Result<(), N
     Ok(())
 }
 
-/// Sets the busy word of task t, which becomes the seat's current task.
+/// Sets the busy word of task t, which becomes the seat's current task. Answers `NoMemory` where memory runs out.
 pub fn set_busy(core: &mut Core, s: SeatNo, c: CpuNo, t: TaskNo) -> Result<(), NoMemory>
     requires { (s < (table core.old).seats) × (t < (table core.old).tasks) × ((table core.old).runs t < 2 ^ 60) }
     ensures { OnOk result (table core.new ≡ set_busy (table core.old) s c t) }

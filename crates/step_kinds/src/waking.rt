@@ -49,7 +49,7 @@ fn store_own(core: &mut Core, s: SeatNo, t: TaskNo, state: State) -> Result<(), 
     Ok(())
 }
 
-/// Stores the state of the seat's current task.
+/// Stores the state of the seat's current task. Answers `NoMemory` where memory runs out.
 pub fn own_state(core: &mut Core, s: SeatNo, t: TaskNo, state: State) -> Result<(), NoMemory>
     requires { (s < (table core.old).seats) × (t < (table core.old).tasks) }
     ensures { OnOk result (table core.new ≡ own_state (table core.old) s t state) }
@@ -80,7 +80,8 @@ fn store_waking(core: &mut Core, s: SeatNo, t: TaskNo, m: u64) -> Result<(), NoM
     Ok(())
 }
 
-/// Stores TASK_WAKING as the state of task t: the seat claims the task, to queue it.
+/// Stores TASK_WAKING as the state of task t: the seat claims the task, to queue it. Answers `NoMemory` where memory
+/// runs out.
 pub fn claim(core: &mut Core, s: SeatNo, t: TaskNo) -> Result<(), NoMemory>
     requires { (s < (table core.old).seats) × (t < (table core.old).tasks) }
     ensures { OnOk result (table core.new ≡ claim (table core.old) s t) }
@@ -133,7 +134,7 @@ pub fn may_release(core: &Core, s: SeatNo, t: TaskNo) -> bool
     )
 }
 
-/// Stores TASK_RUNNING as the state of task t.
+/// Stores TASK_RUNNING as the state of task t. Answers `NoMemory` where memory runs out.
 pub fn release(core: &mut Core, s: SeatNo, t: TaskNo) -> Result<(), NoMemory>
     requires { (s < (table core.old).seats) × (t < (table core.old).tasks) }
     ensures { OnOk result (table core.new ≡ release (table core.old) s t) }
@@ -186,7 +187,7 @@ fn write_cpu(core: &mut Core, s: SeatNo, t: TaskNo, c: CpuNo) -> Result<(), NoMe
     Ok(())
 }
 
-/// Stores processor c as that of task t.
+/// Stores processor c as that of task t. Answers `NoMemory` where memory runs out.
 pub fn store_cpu(core: &mut Core, s: SeatNo, t: TaskNo, c: CpuNo) -> Result<(), NoMemory>
     requires { (s < (table core.old).seats) × (t < (table core.old).tasks) }
     ensures { OnOk result (table core.new ≡ store_cpu (table core.old) s t c) }

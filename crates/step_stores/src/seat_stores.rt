@@ -62,7 +62,7 @@ pub fn put_seen(core: &mut Core, s: SeatNo, state: Option<State>)
     pos::set_seen(&mut row.pos, state);
 }
 
-/// Adds an entry to the journal of seat s.
+/// Adds an entry to the journal of seat s. Answers `NoMemory` where memory runs out.
 pub fn log(core: &mut Core, s: SeatNo, entry: Entry) -> Result<(), NoMemory>
     requires { s < (table core.old).seats }
     ensures { OnOk result (table core.new ≡ record (table core.old) { journal = put (table core.old).journal s ((table core.old).journal s ++ entry ∷ []) }) }
@@ -72,7 +72,7 @@ pub fn log(core: &mut Core, s: SeatNo, entry: Entry) -> Result<(), NoMemory>
     Ok(())
 }
 
-/// Adds a value to those that seat s has out.
+/// Adds a value to those that seat s has out. Answers `NoMemory` where memory runs out.
 pub fn hold_task(core: &mut Core, s: SeatNo, t: TaskNo, val: TaskVal) -> Result<(), NoMemory>
     requires { s < (table core.old).seats }
     ensures { OnOk result (table core.new ≡ record (table core.old) { task_out = put_at (table core.old).task_out s t (Some val) }) }
@@ -91,7 +91,7 @@ pub fn release_task(core: &mut Core, s: SeatNo, t: TaskNo)
     held::release_task(&mut row.held, t);
 }
 
-/// Adds a value to those that seat s has out.
+/// Adds a value to those that seat s has out. Answers `NoMemory` where memory runs out.
 pub fn hold_queue(core: &mut Core, s: SeatNo, c: CpuNo, val: QueueVal) -> Result<(), NoMemory>
     requires { s < (table core.old).seats }
     ensures { OnOk result (table core.new ≡ record (table core.old) { queue_out = put_at (table core.old).queue_out s c (Some val) }) }
@@ -110,7 +110,7 @@ pub fn release_queue(core: &mut Core, s: SeatNo, c: CpuNo)
     held::release_queue(&mut row.held, c);
 }
 
-/// Adds a value to those that seat s has out.
+/// Adds a value to those that seat s has out. Answers `NoMemory` where memory runs out.
 pub fn hold_works(core: &mut Core, s: SeatNo, c: CpuNo, val: WorksVal) -> Result<(), NoMemory>
     requires { s < (table core.old).seats }
     ensures { OnOk result (table core.new ≡ record (table core.old) { works_out = put_at (table core.old).works_out s c (Some val) }) }
@@ -129,7 +129,7 @@ pub fn release_works(core: &mut Core, s: SeatNo, c: CpuNo)
     held::release_works(&mut row.held, c);
 }
 
-/// Adds a value to those that seat s has out.
+/// Adds a value to those that seat s has out. Answers `NoMemory` where memory runs out.
 pub fn hold_wait(core: &mut Core, s: SeatNo, l: CondNo, val: WaitVal) -> Result<(), NoMemory>
     requires { s < (table core.old).seats }
     ensures { OnOk result (table core.new ≡ record (table core.old) { wait_out = put_at (table core.old).wait_out s l (Some val) }) }
@@ -148,7 +148,7 @@ pub fn release_wait(core: &mut Core, s: SeatNo, l: CondNo)
     held::release_wait(&mut row.held, l);
 }
 
-/// Sets what a task tested at a condition.
+/// Sets what a task tested at a condition. Answers `NoMemory` where memory runs out.
 pub fn set_test(core: &mut Core, s: SeatNo, test: Test) -> Result<(), NoMemory>
     requires { s < (table core.old).seats }
     ensures { OnOk result (table core.new ≡ record (table core.old) { test = put (table core.old).test s (λ t l. if (t == test.t) && (l == test.k) then Some test.v else (table core.old).test s t l) }) }
@@ -168,7 +168,7 @@ pub fn forget_sleep(core: &mut Core, s: SeatNo, t: TaskNo)
 }
 
 /// At a give of the wait queue of a condition: the tasks whose entry was taken out no longer sleep there, and
-/// `sleeper` does.
+/// `sleeper` does. Answers `NoMemory` where memory runs out.
 pub fn give_asleep(
     core: &mut Core,
     s: SeatNo,
@@ -185,7 +185,7 @@ pub fn give_asleep(
     Ok(())
 }
 
-/// Sets what seat s has read of a task.
+/// Sets what seat s has read of a task. Answers `NoMemory` where memory runs out.
 pub fn set_reads(core: &mut Core, s: SeatNo, reads: TaskReads) -> Result<(), NoMemory>
     requires { s < (table core.old).seats }
     ensures { OnOk result (table core.new ≡ record (table core.old) { reads = put_at (table core.old).reads s reads.t reads }) }
@@ -195,7 +195,7 @@ pub fn set_reads(core: &mut Core, s: SeatNo, reads: TaskReads) -> Result<(), NoM
     Ok(())
 }
 
-/// Makes a step the latest of seat s.
+/// Makes a step the latest of seat s. Answers `NoMemory` where memory runs out.
 pub fn note(core: &mut Core, s: SeatNo, act: Act) -> Result<(), NoMemory>
     requires { s < (table core.old).seats }
     ensures { OnOk result (table core.new ≡ noted (table core.old) s act) }

@@ -3,8 +3,8 @@ use std::alloc::Global;
 use std::collections::BTreeMap;
 use std::marker::Model;
 
-/// Names in the order in which they were added, each with the number of its first place. Contracts see it as their list.
-/// A name is a part of the input, so that none is copied.
+/// Names in the order in which they were added, each with the number of its first place. Contracts see it as their
+/// list. A name is a part of the input, so that none is copied.
 #[derive(Drop)]
 pub struct Names<'a> {
     list: Vec<&'a [u8]>,
@@ -66,7 +66,8 @@ impl<'a> Names<'a> {
         self.numbers.contains_key(name)
     }
 
-    /// Adds a name at the end. One that is there already keeps its first number.
+    /// Adds a name at the end. One that is there already keeps its first number. Answers `NoMemory` where memory runs
+    /// out.
     pub fn push(&mut self, name: &'a [u8]) -> Result<(), NoMemory>
         ensures ok { OnOk result (self.new ≡ self.old ++ name.now ∷ []) }
         ensures err { OnErr result (self.new ≡ self.old) }

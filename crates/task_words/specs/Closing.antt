@@ -84,8 +84,8 @@ IsStillOwed passes =
     IsOwed (λ x. owes_walk (traces_in passes x)) (λ x. has_retaken (traces_in passes x))
     (λ x. has_passed (traces_in passes x))
 
--- the own entry of t at the condition k is exclusive: with such a one its seat s gave the wait queue, when it last did so
--- with t as its current task
+-- the own entry of t at the condition k is exclusive: with such a one its seat s gave the wait queue, when it last did
+-- so with t as its current task
 abbrev pub IsExclusive : List PassView → ℕ → ℕ → ℕ → Type 0
 IsExclusive passes s t k = gave_exclusively s (traces_in passes s) t k ≡ true
 

@@ -1,5 +1,5 @@
--- What a seat has done with a queue since it took the queue's lock, but for loads: each shape of it allows the give. v is
--- the queue as it was taken, and rs the trace before.
+-- What a seat has done with a queue since it took the queue's lock, but for loads: each shape of it allows the give. v
+-- is the queue as it was taken, and rs the trace before.
 use Rattle.std.specs.Prelude.{◌≡◌, ℕ, ◌<◌, ◌++◌, ◌∷◌, [], ◌⊎◌, Bool, true, false, List, Some, None, if◌then◌else◌}
 use Rattle.std.specs.List.{filter}
 use Rattle.core_data.specs.Queue.{Queue, times_in, is_other}
@@ -146,7 +146,8 @@ module _ (shape : Shape) (s : ℕ) (trace : List Rec) where
     pub home : body_held rs ≡ None
     pub gone : given ≡ record v { cur = None; left = Some t }
 
-  -- there is room for t at the back: it was on no queue and was queued on this one, or it is the seat's own current task
+  -- there is room for t at the back: it was on no queue and was queued on this one, or it is the seat's own current
+  -- task
   pub record IsQueuedHere (c t : ℕ) (now : Queue) : Type 0 where
     pub rs : List Rec
     pub on : ℕ

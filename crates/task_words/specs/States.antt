@@ -8,8 +8,8 @@ use Rattle.task_words.specs.Views.{TurnView, logged}
 use Rattle.word_steps.specs.Folds.{current_task, stays_queued, task_held, ended_known}
 use Rattle.word_steps.specs.Records.{Rec}
 
--- there is a current task, which the seat hasn't taken off its queue, and this may be its state; its death only under its
--- lock, once its body has ended
+-- there is a current task, which the seat hasn't taken off its queue, and this may be its state; its death only under
+-- its lock, once its body has ended
 pub record IsOwnStore (s : ℕ) (trace : List Rec) (state : State) : Type 0 where
   pub runs : IsSome (current_task s trace)
   pub stays : stays_queued trace ≡ true

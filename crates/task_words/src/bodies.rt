@@ -25,8 +25,8 @@ pub fn body_out<B: Kept>(wk: &Wk<B>, pass: &mut Pass) -> BodyOut<B>
     word_table::body_out(&wk.words, &mut pass.token, t)
 }
 
-/// Puts the body of the seat's current task back in its slot. It keeps what it keeps for good, and where it had ended it
-/// has still.
+/// Puts the body of the seat's current task back in its slot. It keeps what it keeps for good, and where it had ended
+/// it has still.
 pub fn body_home<B: Kept>(wk: &Wk<B>, pass: &mut Pass, out: BodyOut<B>)
     requires of { IsOf wk.now pass.old }
     requires out_of { out.of ≡ wk.now.name }

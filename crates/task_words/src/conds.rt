@@ -16,6 +16,7 @@ pub fn load_cond<B: Kept>(wk: &Wk<B>, pass: &mut Pass, k: CondNo) -> u64
     ensures same { IsSame pass.old pass.new }
     ensures trace { pass.new.trace ≡ LoadedCond k result ∷ pass.old.trace }
 {
+    // Who tests before it sleeps has its entry in and its sleep state stored by now (the test before the store).
     load::<B, LoadCond>(&wk.words, &mut pass.token, k)
 }
 
@@ -27,5 +28,6 @@ pub fn bump_cond<B: Kept>(wk: &Wk<B>, pass: &mut Pass, k: CondNo) -> u64
     ensures same { IsSame pass.old pass.new }
     ensures trace { pass.new.trace ≡ Bumped k result ∷ pass.old.trace }
 {
+    // The walk comes after it, never before (the walk before the raise).
     fetch_add::<B, BumpCond>(&wk.words, &mut pass.token, k)
 }

@@ -96,8 +96,8 @@ impl<B: Kept> QueueGuard<B> {
         set_busy(rt, wk, pass, self, t)
     }
 
-    /// Makes the task that stands as the next of the seat's own queue, just taken, the seat's current task, and sets its
-    /// busy word: one that was put there without being picked. It answers the number of changes before.
+    /// Makes the task that stands as the next of the seat's own queue, just taken, the seat's current task, and sets
+    /// its busy word: one that was put there without being picked. It answers the number of changes before.
     pub fn pick_cur<R: Wait>(&self, rt: &R, wk: &Wk<B>, pass: &mut Pass, t: TaskNo) -> u64
         requires of { IsOf wk.now pass.old }
         requires table { self.now.of ≡ wk.now.name }

@@ -1,4 +1,13 @@
 //! What locks guard, while they are held: it is lent where it lies.
+//!
+//! | Token | Made by | Ended by | So that nobody forgets to |
+//! |---|---|---|---|
+//! | `TaskGuard` | `lock_task` | `give`, `give_queued` | give the lock, with T settled |
+//! | `QueueGuard` | `lock_queue` | `give`, `give_woken` and its like | give the lock, with a queue that fits |
+//! | `WorksGuard` | `lock_works` | `give` | give the lock, with the works as they were |
+//! | `WaitGuard` | `lock_wait` | `give`, `give_entered` | give the lock, with the entries as they now are |
+//!
+//! None has a `Drop`: one that is let go is refused where it is let go.
 ghost use Rattle.std.specs.Prelude.{◌≡◌};
 ghost use Rattle.std.specs.Borrow.{sem};
 
@@ -8,8 +17,8 @@ use std::marker::Model;
 use word_steps::{QueueBox, TaskBox, WaitQueue, WorksBox};
 use word_table::{Kept, Taken};
 
-/// What a task's lock guards, while the lock is held. It has no `Drop`, so it ends in `give`. Contracts see its table, the
-/// task, and the value under the lock.
+/// What a task's lock guards, while the lock is held. It has no `Drop`, so it ends in `give`. Contracts see its table,
+/// the task, and the value under the lock.
 pub struct TaskGuard<B> {
     pub(crate) taken: Taken<B>,
     pub(crate) task: TaskNo,

@@ -9,6 +9,8 @@
 //! `Queues` (what a seat did with a queue), `Needs` (room that calls ask for), `Untouched` (the frame that wake-ups,
 //! starts and walks share), `Between` and `Closing` (what holds between steps, and at the end). `proofs/`: `Finer`,
 //! `Read` (loads between a take and a give), `Allowed`, `Frames`, `Ends`, `Sleepers`.
+//!
+//! In comments T is the task, and what stands in brackets is the race of `docs/PROTOCOLS.md` that the order bars.
 #![tactic(auto)]
 
 mod bodies;

@@ -48,9 +48,9 @@ fn passes_of(alloc: Global, tokens: Vec<Token>, tasks: u32) -> Result<Vec<Pass>,
 }
 
 impl<B: Kept> Wk<B> {
-    /// A new table of this shape, with these bodies of its tasks, and the passes of its seats in their order, each without
-    /// a current task. Each task is TASK_NEW and may run on each processor; each processor is active; each lock is free.
-    /// All memory of the table is taken here.
+    /// A new table of this shape, with these bodies of its tasks, and the passes of its seats in their order, each
+    /// without a current task. Each task is TASK_NEW and may run on each processor; each processor is active; each lock
+    /// is free. All memory of the table is taken here.
     pub fn new(alloc: Global, shape: &Shape, bodies: Vec<B>) -> Result<(Wk<B>, Vec<Pass>), NoMemory>
         requires shape { IsShape shape.now }
         requires tasks { length bodies.items ≡ shape.now.tasks }

@@ -23,9 +23,9 @@ pub struct BusyWord {
     pub n: u64,
 }
 
-/// The state of a task, as Linux's `READ_ONCE(p->__state)`. The seat's own current task, while it is queued, runs, is new,
-/// or has stored a sleep state or TASK_DEAD; where the seat has stored a state since it picked it, it has that one, or was
-/// woken since, but for a TASK_DEAD, which stays.
+/// The state of a task, as Linux's `READ_ONCE(p->__state)` (`include/linux/sched.h`). The seat's own current task,
+/// while it is queued, runs, is new, or has stored a sleep state or TASK_DEAD; where the seat has stored a state since
+/// it picked it, it has that one, or was woken since, but for a TASK_DEAD, which stays.
 pub fn load_state<B: Kept>(wk: &Wk<B>, pass: &mut Pass, t: TaskNo) -> State
     requires of { IsOf wk.now pass.old }
     requires task { t < wk.now.shape.tasks }
@@ -54,7 +54,7 @@ pub fn load_rq<B: Kept>(wk: &Wk<B>, pass: &mut Pass, t: TaskNo) -> Rq
     }
 }
 
-/// The busy word of a task, as Linux's `p->on_cpu`.
+/// The busy word of a task, as Linux's `p->on_cpu` (`include/linux/sched.h`).
 pub fn load_busy<B: Kept>(wk: &Wk<B>, pass: &mut Pass, t: TaskNo) -> BusyWord
     requires of { IsOf wk.now pass.old }
     requires task { t < wk.now.shape.tasks }
@@ -68,7 +68,7 @@ pub fn load_busy<B: Kept>(wk: &Wk<B>, pass: &mut Pass, t: TaskNo) -> BusyWord
     }
 }
 
-/// The processor of a task, as Linux's `task_cpu`.
+/// The processor of a task, as Linux's `task_cpu` (`include/linux/sched.h`).
 pub fn load_cpu<B: Kept>(wk: &Wk<B>, pass: &mut Pass, t: TaskNo) -> CpuNo
     requires of { IsOf wk.now pass.old }
     requires task { t < wk.now.shape.tasks }

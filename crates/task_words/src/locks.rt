@@ -1,4 +1,15 @@
 //! Locks, taken and given.
+//!
+//! Lock order. A seat takes a lock only while each lock that it has stands above it here:
+//!
+//! | Rank | Lock | Taken by | Several at once |
+//! |---|---|---|---|
+//! | 1 | of a condition's wait queue | `lock_wait` | never |
+//! | 2 | of a task | `lock_task` | the lower number first |
+//! | 3 | of a processor's queue | `lock_queue` | never |
+//! | 4 | of a processor's works | `lock_works` | never |
+//!
+//! The callers keep it, and no contract asks for it: deadlock isn't excluded by proof (crossed locks).
 ghost use Rattle.std.specs.Prelude.{◌≡◌, ◌<◌, ◌∷◌, None, unwrap_or};
 ghost use Rattle.task_words.specs.Views.{IsOf, IsSame};
 ghost use Rattle.word_rule.specs.May.{MayGiveTaskVal, MayGiveQueueVal, MayGiveWorksVal, MayGiveWaitVal};
@@ -14,7 +25,8 @@ use handoff_data::{CondNo, CpuNo, TaskNo};
 use std::sync::Wait;
 use word_table::{Kept, QueueLock, TaskLock, WaitLock, WorksLock, give, take};
 
-/// Takes the lock of a task, as Linux's `raw_spin_lock(&p->pi_lock)`, and waits until it is free.
+/// Takes the lock of a task, as Linux's `raw_spin_lock(&p->pi_lock)` (`kernel/sched/core.c`), and waits until it is
+/// free.
 pub fn lock_task<B: Kept, R: Wait>(rt: &R, wk: &Wk<B>, pass: &mut Pass, t: TaskNo) -> TaskGuard<B>
     requires of { IsOf wk.now pass.old }
     requires task { t < wk.now.shape.tasks }
@@ -29,7 +41,8 @@ pub fn lock_task<B: Kept, R: Wait>(rt: &R, wk: &Wk<B>, pass: &mut Pass, t: TaskN
     TaskGuard { taken, task: t }
 }
 
-/// Takes the lock of a processor's queue, as Linux's `raw_spin_rq_lock`, and waits until it is free.
+/// Takes the lock of a processor's queue, as Linux's `raw_spin_rq_lock` (`kernel/sched/sched.h`), and waits until it is
+/// free.
 pub fn lock_queue<B: Kept, R: Wait>(rt: &R, wk: &Wk<B>, pass: &mut Pass, c: CpuNo) -> QueueGuard<B>
     requires of { IsOf wk.now pass.old }
     requires processor { c < wk.now.shape.cpus }
@@ -44,7 +57,8 @@ pub fn lock_queue<B: Kept, R: Wait>(rt: &R, wk: &Wk<B>, pass: &mut Pass, c: CpuN
     QueueGuard { taken, cpu: c }
 }
 
-/// Takes the lock of a processor's works, as Linux's `raw_spin_lock(&stopper->lock)`, and waits until it is free.
+/// Takes the lock of a processor's works, as Linux's `raw_spin_lock(&stopper->lock)` (`kernel/stop_machine.c`), and
+/// waits until it is free.
 pub fn lock_works<B: Kept, R: Wait>(rt: &R, wk: &Wk<B>, pass: &mut Pass, c: CpuNo) -> WorksGuard<B>
     requires of { IsOf wk.now pass.old }
     requires processor { c < wk.now.shape.cpus }
@@ -58,7 +72,8 @@ pub fn lock_works<B: Kept, R: Wait>(rt: &R, wk: &Wk<B>, pass: &mut Pass, c: CpuN
     WorksGuard { taken, cpu: c }
 }
 
-/// Takes the lock of a condition's wait queue, as Linux's `spin_lock(&wq_head->lock)`, and waits until it is free.
+/// Takes the lock of a condition's wait queue, as Linux's `spin_lock(&wq_head->lock)` (`kernel/sched/wait.c`), and
+/// waits until it is free.
 pub fn lock_wait<B: Kept, R: Wait>(rt: &R, wk: &Wk<B>, pass: &mut Pass, k: CondNo) -> WaitGuard<B>
     requires of { IsOf wk.now pass.old }
     requires condition { k < wk.now.shape.conds }
@@ -84,6 +99,8 @@ impl<B: Kept> TaskGuard<B> {
         ensures trace { pass.new.trace ≡ Gave self.task (val.Task (unwrap_or (task_held pass.old.trace self.task) self.val)) (val.Task self.val) ∷ pass.old.trace }
     {
         let TaskGuard { taken, task } = self;
+        // T is settled by now, and never off every queue at TASK_WAKING: who takes the lock next can wake it (two
+        // wakers).
         give::<B, TaskLock>(&wk.words, &mut pass.token, task, taken);
     }
 }

@@ -1,4 +1,12 @@
 //! The token of a seat, with the entries of its turn.
+//!
+//! | Token | Made by | Ended by | So that nobody forgets to |
+//! |---|---|---|---|
+//! | `Pass` | `Wk::new`, one a seat | `Wk::close` | give back what a seat holds: `close` wants all, holding nothing |
+//! | an entry of the `Turn` | calls that make entries | `Pass::clear_turn` | tell it, and have room for the next ones |
+//!
+//! A turn of entries is no turn of a body (`Body::turn`). A pass has a `Drop`; one that is let go leaves a table that
+//! nobody can close.
 ghost use Rattle.std.specs.Prelude.{◌≡◌, ◌+◌, ◌*◌, ◌++◌, ◌<◌, [], length, slice_get, IfSome};
 ghost use Rattle.task_words.specs.Views.{logged};
 ghost use Rattle.word_steps.specs.Folds.{current_task, journal};
@@ -95,8 +103,8 @@ impl Pass {
         &self.turn
     }
 
-    /// Forgets the entries of the turn, which are told with it, so that the whole journal is. The room of the turn is then
-    /// free: for four entries a task and sixteen. What the seat did stays.
+    /// Forgets the entries of the turn, which are told with it, so that the whole journal is. The room of the turn is
+    /// then free: for four entries a task and sixteen. What the seat did stays.
     pub fn clear_turn(&mut self)
         ensures cleared { self.new ≡ record self.old { turn = record { entries = []; spare = 4 * self.old.shape.tasks + 16 }; told = self.old.told ++ self.old.turn.entries } }
         ensures all { self.new.told ≡ journal self.old.seat self.old.trace }

@@ -135,10 +135,10 @@ fn queue_entry(t: TaskNo, c: CpuNo, seen: Rq) -> Entry
     }
 }
 
-/// Queues a task, as Linux's `activate_task` stores TASK_ON_RQ_QUEUED: a new one, one that the seat wakes, or one that it
-/// moves. The caller has the locks of the task and of the queue, whose processor is the task's; `seen` is the queue word
-/// as it has read or stored it under the task's lock. No other seat changes the word meanwhile, so the call waits only
-/// where its number has come to 2^60.
+/// Queues a task, as Linux's `activate_task` (`kernel/sched/core.c`) stores TASK_ON_RQ_QUEUED: a new one, one that the
+/// seat wakes, or one that it moves. The caller has the locks of the task and of the queue, whose processor is the
+/// task's; `seen` is the queue word as it has read or stored it under the task's lock. No other seat changes the word
+/// meanwhile, so the call waits only where its number has come to 2^60.
 pub fn queue_task<B: Kept, R: Wait>(
     rt: &R,
     wk: &Wk<B>,
@@ -164,8 +164,9 @@ pub fn queue_task<B: Kept, R: Wait>(
     pass.turn.log(queue_entry(t, queue.cpu, seen));
 }
 
-/// Takes the seat's current task off its queue, as Linux's `deactivate_task`: it sleeps, or, where `dies`, it is dead, by
-/// the state that the seat read under its queue's lock. It answers the number of changes before.
+/// Takes the seat's current task off its queue, as Linux's `deactivate_task` (`kernel/sched/core.c`): it sleeps, or,
+/// where `dies`, it is dead, by the state that the seat read under its queue's lock. It answers the number of changes
+/// before.
 pub fn dequeue_task<B: Kept, R: Wait>(
     rt: &R,
     wk: &Wk<B>,
@@ -184,6 +185,8 @@ pub fn dequeue_task<B: Kept, R: Wait>(
     ensures room { result < 2 ^ 60 }
     ensures spare { pass.old.turn.spare ≤ pass.new.turn.spare + 1 }
 {
+    // The sleep state that allows it was read under this hold of the queue's lock: another may have made T runnable
+    // since an earlier look (a state that was never read, a wake between test and sleep).
     let m = change_rq::<B, DequeueTask, R>(rt, wk, &mut pass.token, t, 0) / 4;
     let c = pass.token.seat();
     pass.turn.log(if dies {
@@ -194,8 +197,8 @@ pub fn dequeue_task<B: Kept, R: Wait>(
     m
 }
 
-/// Takes a waiting task out of a queue, to be moved, as Linux's `deactivate_task` with TASK_ON_RQ_MIGRATING. It answers
-/// the number of changes before.
+/// Takes a waiting task out of a queue, to be moved, as Linux's `deactivate_task` (`kernel/sched/core.c`) with
+/// TASK_ON_RQ_MIGRATING. It answers the number of changes before.
 pub fn move_task<B: Kept, R: Wait>(
     rt: &R,
     wk: &Wk<B>,
@@ -214,6 +217,8 @@ pub fn move_task<B: Kept, R: Wait>(
     ensures spare { pass.old.turn.spare ≤ pass.new.turn.spare + 1 }
     ensures room { result < 2 ^ 60 }
 {
+    // T isn't busy, as read under the queue's lock (moved under the switch), and this seat keeps T's lock until T is
+    // queued again: who reads 2 could not find T (lost on the way).
     let m = change_rq::<B, MoveTask, R>(rt, wk, &mut pass.token, t, 2) / 4;
     pass.turn.log(Entry::Out {
         t,
@@ -223,8 +228,8 @@ pub fn move_task<B: Kept, R: Wait>(
     m
 }
 
-/// Sets the busy word of the task that is next in the seat's own queue, which then is the seat's current task, as Linux's
-/// `prepare_task` stores `on_cpu`. It answers the number of changes before.
+/// Sets the busy word of the task that is next in the seat's own queue, which then is the seat's current task, as
+/// Linux's `prepare_task` (`kernel/sched/core.c`) stores `on_cpu`. It answers the number of changes before.
 pub fn set_busy<B: Kept, R: Wait>(
     rt: &R,
     wk: &Wk<B>,
@@ -244,6 +249,8 @@ pub fn set_busy<B: Kept, R: Wait>(
     ensures turn { pass.new.turn ≡ logged (entry.Pick t (result + 1) pass.old.seat) pass.old.turn }
     ensures spare { pass.old.turn.spare ≤ pass.new.turn.spare + 1 }
 {
+    // Under its queue's lock T goes from waiting to busy in one: whoever takes that lock sees one or the other
+    // (picked without the lock).
     let n = change_busy(rt, wk, &mut pass.token, t);
     pass.current = Some(t);
     let c = pass.token.seat();
@@ -306,8 +313,8 @@ fn change_busy<B: Kept, R: Wait>(rt: &R, wk: &Wk<B>, token: &mut Token, t: TaskN
     busy_again(rt, wk, token, t)
 }
 
-/// Clears the busy word of the task that the seat has switched out, as Linux's `finish_task`. It answers the number of
-/// changes before.
+/// Clears the busy word of the task that the seat has switched out, as Linux's `finish_task` (`kernel/sched/core.c`).
+/// It answers the number of changes before.
 pub fn clear_busy<B: Kept>(wk: &Wk<B>, pass: &mut Pass, t: TaskNo) -> u64
     requires of { IsOf wk.now pass.old }
     requires task { t < wk.now.shape.tasks }
@@ -318,6 +325,8 @@ pub fn clear_busy<B: Kept>(wk: &Wk<B>, pass: &mut Pass, t: TaskNo) -> u64
     ensures turn { pass.new.turn ≡ logged (entry.Finish t (result + 1) pass.old.seat) pass.old.turn }
     ensures spare { pass.old.turn.spare ≤ pass.new.turn.spare + 1 }
 {
+    // The last word of T that this seat touches: a waker waits for it, and then may queue T anywhere
+    // (forgotten busy word, queued while busy).
     let n = fetch_add::<B, word_kinds::ClearBusy>(&wk.words, &mut pass.token, t) / 2;
     let c = pass.token.seat();
     pass.turn.log(Entry::Finish { t, n: n + 1, c });

@@ -20,7 +20,8 @@ use word_kinds::{
 };
 use word_table::{Kept, Token, load, store};
 
-/// Stores the state of the seat's own current task, as Linux's `set_current_state`. TASK_DEAD needs the task's lock.
+/// Stores the state of the seat's own current task, as Linux's `set_current_state` (`include/linux/sched.h`). TASK_DEAD
+/// needs the task's lock.
 pub fn set_state<B: Kept>(wk: &Wk<B>, pass: &mut Pass, state: State)
     requires of { IsOf wk.now pass.old }
     requires may { IsOwnStore pass.old.seat pass.old.trace state }
@@ -30,10 +31,13 @@ pub fn set_state<B: Kept>(wk: &Wk<B>, pass: &mut Pass, state: State)
     let Some(t) = pass.current else {
         unreachable!()
     };
+    // A sleep state needs no lock, since its seat reads it again under its queue's lock before T leaves. TASK_DEAD
+    // needs T's own: no waker is then between its match and its store (death under a wake).
     store::<B, StoreOwn>(&wk.words, &mut pass.token, t, state.0 as u64);
 }
 
-/// Stores TASK_RUNNING as the state of the seat's own current task, as Linux's `__set_current_state(TASK_RUNNING)`.
+/// Stores TASK_RUNNING as the state of the seat's own current task, as Linux's `__set_current_state(TASK_RUNNING)`
+/// (`include/linux/sched.h`).
 pub fn set_running<B: Kept>(wk: &Wk<B>, pass: &mut Pass)
     requires of { IsOf wk.now pass.old }
     requires may { IsOwnStore pass.old.seat pass.old.trace running }
@@ -56,6 +60,7 @@ pub fn store_waking<B: Kept>(wk: &Wk<B>, pass: &mut Pass, t: TaskNo, m: u64)
     ensures turn { pass.new.turn ≡ logged (entry.Wake t m) pass.old.turn }
     ensures spare { pass.old.turn.spare ≤ pass.new.turn.spare + 1 }
 {
+    // From here T is this seat's: no mask matches TASK_WAKING, and nobody queues T meanwhile (two wakers).
     store::<B, StoreWaking>(&wk.words, &mut pass.token, t, 0x200);
     pass.turn.log(Entry::Wake { t, m });
 }
@@ -68,10 +73,13 @@ pub fn store_running<B: Kept>(wk: &Wk<B>, pass: &mut Pass, t: TaskNo)
     ensures same { IsSame pass.old pass.new }
     ensures trace { pass.new.trace ≡ Released t ∷ pass.old.trace }
 {
+    // Under the lock of T's queue, or of a new T: the seat of T's processor is not between reading a sleep state and
+    // taking T off by it (a bare TASK_RUNNING).
     store::<B, StoreRunning>(&wk.words, &mut pass.token, t, 0);
 }
 
-/// Stores the processor of a task that is on no queue, under its lock, as Linux's `set_task_cpu`.
+/// Stores the processor of a task that is on no queue, under its lock, as Linux's `set_task_cpu`
+/// (`kernel/sched/core.c`).
 pub fn store_cpu<B: Kept>(wk: &Wk<B>, pass: &mut Pass, task: &TaskGuard<B>, c: CpuNo)
     requires of { IsOf wk.now pass.old }
     requires table { task.now.of ≡ wk.now.name }
@@ -80,6 +88,7 @@ pub fn store_cpu<B: Kept>(wk: &Wk<B>, pass: &mut Pass, task: &TaskGuard<B>, c: C
     ensures same { IsSame pass.old pass.new }
     ensures trace { pass.new.trace ≡ StoredCpu task.now.task c ∷ pass.old.trace }
 {
+    // T is off every queue and its last processor has switched away from it (moved under the switch).
     store::<B, word_kinds::StoreCpu>(&wk.words, &mut pass.token, task.task, c as u64);
 }
 

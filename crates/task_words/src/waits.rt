@@ -38,7 +38,8 @@ pub fn rest_on_rq<B: Kept, R: Wait>(rt: &R, wk: &Wk<B>, backoff: &Backoff, t: Ta
     rest(rt, &wk.words, backoff, t, LoadRq::column(), low);
 }
 
-/// Waits until the busy word of a task is clear, as Linux's `smp_cond_load_acquire(&p->on_cpu, !VAL)`.
+/// Waits until the busy word of a task is clear, as Linux's `smp_cond_load_acquire(&p->on_cpu, !VAL)`
+/// (`kernel/sched/core.c`).
 pub fn wait_clear<B: Kept, R: Wait>(rt: &R, wk: &Wk<B>, pass: &mut Pass, t: TaskNo)
     requires of { IsOf wk.now pass.old }
     requires task { t < wk.now.shape.tasks }

@@ -4,8 +4,8 @@ use Rattle.run_queue.specs.Rests.{IsApart}
 use Rattle.word_steps.specs.Folds.{task_held, queue_held, current_task, task_to_clear}
 use Rattle.word_steps.specs.Records.{Rec}
 
--- no task's lock is taken or given, no queue's lock is held after it where none was before, the same task is current and
--- the same busy word to clear
+-- no task's lock is taken or given, no queue's lock is held after it where none was before, the same task is current
+-- and the same busy word to clear
 pub record Keeps (s : ℕ) (old new : List Rec) : Type 0 where
   pub held : task_held new ≡ task_held old
   pub free : ((c : ℕ) → queue_held old c ≡ None) → (c : ℕ) → queue_held new c ≡ None

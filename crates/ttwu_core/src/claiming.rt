@@ -50,7 +50,7 @@ fn await_clear<B: Kept, R: Wait>(rt: &R, wk: &Wk<B>, pass: &mut Pass, t: TaskNo)
 }
 
 /// Claims a task that is off every queue after `m` changes, and waits until no processor is busy with it, as Linux's
-/// `try_to_wake_up` stores TASK_WAKING and then waits for `p->on_cpu` to be clear.
+/// `try_to_wake_up` stores TASK_WAKING and then waits for `p->on_cpu` to be clear (`kernel/sched/core.c`).
 pub fn claim<B: Kept, R: Wait>(rt: &R, wk: &Wk<B>, pass: &mut Pass, t: TaskNo, m: u64)
     requires of { IsOf wk.now pass.old }
     requires task { t < wk.now.shape.tasks }
@@ -65,6 +65,8 @@ pub fn claim<B: Kept, R: Wait>(rt: &R, wk: &Wk<B>, pass: &mut Pass, t: TaskNo, m
     ensures moving { is_moving pass.new.trace ≡ is_moving pass.old.trace }
     ensures numbers { number_read pass.new.trace ≡ number_read pass.old.trace }
 {
+    // The busy word counts only where it is read after TASK_WAKING: what was read before may be older than T's last run
+    // (busy before `on_rq`). While it is set, T's last processor is still switching away from T (queued while busy).
     store_waking(wk, pass, t, m);
     await_clear(rt, wk, pass, t);
 }
@@ -80,7 +82,8 @@ fn pointer_of(val: &TaskVal) -> CpuMask
     }
 }
 
-/// The processor that a woken task is put on, as Linux's `select_task_rq`, with every processor active.
+/// The processor that a woken task is put on, as Linux's `select_task_rq` (`kernel/sched/core.c`), with every processor
+/// active.
 pub fn choose<B: Kept>(wk: &Wk<B>, val: &TaskVal) -> CpuNo
     ensures chosen { IsChosen val.now wk.now.shape result }
     ensures processor { result < wk.now.shape.cpus }
@@ -89,7 +92,8 @@ pub fn choose<B: Kept>(wk: &Wk<B>, val: &TaskVal) -> CpuNo
     fallback(val.wake_cpu, &pointer_of(val), false, &all, &all, &all).0
 }
 
-/// Puts a claimed task at the back of its processor's queue, as Linux's `ttwu_queue` and `ttwu_do_activate`.
+/// Puts a claimed task at the back of its processor's queue, as Linux's `ttwu_queue` and `ttwu_do_activate`
+/// (`kernel/sched/core.c`).
 pub fn queue_woken<B: Kept, R: Wait>(
     rt: &R,
     wk: &Wk<B>,
@@ -116,8 +120,12 @@ pub fn queue_woken<B: Kept, R: Wait>(
     ensures keeps { Keeps pass.old.seat pass.old.trace pass.new.trace }
 {
     let mut queue = lock_queue(rt, wk, pass, c);
+    // The queue word under the lock of the queue that T goes into, and T's processor is that queue's: who reads 1 and
+    // takes this lock finds T there (the wrong queue).
     queue_task(rt, wk, pass, &queue, t, Rq { on: 0, m });
     queue.push(wk, pass, t);
+    // TASK_RUNNING before the queue's lock goes back: else T is picked at TASK_WAKING, stores a sleep state, and this
+    // store would wipe it out (picked while waking).
     store_running(wk, pass, t);
     queue.give_woken(wk, pass);
 }

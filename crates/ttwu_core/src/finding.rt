@@ -42,8 +42,8 @@ fn await_off<B: Kept, R: Wait>(rt: &R, wk: &Wk<B>, pass: &mut Pass, t: TaskNo) -
     unreachable!()
 }
 
-/// Looks where a task is, whose state matched under its lock, as Linux's `try_to_wake_up` tries `ttwu_runnable`: where
-/// it is still queued under the lock of its queue, TASK_RUNNING is stored there.
+/// Looks where a task is, whose state matched under its lock, as Linux's `try_to_wake_up` tries `ttwu_runnable`
+/// (`kernel/sched/core.c`): where it is still queued under the lock of its queue, TASK_RUNNING is stored there.
 pub fn find<B: Kept, R: Wait>(rt: &R, wk: &Wk<B>, pass: &mut Pass, t: TaskNo) -> Found
     requires of { IsOf wk.now pass.old }
     requires task { t < wk.now.shape.tasks }
@@ -58,18 +58,26 @@ pub fn find<B: Kept, R: Wait>(rt: &R, wk: &Wk<B>, pass: &mut Pass, t: TaskNo) ->
     ensures claimed { is_claimed pass.new.trace ≡ is_claimed pass.old.trace }
     ensures moving { is_moving pass.new.trace ≡ is_moving pass.old.trace }
 {
+    // A 0 under T's lock, read after its state, stays 0: only who has T's lock queues it
+    // (the queue word before the lock).
     let first = load_rq(wk, pass, t);
     if first.on == 0 {
         return Found::Off { m: first.m };
     }
+    // T's processor is stored under T's lock alone, which this seat has: so the queue locked next is still T's
+    // (the wrong queue).
     let c = load_cpu(wk, pass, t);
     let queue = lock_queue(rt, wk, pass, c);
+    // The same word again, now under the lock of T's queue: without it T may be leaving by a sleep state that its seat
+    // has read already, and TASK_RUNNING would stand on a task off every queue (a bare TASK_RUNNING).
     if load_rq(wk, pass, t).on == 1 {
         store_running(wk, pass, t);
         queue.give(wk, pass);
         return Found::Runnable;
     }
     queue.give(wk, pass);
+    // T has left its queue in between, and stays off: only who has T's lock queues it. The word is read once more for
+    // its number of changes.
     let m = await_off(rt, wk, pass, t);
     Found::Off { m }
 }

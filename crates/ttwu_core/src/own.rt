@@ -12,8 +12,8 @@ use crate::answers::{How, Wake};
 use handoff_data::{State, matches};
 use task_words::{Kept, Pass, Wk, match_state, set_running};
 
-/// Wakes the pass's own current task, which is queued, as the branch of Linux's `try_to_wake_up` for `current`: it
-/// takes no lock and waits for nobody.
+/// Wakes the pass's own current task, which is queued, as the branch of Linux's `try_to_wake_up`
+/// (`kernel/sched/core.c`) for `current`: it takes no lock and waits for nobody.
 pub fn wake_own<B: Kept>(wk: &Wk<B>, pass: &mut Pass, mask: State) -> Wake
     requires of { IsOf wk.now pass.old }
     requires current { IsSome (current_task pass.old.seat pass.old.trace) }
@@ -29,6 +29,8 @@ pub fn wake_own<B: Kept>(wk: &Wk<B>, pass: &mut Pass, mask: State) -> Wake
     let Some(t) = pass.current() else {
         unreachable!()
     };
+    // No lock: T is queued, and none but this seat takes it off or stores its state while it is the current task
+    // (two wakers).
     let seen = match_state(wk, pass, t, mask);
     if !matches(seen, mask) {
         return Wake::NoMatch { seen };

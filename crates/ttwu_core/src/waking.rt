@@ -16,9 +16,10 @@ use run_queue::place;
 use std::sync::Wait;
 use task_words::{Kept, Pass, Wk, lock_task, match_state};
 
-/// Wakes a task that isn't the pass's current one, where its state has a bit of the mask, as Linux's `try_to_wake_up`:
-/// a task that is still queued is runnable again, and one that is off every queue is queued on the processor that
-/// placement gives. It makes two entries at most. The pass hasn't the task's busy word to clear itself, for which it would wait for good.
+/// Wakes a task that isn't the pass's current one, where its state has a bit of the mask, as Linux's `try_to_wake_up`
+/// (`kernel/sched/core.c`): a task that is still queued is runnable again, and one that is off every queue is queued on
+/// the processor that placement gives. It makes two entries at most. The pass hasn't the task's busy word to clear
+/// itself, for which it would wait for good.
 pub fn wake<B: Kept, R: Wait>(rt: &R, wk: &Wk<B>, pass: &mut Pass, t: TaskNo, mask: State) -> Wake
     requires of { IsOf wk.now pass.old }
     requires task { t < wk.now.shape.tasks }
@@ -35,20 +36,29 @@ pub fn wake<B: Kept, R: Wait>(rt: &R, wk: &Wk<B>, pass: &mut Pass, t: TaskNo, ma
     ensures passed { mask ≡ normal → (k : ℕ) → has_passed pass.new.trace k t ≡ true }
     ensures spare { pass.old.turn.spare ≤ pass.new.turn.spare + 2 }
 {
+    // T's lock stays with this seat until T is settled, so that no second waker finds T at TASK_WAKING off its queue
+    // and walks away (two wakers).
     let mut task = lock_task(rt, wk, pass, t);
     let seen = match_state(wk, pass, t, mask);
     if !matches(seen, mask) {
         task.give(wk, pass);
         return Wake::NoMatch { seen };
     }
+    // The queue word is read after the state, both under T's lock: a 0 read before may be of an earlier sleep, and T
+    // would be queued twice (the queue word before the lock).
     let Found::Off { m } = find(rt, wk, pass, t) else {
         task.give(wk, pass);
         return Wake::Woke { how: How::Runnable };
     };
+    // TASK_WAKING, and only then a clear busy word: T's last processor has switched away from it before T gets another
+    // (queued while busy).
     claim(rt, wk, pass, t, m);
     let c = choose(wk, task.val_mut(wk).get());
+    // The processor is stored after the claim: a claimed T is off every queue, and nobody looks for it by this word
+    // (moved under the switch).
     place(wk, pass, &task, c);
     queue_woken(rt, wk, pass, t, c, m);
+    // The lock goes back last, when T stands in a queue as TASK_RUNNING (two wakers).
     task.set_wake_cpu(wk, c);
     task.give(wk, pass);
     Wake::Woke {

@@ -5,8 +5,8 @@ use Rattle.task_words.specs.Untouched.{Untouched}
 use Rattle.word_steps.specs.Folds.{task_held, queue_held, wait_held, current_task, stays_queued, task_to_clear, is_claimed, has_passed, has_retaken, owes_walk}
 use Rattle.word_steps.specs.Records.{Rec}
 
--- the seat may wake any task: it holds no task's lock and no queue's, has claimed no task, has no busy word to clear, which
--- a wake-up might wait for, and its current task, if there is one, has not left its queue
+-- the seat may wake any task: it holds no task's lock and no queue's, has claimed no task, has no busy word to clear,
+-- which a wake-up might wait for, and its current task, if there is one, has not left its queue
 pub record IsFree (s : ℕ) (trace : List Rec) : Type 0 where
   pub tasks : (t : ℕ) → task_held trace t ≡ None
   pub queues : (c : ℕ) → queue_held trace c ≡ None
@@ -14,8 +14,8 @@ pub record IsFree (s : ℕ) (trace : List Rec) : Type 0 where
   pub cleared : task_to_clear s trace ≡ None
   pub stays : (t : ℕ) → current_task s trace ≡ Some t → stays_queued trace ≡ true
 
--- what the seat knows of a wait queue that it holds: its entries as they were taken, whom it has passed since, and that it
--- took the lock after it last raised the condition
+-- what the seat knows of a wait queue that it holds: its entries as they were taken, whom it has passed since, and that
+-- it took the lock after it last raised the condition
 pub record IsHeldStill (old new : List Rec) (k : ℕ) (v : List WaitEntry) : Type 0 where
   pub held : wait_held new k ≡ Some v
   pub passed : (t : ℕ) → has_passed old k t ≡ true → has_passed new k t ≡ true

@@ -28,9 +28,9 @@ fn enter_once<B: Kept>(wk: &Wk<B>, pass: &Pass, wait: &mut WaitGuard<B>, t: Task
 }
 
 /// Puts an entry of the current task into the wait queue of a condition, where it has none there, and stores a sleep
-/// state, both under the lock of the wait queue, as Linux's `prepare_to_wait` and `prepare_to_wait_exclusive`: an
-/// exclusive entry goes to the tail, another to the head. After it the task tests the condition, and sleeps or calls
-/// `finish`.
+/// state, both under the lock of the wait queue, as Linux's `prepare_to_wait` and `prepare_to_wait_exclusive`
+/// (`kernel/sched/wait.c`): an exclusive entry goes to the tail, another to the head. After it the task tests the
+/// condition, and sleeps or calls `finish`.
 #[tactic(auto, using(crate::proofs::Settling::prepared_settles))]
 pub fn prepare<B: Kept, R: Wait>(
     rt: &R,
@@ -53,14 +53,18 @@ pub fn prepare<B: Kept, R: Wait>(
     let Some(t) = pass.current() else {
         unreachable!()
     };
+    // The entry goes in and the state is stored under one hold of the lock: a walk that comes between them would meet
+    // the entry of a running task, and be over before it sleeps (the entry behind the walk).
     let mut wait = lock_wait(rt, wk, pass, k);
     enter_once(wk, pass, &mut wait, t, exclusive);
+    // The caller tests the condition after this store: tested before it, a raise in between finds nobody asleep
+    // (the test before the store).
     set_state(wk, pass, state);
     wait.give(wk, pass);
 }
 
-/// Stores TASK_RUNNING as the state of the current task, and takes its entry out of the wait queue of a condition, if it
-/// has one there, as Linux's `finish_wait`.
+/// Stores TASK_RUNNING as the state of the current task, and takes its entry out of the wait queue of a condition, if
+/// it has one there, as Linux's `finish_wait` (`kernel/sched/wait.c`).
 #[tactic(auto, using(crate::proofs::Settling::finished_settles))]
 pub fn finish<B: Kept, R: Wait>(rt: &R, wk: &Wk<B>, pass: &mut Pass, k: CondNo)
     requires of { IsOf wk.now pass.old }
@@ -75,6 +79,8 @@ pub fn finish<B: Kept, R: Wait>(rt: &R, wk: &Wk<B>, pass: &mut Pass, k: CondNo)
     let Some(t) = pass.current() else {
         unreachable!()
     };
+    // The state first, then the entry: between them an entry too many is met for nothing, where a sleep state with no
+    // entry would never be woken (the sleeper without an entry).
     set_running(wk, pass);
     let mut left = lock_wait(rt, wk, pass, k);
     left.val_mut(wk).remove(t);

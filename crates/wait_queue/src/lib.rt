@@ -3,6 +3,8 @@
 //! `entering.rt` has `prepare` and `finish`, `meeting.rt` entries met one after the other, `walking.rt` the walks under
 //! the lock, `law.rt` the laws. `specs/`: `Entering` and `Walks` (what a call did), `Meets` (its meetings), `Settles`
 //! (what it asks and leaves), `Laws`.
+//!
+//! In comments T is the task, and what stands in brackets is the race of `docs/PROTOCOLS.md` that the order bars.
 #![tactic(auto)]
 
 mod entering;

@@ -75,6 +75,8 @@ fn meet<B: Kept, R: Wait>(rt: &R, wk: &Wk<B>, pass: &mut Pass, entries: &mut Wai
     let Some(entry) = entries.pop_front() else {
         unreachable!()
     };
+    // The wake-up is made with the wait queue's lock held, and an entry that wakes nobody goes back: its task may be
+    // about to sleep on it (the entry that vanishes).
     match wake_task(rt, wk, pass, entry.t) {
         Wake::Woke { .. } => Tally {
             woken: 1,
@@ -114,7 +116,8 @@ fn rotate(entries: &mut WaitQueue, count: usize)
 }
 
 /// Meets the entries of a wait queue from the head on, until as many true exclusive wakes are made as `limit` says, or
-/// none is left, as Linux's `__wake_up_common`; how many tasks it woke. Those woken leave, the others keep their order.
+/// none is left, as Linux's `__wake_up_common` (`kernel/sched/wait.c`); how many tasks it woke. Those woken leave, the
+/// others keep their order.
 pub fn walk_entries<B: Kept, R: Wait>(
     rt: &R,
     wk: &Wk<B>,

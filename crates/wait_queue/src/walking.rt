@@ -26,13 +26,15 @@ fn walk<B: Kept, R: Wait>(rt: &R, wk: &Wk<B>, pass: &mut Pass, k: CondNo, limit:
     ensures paid { limit ≡ None → owes_walk pass.new.trace k ≡ false }
 {
     let mut wait = lock_wait(rt, wk, pass, k);
+    // Each entry is met before the lock goes back; where a limit ends the walk, the seat still owes the condition one
+    // (the walk that ends too soon).
     let woken = walk_entries(rt, wk, pass, wait.val_mut(wk), limit);
     wait.give(wk, pass);
     woken
 }
 
-/// Wakes each task with an entry at a condition, as Linux's `wake_up_all` with TASK_NORMAL; how many it woke. Their
-/// entries leave. After it the pass owes the condition no walk.
+/// Wakes each task with an entry at a condition, as Linux's `wake_up_all` (`include/linux/wait.h`) with TASK_NORMAL;
+/// how many it woke. Their entries leave. After it the pass owes the condition no walk.
 pub fn wake_all<B: Kept, R: Wait>(rt: &R, wk: &Wk<B>, pass: &mut Pass, k: CondNo) -> u32
     requires of { IsOf wk.now pass.old }
     requires condition { k < wk.now.shape.conds }
@@ -49,7 +51,8 @@ pub fn wake_all<B: Kept, R: Wait>(rt: &R, wk: &Wk<B>, pass: &mut Pass, k: CondNo
 }
 
 /// Wakes tasks with an entry at a condition from the head on, until `exclusive` of them have an exclusive entry or none
-/// is left, as Linux's `wake_up_nr` with TASK_NORMAL; how many it woke. Their entries leave. `exclusive` is above 0.
+/// is left, as Linux's `wake_up_nr` (`include/linux/wait.h`) with TASK_NORMAL; how many it woke. Their entries leave.
+/// `exclusive` is above 0.
 pub fn wake_some<B: Kept, R: Wait>(
     rt: &R,
     wk: &Wk<B>,
@@ -85,6 +88,8 @@ pub fn bump_and_wake<B: Kept, R: Wait>(rt: &R, wk: &Wk<B>, pass: &mut Pass, k: C
     ensures spare { pass.old.turn.spare ≤ pass.new.turn.spare + 2 * wk.now.shape.tasks }
     ensures paid { owes_walk pass.new.trace k ≡ false }
 {
+    // The raise before the lock: a sleeper whose entry comes in after the walk stores its state later still, and then
+    // reads the raised condition (the walk before the raise).
     bump_cond(wk, pass, k);
     wake_all(rt, wk, pass, k)
 }

@@ -9,7 +9,7 @@ use std::alloc::Global;
 use task_words::{Pass, Wk};
 
 /// A table of so many processors, tasks with empty bodies and conditions, and the passes of its processors in their
-/// order.
+/// order. Answers `NoMemory` where memory runs out.
 #[tactic(auto, using(uses::proofs::Begin::firsts_between))]
 pub fn begin(
     alloc: Global,

@@ -347,7 +347,8 @@ abbrev pub has_dropped : List Rec → ℕ → ℕ → Bool
 has_dropped [] = λ c t. false
 has_dropped (r ∷ rs) = dropped_after r (has_dropped rs)
 
--- `on_rq` of t was read as 1 since the locks of t and of the queue were taken, and t neither left a queue nor moved since
+-- `on_rq` of t was read as 1 since the locks of t and of the queue were taken, and t neither left a queue nor moved
+-- since
 abbrev pub queued_after : Rec → (ℕ → ℕ → Bool) → ℕ → ℕ → Bool
 queued_after (Took t (val.Task v)) h = put_column h t false
 queued_after (Took c (val.Queue v)) h = put_row h c false

@@ -1,6 +1,21 @@
 -- The words: their columns, and what each shows. Word n of column c is word 64 n + c, so a task, a processor, a
 -- condition and a seat have 16 words each of their own. The first eight of a number stay 0: word 0, which each lock
 -- taken and given loads, is on a cache line that nobody writes.
+--
+--   word         values                              who stores it, under which lock
+--   STATE of T   TASK_RUNNING, a sleep state,        T's own seat, under none (TASK_DEAD: T's);
+--                TASK_WAKING, TASK_DEAD, TASK_NEW    a waker TASK_WAKING: T's;
+--                                                    another seat TASK_RUNNING: T's queue's, of a new T its own
+--   RQ of T      4 m + on after m changes;           0: the seat of T's processor, its queue's;
+--                on: 0 off, 1 queued, 2 moving       1, 2: any seat, T's and T's queue's
+--   BUSY of T    2 n + busy after n changes;         the seat of T's processor; 1: its queue's; 0: none
+--                busy: 0 clear, 1 set
+--   CPU of T     a processor                         any seat, T's, while T is new, claimed or moving
+--   COND of k    a counter, modulo 2^64              any seat, none
+--   a lock       0 free, s + 1 held by seat s        who takes the lock, and who gives it
+--   the others   as they were made                   nobody yet
+--
+-- Linux's `on_rq` is the queue word here, in column RQ, and its `on_cpu` the busy word, in column BUSY.
 use Rattle.std.specs.Prelude.{ℕ, zero, suc, ◌+◌, ◌*◌, ◌%◌, ◌==◌, Bool, Option, Some, None, List, slice_index, nat_lt, if◌then◌else◌}
 use Rattle.core_data.specs.declared.words.Phase.{Phase}
 use Rattle.core_data.specs.declared.words.Phase.TheVariants.{Live, Leaving, Swept, Dead, Rising}

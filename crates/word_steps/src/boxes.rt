@@ -1,5 +1,5 @@
-//! What the locks of tasks and queues guard, each in a box of its own: a lock that is taken, or given, moves no more than
-//! its address.
+//! What the locks of tasks and queues guard, each in a box of its own: a lock that is taken, or given, moves no more
+//! than its address.
 ghost use Rattle.std.specs.Prelude.{◌≡◌};
 
 use core_data::{QueueVal, TaskVal};
@@ -24,7 +24,7 @@ impl Model for TaskBox {
 impl TaskBox {
     ghost use Rattle.std.specs.Prelude.{◌≡◌, IfOk};
 
-    /// The value in a box.
+    /// The value in a box. Answers `NoMemory` where memory runs out.
     pub fn new(alloc: Global, value: TaskVal) -> Result<TaskBox, NoMemory>
         ensures { IfOk result (λ t. t ≡ value) }
     {
@@ -66,7 +66,7 @@ impl QueueBox {
     ghost use Rattle.std.specs.List.{filter};
     ghost use Rattle.core_data.specs.Queue.{times_in, is_other};
 
-    /// An empty queue in a box.
+    /// An empty queue in a box. Answers `NoMemory` where memory runs out.
     pub fn new(alloc: Global) -> Result<QueueBox, NoMemory>
         ensures { IfOk result (λ q. q ≡ record { waiting = []; cur = None; left = None }) }
     {

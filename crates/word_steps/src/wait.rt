@@ -11,10 +11,11 @@ use std::alloc::Global;
 use std::collections::VecDeque;
 use std::marker::Model;
 
-/// The entries of a wait queue, the head first, after Linux's `struct wait_queue_head`. Contracts see that list.
+/// The entries of a wait queue, the head first, after Linux's `struct wait_queue_head` (`include/linux/wait.h`).
+/// Contracts see that list.
 ///
-/// Room for 200 entries, one for each task of the largest shape, is reserved from the start, so that putting one in takes
-/// no memory. It is in a box, so that a lock which is taken, or given, moves no more than an address.
+/// Room for 200 entries, one for each task of the largest shape, is reserved from the start, so that putting one in
+/// takes no memory. It is in a box, so that a lock which is taken, or given, moves no more than an address.
 #[derive(Drop)]
 pub struct WaitQueue {
     entries: Box<VecDeque<WaitEntry>>,
@@ -63,7 +64,7 @@ impl WaitQueue {
     /// The room that each wait queue reserves.
     const ROOM: usize = 200;
 
-    /// An empty wait queue.
+    /// An empty wait queue. Answers `NoMemory` where memory runs out.
     pub fn new(alloc: Global) -> Result<WaitQueue, NoMemory>
         ensures { IfOk result (λ w. w ≡ []) }
     {
@@ -72,7 +73,7 @@ impl WaitQueue {
         Ok(WaitQueue { entries })
     }
 
-    /// Puts an entry at the head, as Linux's `__add_wait_queue`.
+    /// Puts an entry at the head, as Linux's `__add_wait_queue` (`include/linux/wait.h`).
     pub fn push_front(&mut self, entry: WaitEntry)
         requires room { length self.old < 200 }
         ensures { self.new ≡ entry ∷ self.old }
@@ -80,7 +81,7 @@ impl WaitQueue {
         self.entries.push_front_reserved(entry);
     }
 
-    /// Puts an entry at the tail, as Linux's `__add_wait_queue_entry_tail`.
+    /// Puts an entry at the tail, as Linux's `__add_wait_queue_entry_tail` (`include/linux/wait.h`).
     pub fn push_back(&mut self, entry: WaitEntry)
         requires room { length self.old < 200 }
         ensures { self.new ≡ self.old ++ entry ∷ [] }

@@ -7,7 +7,8 @@ use std::alloc::Global;
 use std::collections::VecDeque;
 use std::marker::Model;
 
-/// The works of a processor, the oldest first, after Linux's `struct cpu_stopper`. Contracts see that list.
+/// The works of a processor, the oldest first, after Linux's `struct cpu_stopper` (`kernel/stop_machine.c`). Contracts
+/// see that list.
 ///
 /// Room for 200 works, one for each task of the largest shape, is reserved from the start, so that putting one in takes
 /// no memory. It is in a box, so that a lock which is taken, or given, moves no more than an address.
@@ -34,7 +35,7 @@ impl WorksBox {
     /// The room that the works of each processor reserve.
     const ROOM: usize = 200;
 
-    /// No works.
+    /// No works. Answers `NoMemory` where memory runs out.
     pub fn new(alloc: Global) -> Result<WorksBox, NoMemory>
         ensures { IfOk result (λ w. w ≡ []) }
     {
@@ -43,7 +44,7 @@ impl WorksBox {
         Ok(WorksBox { works })
     }
 
-    /// Puts a work behind those that are there, as Linux's `__cpu_stop_queue_work`.
+    /// Puts a work behind those that are there, as Linux's `__cpu_stop_queue_work` (`kernel/stop_machine.c`).
     pub fn push(&mut self, work: WorkItem)
         requires room { length self.old < 200 }
         ensures { self.new ≡ self.old ++ work ∷ [] }

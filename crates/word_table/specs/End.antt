@@ -52,7 +52,8 @@ part_of token = record { number = token.seat; trace = token.trace }
 abbrev pub is_body : ℕ → ℕ → Bool
 is_body tasks slot = (slot % SLOTS == BODY_SLOT) && nat_lt (slot / SLOTS) tasks
 
--- what is left in words and slots: with all traces they keep the rule, and each body and the room for the bodies is there
+-- what is left in words and slots: with all traces they keep the rule, and each body and the room for the bodies is
+-- there
 pub record IsLeft
     {B : Type 0}
     (lasting : B → List ℕ)

@@ -13,7 +13,8 @@ use Rattle.word_table.specs.Outs.{IsQuiet}
 abbrev pub Note : Type 0
 Note = ℕ → List Rec → ℕ → ℕ → ℕ → Rec
 
--- when it may be made: in a machine of this shape, by the seat, its trace, the number, the word found and the word after
+-- when it may be made: in a machine of this shape, by the seat, its trace, the number, the word found and the word
+-- after
 abbrev pub May : Type 1
 May = Shape → ℕ → List Rec → ℕ → ℕ → ℕ → Type 0
 

@@ -1,4 +1,8 @@
--- What a seat of the table knows.
+-- What a seat of the table knows. Who makes a step is named anew in each layer, from the outermost in:
+-- a pass (`Pass`, `task_words`) is a token with the entries of its turn; a token (`Token`) is the badge of a seat of
+-- the core, with its number; a badge lends a seat of the table (`Seat` of `atomic_table`) for one step. Each seat of
+-- the table has a view: what all know, and its parts. A part is what one seat of the core did: its number, its trace.
+-- As a rule a view has one part; while a table is closed one view gathers the parts of all.
 use Rattle.std.specs.Prelude.{ℕ, List}
 use Rattle.handoff_data.specs.declared.shape.Shape.{Shape}
 use Rattle.word_steps.specs.Records.{Rec}

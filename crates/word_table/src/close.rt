@@ -148,8 +148,8 @@ fn drop_rest<B: Kept>(mut left: Left<B>, rows: u32, tasks: u32)
 }
 
 impl<B: Kept> Words<B> {
-    /// Ends a table, once the tokens of all its seats have come back, in any order, and each has given all back. It takes
-    /// no memory.
+    /// Ends a table, once the tokens of all its seats have come back, in any order, and each has given all back. It
+    /// takes no memory.
     pub fn close(self, gathered: Gathered<B>) -> Closed<B>
         requires of { IsGatheredOf self gathered }
         requires all { HasEachSeat (self.shape.cpus + self.shape.agents) (map (λ t. t.seat) gathered.tokens) }

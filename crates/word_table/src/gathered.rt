@@ -1,4 +1,9 @@
 //! The tokens that come back at a table's end.
+//!
+//! | Token | Made by | Ended by | So that nobody forgets to |
+//! |---|---|---|---|
+//! | `Gathered` | `Words::gather` | `Words::close` | take the token of each seat back |
+//! | `Token` | `Words::new`, one a seat | `Words::take_back` | come back, with nothing out |
 ghost use Rattle.std.specs.Prelude.{◌≡◌, ◌∷◌, []};
 ghost use Rattle.word_table.specs.Gathered.{IsGatheredOf};
 ghost use Rattle.word_table.specs.Plays.{sat};
@@ -13,8 +18,8 @@ use atomic_table::Seat;
 use handoff_data::Kept;
 use std::marker::Model;
 
-/// The tokens that a table has taken back, as one seat. It has no `Drop`, so it ends in `Words::close`. Contracts see its
-/// table and the tokens, newest first.
+/// The tokens that a table has taken back, as one seat. It has no `Drop`, so it ends in `Words::close`. Contracts see
+/// its table and the tokens, newest first.
 pub struct Gathered<B: Kept> {
     pub(crate) seat: Seat<Slot<B>, View>,
 }

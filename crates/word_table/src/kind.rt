@@ -6,8 +6,8 @@ ghost use Rattle.word_table.specs.Kinds.{Note, May, Told, LeavesSlots, MakesEven
 ghost use Rattle.word_table.specs.Layout.{rows_of};
 
 /// A kind of step on one word of a number's, in one column. In `note`, `may` and `told` stand the seat, its trace as it
-/// was, the number, and then in `note` the word after and the word found, in `may` the word found and the word after, in
-/// `told` the word found.
+/// was, the number, and then in `note` the word after and the word found, in `may` the word found and the word after,
+/// in `told` the word found.
 pub trait Kind {
     ghost col: { ℕ };
     // The numbers are below it: tasks, processors, conditions or seats.

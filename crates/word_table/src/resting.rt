@@ -14,8 +14,8 @@ use std::time::Duration;
 const NAP_MICROS: u64 = 50;
 
 /// Lets some time pass between two tries of a seat that waits for the word of `n` in the column, which it found as
-/// `found`: it pauses for longer from try to try, then yields its processor, and after eleven tries sleeps while the word
-/// is as it was found, for no longer than a nap. So who changes the word need not wake anybody.
+/// `found`: it pauses for longer from try to try, then yields its processor, and after eleven tries sleeps while the
+/// word is as it was found, for no longer than a nap. So who changes the word need not wake anybody.
 #[cold]
 pub fn rest<B: Kept, R: Wait>(
     rt: &R,

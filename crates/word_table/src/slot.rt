@@ -56,7 +56,7 @@ impl<B: Kept> BodyRoom<B> {
     ghost use Rattle.std.specs.Prelude.{◌≡◌, ◌≤◌, [], IfOk};
     ghost use Rattle.std.specs.Vec.{vec_capacity};
 
-    /// Room for so many bodies, and none in it.
+    /// Room for so many bodies, and none in it. Answers `NoMemory` where memory runs out.
     pub fn new(alloc: Global, count: usize) -> Result<BodyRoom<B>, NoMemory>
         ensures items { IfOk result (λ r. r.items ≡ []) }
         ensures capacity { IfOk result (λ r. count ≤ vec_capacity r) }

@@ -1,5 +1,5 @@
-//! A lock that a seat has taken, and a body that is out. The slot is in the hand of a seat of its own, so that the value
-//! is changed where it lies, and a lock moves nothing.
+//! A lock that a seat has taken, and a body that is out. The slot is in the hand of a seat of its own, so that the
+//! value is changed where it lies, and a lock moves nothing.
 ghost use Rattle.std.specs.Prelude.{◌≡◌};
 ghost use Rattle.std.specs.Borrow.{sem};
 ghost use Rattle.word_steps.specs.Lending.{IsTask, IsQueue, IsWorks, IsWait};
@@ -13,8 +13,8 @@ use handoff_data::Kept;
 use std::marker::Model;
 use word_steps::{QueueBox, TaskBox, WaitQueue, WorksBox};
 
-/// A lock that a seat has taken. It has no `Drop`, so it ends in `give`. Contracts see its table, its slot, and the value
-/// under it.
+/// A lock that a seat has taken. It has no `Drop`, so it ends in `give`. Contracts see its table, its slot, and the
+/// value under it.
 pub struct Taken<B> {
     pub(crate) seat: Seat<Slot<B>, View>,
     pub(crate) slot: usize,
@@ -84,8 +84,8 @@ impl<B: Kept> Taken<B> {
     }
 }
 
-/// A body that is out of its slot. It has no `Drop`, so it ends in `body_home`. Contracts see its table, its task, and the
-/// body.
+/// A body that is out of its slot. It has no `Drop`, so it ends in `body_home`. Contracts see its table, its task, and
+/// the body.
 pub struct BodyOut<B> {
     pub(crate) seat: Seat<Slot<B>, View>,
     pub(crate) task: u32,

@@ -37,8 +37,8 @@ pub(crate) fn slot_under<L: Lock>(n: u32) -> usize
     SLOTS * n as usize + L::slot()
 }
 
-// Tries to take a lock once: one exchange. It answers the word found, which is 0 where the lock was free. The value's slot
-// is in the seat's hand then.
+// Tries to take a lock once: one exchange. It answers the word found, which is 0 where the lock was free. The value's
+// slot is in the seat's hand then.
 fn attempt<B: Kept, L: Lock>(
     words: &Words<B>,
     seat: &mut Seat<Slot<B>, View>,
