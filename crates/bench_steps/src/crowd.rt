@@ -2,8 +2,8 @@
 ghost use Rattle.std.specs.Prelude.{◌≡◌, ◌<◌, ◌≤◌};
 ghost use Rattle.std.specs.List.{All};
 ghost use Rattle.bench_steps.specs.Small.{IsSmall};
+ghost use Rattle.task_words.specs.Seats.{IsBetween};
 ghost use Rattle.task_words.specs.Views.{IsOf, IsSame, IsOneSeat};
-ghost use Rattle.uses.specs.Between.{IsBetween};
 
 use crate::step::{Step, repeat};
 use crate::steps::{Queue, Task, Works};

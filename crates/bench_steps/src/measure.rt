@@ -1,8 +1,8 @@
 //! Steps and plain operations, with the time that each took.
 ghost use Rattle.std.specs.Prelude.{◌≡◌, ◌<◌};
 ghost use Rattle.bench_steps.specs.Small.{IsSmall};
+ghost use Rattle.task_words.specs.Seats.{IsBetween};
 ghost use Rattle.task_words.specs.Views.{IsOf};
-ghost use Rattle.uses.specs.Between.{IsBetween};
 
 use crate::own::{Body, Match, OwnStep, SetRunning, SetState, Turn, begin_own, repeat_own};
 use crate::placing::{Placing, Run, SetCpu, place_often};

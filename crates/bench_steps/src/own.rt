@@ -1,8 +1,8 @@
 //! Steps of a seat that runs a task.
 ghost use Rattle.std.specs.Prelude.{◌≡◌, ◌<◌, true};
 ghost use Rattle.bench_steps.specs.Small.{IsSmall};
+ghost use Rattle.task_words.specs.Seats.{IsBetween, IsRunning};
 ghost use Rattle.task_words.specs.Views.{IsOf, IsSame, IsOneSeat};
-ghost use Rattle.uses.specs.Between.{IsBetween, IsRunning};
 
 use handoff_data::State;
 use std::sync::Wait;

@@ -1,10 +1,10 @@
 //! Stores to words of a new task, by a seat that has its lock.
 ghost use Rattle.std.specs.Prelude.{◌≡◌, ◌<◌, None, IfSome};
 ghost use Rattle.bench_steps.specs.Placing.{IsPlacing};
+ghost use Rattle.task_words.specs.Folds.{current_task};
+ghost use Rattle.task_words.specs.Seats.{IsBetween};
+ghost use Rattle.task_words.specs.Told.{TakenTask};
 ghost use Rattle.task_words.specs.Views.{IsOf, IsSame, IsOneSeat};
-ghost use Rattle.uses.specs.Between.{IsBetween};
-ghost use Rattle.word_rule.specs.Told.{TakenTask};
-ghost use Rattle.word_steps.specs.Folds.{current_task};
 
 use core_data::Rq;
 use handoff_data::CpuNo;

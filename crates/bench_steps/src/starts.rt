@@ -1,7 +1,7 @@
 //! Steps that a task allows once, made with many tasks.
 ghost use Rattle.std.specs.Prelude.{◌≡◌, ◌<◌, true};
+ghost use Rattle.task_words.specs.Seats.{IsBetween};
 ghost use Rattle.task_words.specs.Views.{IsOf, IsOneSeat};
-ghost use Rattle.uses.specs.Between.{IsBetween};
 
 use handoff_data::TaskNo;
 use std::sync::Wait;

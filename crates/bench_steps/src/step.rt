@@ -1,7 +1,7 @@
 //! A step that a seat can repeat which holds nothing.
 ghost use Rattle.bench_steps.specs.Small.{IsSmall};
+ghost use Rattle.task_words.specs.Seats.{HoldsNothing};
 ghost use Rattle.task_words.specs.Views.{IsOf, IsSame, IsOneSeat};
-ghost use Rattle.uses.specs.Holds.{HoldsNothing};
 
 use std::sync::Wait;
 use task_words::{Pass, Wk};

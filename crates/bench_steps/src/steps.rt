@@ -1,7 +1,7 @@
 //! Each kind of step that a seat can repeat which holds nothing.
 ghost use Rattle.bench_steps.specs.Small.{IsSmall};
+ghost use Rattle.task_words.specs.Seats.{HoldsNothing};
 ghost use Rattle.task_words.specs.Views.{IsOf, IsSame, IsOneSeat};
-ghost use Rattle.uses.specs.Holds.{HoldsNothing};
 
 use crate::step::Step;
 use std::sync::Wait;

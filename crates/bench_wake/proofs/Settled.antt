@@ -1,7 +1,7 @@
 -- A seat that stands between two scenarios may walk along a wait queue, and stands so after it.
 use Rattle.std.proofs.Common.{◌≡◌, ◌∙◌, ℕ, ap, sym, Some, None}
+use Rattle.task_words.specs.Seats.{IsBetween}
 use Rattle.task_words.specs.Views.{PassView, IsOneSeat}
-use Rattle.uses.specs.Between.{IsBetween}
 use Rattle.wait_queue.specs.Settles.{IsFree, Settles}
 use Rattle.word_steps.specs.Folds.{current_task, task_to_clear}
 

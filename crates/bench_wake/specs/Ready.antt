@@ -1,9 +1,9 @@
 -- A seat that may start, pick and wake, and tables that it does it on.
 use Rattle.std.specs.Prelude.{◌≡◌, ◌<◌}
 use Rattle.handoff_data.specs.declared.shape.Shape.{Shape}
+use Rattle.task_words.specs.Seats.{IsBetween}
+use Rattle.task_words.specs.TableViews.{WordsView}
 use Rattle.task_words.specs.Views.{PassView, IsOf}
-use Rattle.uses.specs.Between.{IsBetween}
-use Rattle.word_table.specs.Views.{WordsView}
 
 -- the pass is that of a processor of the table, and stands between two scenarios
 pub record IsReady (wk : WordsView) (pass : PassView) : Type 0 where

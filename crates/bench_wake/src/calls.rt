@@ -1,7 +1,7 @@
 //! Starts, wake-ups and walks by a seat that runs no task.
 ghost use Rattle.std.specs.Prelude.{◌≡◌, ◌<◌};
+ghost use Rattle.task_words.specs.Seats.{IsBetween};
 ghost use Rattle.task_words.specs.Views.{IsOf, IsOneSeat};
-ghost use Rattle.uses.specs.Between.{IsBetween};
 
 use handoff_data::{CondNo, CpuNo, State, TaskNo};
 use run_queue::{Start, start};

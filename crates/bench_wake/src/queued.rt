@@ -1,8 +1,8 @@
 //! Wake-ups of tasks that are off every queue.
 ghost use Rattle.std.specs.Prelude.{◌≡◌, ◌<◌, true};
 ghost use Rattle.bench_wake.specs.Ready.{IsReady, IsRoom};
+ghost use Rattle.task_words.specs.Seats.{IsBetween};
 ghost use Rattle.task_words.specs.Views.{IsOf, IsOneSeat};
-ghost use Rattle.uses.specs.Between.{IsBetween};
 
 use crate::calls::wake_one;
 use crate::rounds::{Round, TASKS};

@@ -1,8 +1,8 @@
 //! Wake-ups of a task whose state doesn't match.
 ghost use Rattle.std.specs.Prelude.{◌≡◌, ◌<◌};
 ghost use Rattle.bench_wake.specs.Ready.{IsReady};
+ghost use Rattle.task_words.specs.Seats.{IsBetween};
 ghost use Rattle.task_words.specs.Views.{IsOf, IsOneSeat};
-ghost use Rattle.uses.specs.Between.{IsBetween};
 
 use crate::calls::wake_one;
 use crate::plain;

@@ -1,8 +1,8 @@
 //! Rounds, in each of which tasks are put to sleep and then woken.
 ghost use Rattle.std.specs.Prelude.{◌≡◌, ◌<◌, true, IfSome};
 ghost use Rattle.bench_wake.specs.Ready.{IsReady, IsRoom};
+ghost use Rattle.task_words.specs.Seats.{IsBetween};
 ghost use Rattle.task_words.specs.Views.{IsOf, IsOneSeat};
-ghost use Rattle.uses.specs.Between.{IsBetween};
 
 use crate::calls::start_one;
 use crate::plain::Plain;

@@ -1,7 +1,7 @@
 //! Wake-ups of a task that is still queued.
 ghost use Rattle.std.specs.Prelude.{◌≡◌, ◌<◌, true};
+ghost use Rattle.task_words.specs.Seats.{IsBetween, IsRunning};
 ghost use Rattle.task_words.specs.Views.{IsOf};
-ghost use Rattle.uses.specs.Between.{IsBetween, IsRunning};
 
 use crate::calls::{start_one, wake_one};
 use crate::plain;

@@ -2,8 +2,8 @@
 ghost use Rattle.std.specs.Prelude.{◌≡◌, ◌<◌, ◌≤◌, IfOk, IfSome};
 ghost use Rattle.std.specs.List.{All};
 ghost use Rattle.bench_wake.specs.Ready.{IsReady};
+ghost use Rattle.task_words.specs.Seats.{IsBetween};
 ghost use Rattle.task_words.specs.Views.{IsOf};
-ghost use Rattle.uses.specs.Between.{IsBetween};
 
 use handoff_data::{NoMemory, Shape};
 use std::alloc::Global;

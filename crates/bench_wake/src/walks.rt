@@ -1,8 +1,8 @@
 //! Walks along wait queues, each of whose entries is of a task that sleeps.
 ghost use Rattle.std.specs.Prelude.{◌≡◌, ◌<◌, true};
 ghost use Rattle.bench_wake.specs.Ready.{IsReady, IsRoom};
+ghost use Rattle.task_words.specs.Seats.{IsBetween};
 ghost use Rattle.task_words.specs.Views.{IsOf, IsOneSeat};
-ghost use Rattle.uses.specs.Between.{IsBetween};
 
 use crate::calls::walk_one;
 use crate::rounds::{CONDS, Round};

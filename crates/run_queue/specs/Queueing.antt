@@ -1,7 +1,7 @@
 -- What a seat does to place a task and to queue it.
 use Rattle.std.specs.Prelude.{ℕ, ◌==◌, ◌++◌, ◌∷◌, [], List, if◌then◌else◌}
-use Rattle.core_data.specs.Queue.{Queue}
-use Rattle.word_steps.specs.Records.{Rec, LoadedCpu, StoredCpu}
+use Rattle.task_words.specs.Queue.{Queue}
+use Rattle.task_words.specs.Records.{Rec, LoadedCpu, StoredCpu}
 
 -- the processor of t was read as `from`, and c stored where that is another
 abbrev pub placed : ℕ → ℕ → ℕ → List Rec → List Rec

@@ -1,16 +1,16 @@
 -- What a start adds to what its pass has done, by its answer.
 use Rattle.std.specs.Prelude.{◌≡◌, ◌≢◌, ℕ, ◌∷◌, ◌⊎◌, List, None}
-use Rattle.core_data.specs.Queue.{Queue}
-use Rattle.core_data.specs.declared.values.TaskVal.{TaskVal}
-use Rattle.core_kinds.specs.Steps.{fresh}
 use Rattle.handoff_data.specs.declared.entry.Entry.TheVariants as entry
 use Rattle.handoff_data.specs.declared.state.State.{State}
 use Rattle.run_queue.specs.Queueing.{placed, pushed}
 use Rattle.run_queue.specs.declared.answer.Start.{Start}
 use Rattle.run_queue.specs.declared.answer.Start.TheVariants as start
+use Rattle.task_words.specs.Queue.{Queue}
+use Rattle.task_words.specs.Records.{Rec, Took, Gave, Queued, Released, LoadedState, LoadedRq}
+use Rattle.task_words.specs.Steps.{fresh}
+use Rattle.task_words.specs.TaskVal.{TaskVal}
+use Rattle.task_words.specs.Val.TheVariants as val
 use Rattle.task_words.specs.Views.{PassView, logged}
-use Rattle.word_steps.specs.Records.{Rec, Took, Gave, Queued, Released, LoadedState, LoadedRq}
-use Rattle.word_steps.specs.declared.val.Val.TheVariants as val
 
 -- TASK_RUNNING was stored, and t put at the back of the queue of c under its lock
 abbrev pub queued_new : ℕ → ℕ → Queue → List Rec → List Rec

@@ -1,9 +1,9 @@
 //! The processor of a task that is on no queue.
 ghost use Rattle.std.specs.Prelude.{◌≡◌, ℕ, ◌<◌, ◌∷◌};
 ghost use Rattle.run_queue.specs.Queueing.{placed};
+ghost use Rattle.task_words.specs.May.{MayCpuWord};
+ghost use Rattle.task_words.specs.Records.{LoadedCpu};
 ghost use Rattle.task_words.specs.Views.{IsOf, IsSame};
-ghost use Rattle.word_rule.specs.May.{MayCpuWord};
-ghost use Rattle.word_steps.specs.Records.{LoadedCpu};
 
 use handoff_data::CpuNo;
 use task_words::{Kept, Pass, TaskGuard, Wk, load_cpu, store_cpu};

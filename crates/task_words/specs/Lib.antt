@@ -6,8 +6,25 @@ pub mod Guards
 pub mod Lending
 pub mod Needs
 pub mod Queues
+pub mod Seats
 pub mod Shown
 pub mod States
 pub mod Untouched
 pub mod Views
 pub mod Waited
+pub use Rattle.core_data.specs.Entries
+pub use Rattle.core_data.specs.Queue
+pub use Rattle.core_data.specs.declared.pos.Rq
+pub use Rattle.core_data.specs.declared.values.TaskVal
+pub use Rattle.core_data.specs.declared.values.WaitEntry
+pub use Rattle.core_gives.specs.Waits
+pub use Rattle.core_kinds.specs.Locks
+pub use Rattle.core_kinds.specs.Steps
+pub use Rattle.word_rule.specs.May
+pub use Rattle.word_rule.specs.Told
+pub use Rattle.word_steps.specs.Entries as EntryTasks
+pub use Rattle.word_steps.specs.Folds
+pub use Rattle.word_steps.specs.Records
+pub use Rattle.word_steps.specs.declared.val.Val
+pub use Rattle.word_table.specs.End
+pub use Rattle.word_table.specs.Views as TableViews

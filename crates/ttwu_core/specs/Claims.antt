@@ -1,17 +1,17 @@
 -- How a waker claims a task that is off every queue, and queues it.
 use Rattle.std.specs.Prelude.{◌≡◌, ℕ, ◌+◌, ◌<◌, ◌∷◌, [], true, false, List, Option, Some, None, ◌↔◌}
-use Rattle.core_data.specs.Queue.{Queue}
-use Rattle.core_data.specs.declared.values.TaskVal.{TaskVal}
 use Rattle.handoff_data.specs.Mask.{HasCpu}
 use Rattle.handoff_data.specs.declared.entry.Entry.TheVariants as entry
 use Rattle.handoff_data.specs.declared.mask.CpuMask.{CpuMask}
 use Rattle.handoff_data.specs.declared.shape.Shape.{Shape}
 use Rattle.place_pick.specs.Placement.{IsPlaced}
 use Rattle.run_queue.specs.Queueing.{pushed}
+use Rattle.task_words.specs.Folds.{is_claimed, saw_clear}
+use Rattle.task_words.specs.Queue.{Queue}
+use Rattle.task_words.specs.Records.{Rec, Took, Gave, Queued, Claimed, Released, LoadedBusy}
+use Rattle.task_words.specs.TaskVal.{TaskVal}
+use Rattle.task_words.specs.Val.TheVariants as val
 use Rattle.task_words.specs.Views.{PassView, logged}
-use Rattle.word_steps.specs.Folds.{is_claimed, saw_clear}
-use Rattle.word_steps.specs.Records.{Rec, Took, Gave, Queued, Claimed, Released, LoadedBusy}
-use Rattle.word_steps.specs.declared.val.Val.TheVariants as val
 
 -- the busy word of t was read as set again and again, newest first; these were its numbers
 abbrev pub busy_reads : ℕ → List ℕ → List Rec → List Rec

@@ -1,13 +1,13 @@
 -- Where a waker finds a task whose state matches, and what it does to find it.
 use Rattle.std.specs.Prelude.{◌≡◌, ◌≢◌, ℕ, ◌∷◌, [], true, List, Option, Some, None, IfSome}
 use Rattle.std.specs.List.{All}
-use Rattle.core_data.specs.Queue.{Queue}
-use Rattle.core_data.specs.declared.pos.Rq.{Rq}
+use Rattle.task_words.specs.Folds.{saw_off, number_read}
+use Rattle.task_words.specs.Queue.{Queue}
+use Rattle.task_words.specs.Records.{Rec, Took, Gave, Released, LoadedRq, LoadedCpu}
+use Rattle.task_words.specs.Rq.{Rq}
+use Rattle.task_words.specs.Val.TheVariants as val
 use Rattle.ttwu_core.specs.declared.finding.Found.{Found}
 use Rattle.ttwu_core.specs.declared.finding.Found.TheVariants as found
-use Rattle.word_steps.specs.Folds.{saw_off, number_read}
-use Rattle.word_steps.specs.Records.{Rec, Took, Gave, Released, LoadedRq, LoadedCpu}
-use Rattle.word_steps.specs.declared.val.Val.TheVariants as val
 
 -- the queue word of t was read again and again, newest first
 abbrev pub rq_reads : ℕ → List Rq → List Rec → List Rec

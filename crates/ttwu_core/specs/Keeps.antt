@@ -1,8 +1,8 @@
 -- What each part of a wake-up leaves as it was.
 use Rattle.std.specs.Prelude.{◌≡◌, ℕ, List, None}
 use Rattle.run_queue.specs.Rests.{IsApart}
-use Rattle.word_steps.specs.Folds.{task_held, queue_held, current_task, task_to_clear}
-use Rattle.word_steps.specs.Records.{Rec}
+use Rattle.task_words.specs.Folds.{task_held, queue_held, current_task, task_to_clear}
+use Rattle.task_words.specs.Records.{Rec}
 
 -- no task's lock is taken or given, no queue's lock is held after it where none was before, the same task is current
 -- and the same busy word to clear

@@ -4,3 +4,6 @@ pub mod Keeps
 pub mod Orders
 pub mod Own
 pub mod Wakes
+pub use Rattle.place_pick.specs.Placement
+pub use Rattle.run_queue.specs.Queueing
+pub use Rattle.run_queue.specs.Rests

@@ -1,8 +1,8 @@
 -- Which steps a wake-up makes after which.
 use Rattle.std.specs.Prelude.{◌≡◌, ℕ, ◌++◌, ◌∷◌, true, List, Some}
-use Rattle.core_kinds.specs.Steps.{is_match, running}
 use Rattle.handoff_data.specs.declared.state.State.{State}
-use Rattle.word_steps.specs.Records.{Rec, Queued, Claimed, Released, StoredOwn, LoadedState}
+use Rattle.task_words.specs.Records.{Rec, Queued, Claimed, Released, StoredOwn, LoadedState}
+use Rattle.task_words.specs.Steps.{is_match, running}
 
 -- some steps, or none, were made from the old trace to the new one
 pub record IsSince (old new : List Rec) : Type 0 where

@@ -1,14 +1,14 @@
 -- What the wake-up of the own current task adds to what its pass has done, by its answer.
 use Rattle.std.specs.Prelude.{◌≡◌, ℕ, ◌∷◌, true, false, Some}
-use Rattle.core_kinds.specs.Steps.{is_match, running}
 use Rattle.handoff_data.specs.declared.entry.Entry.TheVariants as entry
 use Rattle.handoff_data.specs.declared.state.State.{State}
+use Rattle.task_words.specs.Folds.{current_task}
+use Rattle.task_words.specs.Records.{StoredOwn, LoadedState}
+use Rattle.task_words.specs.Steps.{is_match, running}
 use Rattle.task_words.specs.Views.{PassView, logged}
 use Rattle.ttwu_core.specs.declared.answers.How.TheVariants as how
 use Rattle.ttwu_core.specs.declared.answers.Wake.{Wake}
 use Rattle.ttwu_core.specs.declared.answers.Wake.TheVariants as wake
-use Rattle.word_steps.specs.Folds.{current_task}
-use Rattle.word_steps.specs.Records.{StoredOwn, LoadedState}
 
 -- its state was read and has a bit of the mask, and TASK_RUNNING was stored
 pub record IsOwnWoken (mask : State) (old new : PassView) : Type 0 where

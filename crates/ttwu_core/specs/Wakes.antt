@@ -1,20 +1,20 @@
 -- What the wake-up of another task adds to what its pass has done, by its answer.
 use Rattle.std.specs.Prelude.{◌≡◌, ◌≢◌, ℕ, ◌+◌, ◌∷◌, true, false, List, Option, Some, IfSome}
-use Rattle.core_data.specs.Queue.{Queue}
-use Rattle.core_data.specs.declared.values.TaskVal.{TaskVal}
-use Rattle.core_kinds.specs.Steps.{is_match}
 use Rattle.handoff_data.specs.declared.entry.Entry.TheVariants as entry
 use Rattle.handoff_data.specs.declared.shape.Shape.{Shape}
 use Rattle.handoff_data.specs.declared.state.State.{State}
 use Rattle.run_queue.specs.Queueing.{placed}
+use Rattle.task_words.specs.Queue.{Queue}
+use Rattle.task_words.specs.Records.{Rec, Took, Gave, Claimed, LoadedState}
+use Rattle.task_words.specs.Steps.{is_match}
+use Rattle.task_words.specs.TaskVal.{TaskVal}
+use Rattle.task_words.specs.Val.TheVariants as val
 use Rattle.task_words.specs.Views.{PassView, logged}
 use Rattle.ttwu_core.specs.Claims.{awaited_clear, queued_woken, IsChosen}
 use Rattle.ttwu_core.specs.Finds.{Look, Left, IsLeft, off_reads, released_there}
 use Rattle.ttwu_core.specs.declared.answers.How.TheVariants as how
 use Rattle.ttwu_core.specs.declared.answers.Wake.{Wake}
 use Rattle.ttwu_core.specs.declared.answers.Wake.TheVariants as wake
-use Rattle.word_steps.specs.Records.{Rec, Took, Gave, Claimed, LoadedState}
-use Rattle.word_steps.specs.declared.val.Val.TheVariants as val
 
 -- the lock of t was taken, and its state read and held against the mask
 abbrev pub tested : ℕ → TaskVal → State → State → List Rec → List Rec

@@ -1,11 +1,11 @@
 //! A task that is off every queue is claimed by its waker, placed, and queued.
 ghost use Rattle.std.specs.Prelude.{◌≡◌, ◌≢◌, ℕ, ◌<◌, ◌≤◌, ◌∷◌, true, false, None, Some, IsSome};
+ghost use Rattle.task_words.specs.Folds.{task_held, queue_held, saw_off, saw_clear, is_claimed, is_moving, number_read};
+ghost use Rattle.task_words.specs.Folds.{last_reads, current_task};
 ghost use Rattle.task_words.specs.Needs.{need_step};
 ghost use Rattle.task_words.specs.Views.{IsOf, IsSame, IsSameSeat};
 ghost use Rattle.ttwu_core.specs.Claims.{IsAwaitedClear, IsTaken, IsChosen, IsPointer, IsQueuedWoken};
 ghost use Rattle.ttwu_core.specs.Keeps.{Keeps};
-ghost use Rattle.word_steps.specs.Folds.{task_held, queue_held, saw_off, saw_clear, is_claimed, is_moving, number_read};
-ghost use Rattle.word_steps.specs.Folds.{last_reads, current_task};
 
 use core_data::{Rq, TaskVal};
 use crossbeam_utils::Backoff;

@@ -1,11 +1,11 @@
 //! Where a waker finds a task whose state matches.
 ghost use Rattle.std.specs.Prelude.{◌≡◌, ◌≢◌, ℕ, ◌<◌, ◌∷◌, true, false, None, Some, IsSome};
 ghost use Rattle.std.specs.List.{All};
-ghost use Rattle.core_data.specs.declared.pos.Rq.{Rq};
+ghost use Rattle.task_words.specs.Folds.{is_claimed, is_moving, task_held, queue_held, is_matched_by, is_unstored, current_task};
+ghost use Rattle.task_words.specs.Rq.{Rq};
 ghost use Rattle.task_words.specs.Views.{IsOf, IsSame};
 ghost use Rattle.ttwu_core.specs.Finds.{DidFind, IsAwaited};
 ghost use Rattle.ttwu_core.specs.Keeps.{Keeps};
-ghost use Rattle.word_steps.specs.Folds.{is_claimed, is_moving, task_held, queue_held, is_matched_by, is_unstored, current_task};
 
 use crossbeam_utils::Backoff;
 use handoff_data::TaskNo;

@@ -1,13 +1,13 @@
 ghost use Rattle.std.specs.Prelude.{◌≡◌, ℕ, Some};
 ghost use Rattle.handoff_data.specs.declared.shape.Shape.{Shape};
 ghost use Rattle.handoff_data.specs.declared.state.State.{State};
+ghost use Rattle.task_words.specs.Folds.{current_task};
 ghost use Rattle.task_words.specs.Views.{PassView};
 ghost use Rattle.ttwu_core.specs.Orders.{IsReadAndReleased, IsReadAndStored, IsClaimedAndQueued};
 ghost use Rattle.ttwu_core.specs.Own.{DidWakeOwn};
 ghost use Rattle.ttwu_core.specs.Wakes.{DidWake};
 ghost use Rattle.ttwu_core.specs.declared.answers.How.TheVariants as how;
 ghost use Rattle.ttwu_core.specs.declared.answers.Wake.TheVariants as wake;
-ghost use Rattle.word_steps.specs.Folds.{current_task};
 
 /// A task that was still queued, or is the waker's own, was read in a state that has a bit of the mask, and
 /// TASK_RUNNING was stored after that. One that was off every queue was claimed, and then queued on the processor of

@@ -1,12 +1,12 @@
 //! The wake-up of the waker's own current task.
 ghost use Rattle.std.specs.Prelude.{◌≡◌, ℕ, ◌+◌, ◌<◌, ◌≤◌, Some, IsSome, true};
-ghost use Rattle.core_kinds.specs.Steps.{normal};
 ghost use Rattle.run_queue.specs.Rests.{Rests};
+ghost use Rattle.task_words.specs.Folds.{current_task, stays_queued, has_passed};
 ghost use Rattle.task_words.specs.Needs.{need_call};
 ghost use Rattle.task_words.specs.States.{IsWakeMask};
+ghost use Rattle.task_words.specs.Steps.{normal};
 ghost use Rattle.task_words.specs.Views.{IsOf, IsSameSeat};
 ghost use Rattle.ttwu_core.specs.Own.{DidWakeOwn};
-ghost use Rattle.word_steps.specs.Folds.{current_task, stays_queued, has_passed};
 
 use crate::answers::{How, Wake};
 use handoff_data::{State, matches};

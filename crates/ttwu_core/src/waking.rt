@@ -1,12 +1,12 @@
 //! The wake-up of another task.
 ghost use Rattle.std.specs.Prelude.{◌≡◌, ◌≢◌, ℕ, ◌+◌, ◌<◌, ◌≤◌, true, false, None, Some};
-ghost use Rattle.core_kinds.specs.Steps.{normal};
 ghost use Rattle.run_queue.specs.Rests.{Rests};
+ghost use Rattle.task_words.specs.Folds.{task_held, queue_held, is_claimed, current_task, task_to_clear, has_passed};
 ghost use Rattle.task_words.specs.Needs.{need_wake};
 ghost use Rattle.task_words.specs.States.{IsWakeMask};
+ghost use Rattle.task_words.specs.Steps.{normal};
 ghost use Rattle.task_words.specs.Views.{IsOf, IsSameSeat};
 ghost use Rattle.ttwu_core.specs.Wakes.{DidWake};
-ghost use Rattle.word_steps.specs.Folds.{task_held, queue_held, is_claimed, current_task, task_to_clear, has_passed};
 
 use crate::answers::{How, Wake};
 use crate::claiming::{choose, claim, queue_woken};

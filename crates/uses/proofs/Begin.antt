@@ -4,7 +4,7 @@ use Rattle.std.specs.List.{All, range_with_len}
 use Rattle.atomic_table.specs.Seated.{TableId}
 use Rattle.handoff_data.specs.declared.shape.Shape.{Shape}
 use Rattle.task_words.specs.Closing.{new_pass, first_passes}
-use Rattle.uses.specs.Between.{IsBetween}
+use Rattle.task_words.specs.Seats.{IsBetween}
 
 module _ (name : TableId) (shape : Shape) (lasting : List (List ℕ)) where
   news_between : (seats : List ℕ) → All IsBetween (map (new_pass name shape lasting) seats)

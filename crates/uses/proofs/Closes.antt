@@ -1,10 +1,10 @@
 -- What the end of a table asks of the passes of its seats.
-use Rattle.std.proofs.Common.{◌≡◌, ◌<◌, ◌++◌, ◌∙◌, ℕ, zero, suc, map, refl, List, [], ◌∷◌, length, arith}
 use Rattle.std.specs.Prelude.{slice_index_or}
+use Rattle.std.proofs.Common.{◌≡◌, ◌<◌, ◌++◌, ◌∙◌, ℕ, zero, suc, map, refl, List, [], ◌∷◌, length, arith}
 use Rattle.std.specs.List.{All, Contains}
 use Rattle.task_words.specs.Closing.{IsDone}
+use Rattle.task_words.specs.Seats.{IsBetween}
 use Rattle.task_words.specs.Views.{PassView, IsOf, IsOneSeat}
-use Rattle.uses.specs.Between.{IsBetween}
 use Rattle.word_table.specs.End.{HasEachSeat}
 use Rattle.word_table.specs.Ruled.{Each}
 use Rattle.word_table.specs.Views.{WordsView}

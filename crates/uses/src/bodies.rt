@@ -1,8 +1,8 @@
 //! A body that ends.
 ghost use Rattle.std.specs.Prelude.{◌≡◌, ◌==◌, [], true, Some};
-ghost use Rattle.uses.specs.Between.{IsRunning};
+ghost use Rattle.task_words.specs.Folds.{ended_known};
+ghost use Rattle.task_words.specs.Seats.{IsRunning};
 ghost use Rattle.task_words.specs.Views.{IsOf, IsSame};
-ghost use Rattle.word_steps.specs.Folds.{ended_known};
 
 use handoff_data::TaskNo;
 use task_words::{Kept, Pass, Wk, body_home, body_out};

@@ -1,8 +1,8 @@
 //! Each task of a table dies: the journals are one legal history.
 ghost use Rattle.std.specs.Prelude.{◌≡◌, ◌<◌, ◌∷◌, [], true, map, IfOk, IfSome, MatchOption};
 ghost use Rattle.std.specs.List.{All};
+ghost use Rattle.task_words.specs.Seats.{IsBetween, IsRunning};
 ghost use Rattle.task_words.specs.Views.{IsOf, IsOneSeat};
-ghost use Rattle.uses.specs.Between.{IsBetween, IsRunning};
 
 use crate::telling::tell;
 use crate::{Turns, die, move_to, pick, put_back, run_turn, start};

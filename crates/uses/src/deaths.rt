@@ -1,9 +1,9 @@
 //! A task dies, step by step.
 ghost use Rattle.std.specs.Prelude.{◌≡◌, ℕ, ◌<◌, ◌≤◌, true, false, Some, None};
-ghost use Rattle.uses.specs.Between.{IsBetween, IsRunning};
+ghost use Rattle.task_words.specs.Folds.{ended_known};
 ghost use Rattle.task_words.specs.Needs.{need_call};
+ghost use Rattle.task_words.specs.Seats.{IsBetween, IsRunning};
 ghost use Rattle.task_words.specs.Views.{IsOf, IsSameSeat};
-ghost use Rattle.word_steps.specs.Folds.{ended_known};
 
 use handoff_data::{State, TaskNo};
 use std::sync::Wait;

@@ -1,6 +1,6 @@
 //! Each step is made once, by two seats in turn: the entries that they make are those of the story.
 ghost use Rattle.std.specs.Prelude.{◌≡◌, ◌<◌, true};
-ghost use Rattle.uses.specs.Between.{IsBetween, IsRunning};
+ghost use Rattle.task_words.specs.Seats.{IsBetween, IsRunning};
 ghost use Rattle.task_words.specs.Views.{IsOf, IsOneSeat};
 
 use crate::death_tests::{close_both, two_seats};

@@ -1,9 +1,9 @@
 //! Two locks at once, and the lock of works.
 ghost use Rattle.std.specs.Prelude.{◌≡◌, ◌≢◌, ◌<◌, None};
-ghost use Rattle.core_kinds.specs.Locks.{IsKept};
+ghost use Rattle.task_words.specs.Folds.{task_held, works_held};
+ghost use Rattle.task_words.specs.Locks.{IsKept};
+ghost use Rattle.task_words.specs.Seats.{IsBetween};
 ghost use Rattle.task_words.specs.Views.{IsOf, IsSame};
-ghost use Rattle.uses.specs.Between.{IsBetween};
-ghost use Rattle.word_steps.specs.Folds.{task_held, works_held};
 
 use handoff_data::{CpuNo, TaskNo};
 use std::sync::Wait;

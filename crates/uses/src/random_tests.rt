@@ -1,9 +1,9 @@
 //! Threads, one for each processor, that choose at random among scenarios: their journals keep each rule of a history.
 ghost use Rattle.std.specs.Prelude.{◌≡◌, ℕ, ◌<◌, ◌≤◌, ◌+◌, true, length, map, slice_index_or, IfOk, IfSome};
 ghost use Rattle.std.specs.List.{All};
+ghost use Rattle.task_words.specs.End.{HasEachSeat};
+ghost use Rattle.task_words.specs.Seats.{IsBetween, IsRunning};
 ghost use Rattle.task_words.specs.Views.{IsOf, IsOneSeat};
-ghost use Rattle.uses.specs.Between.{IsBetween, IsRunning};
-ghost use Rattle.word_table.specs.End.{HasEachSeat};
 
 use crate::telling::tell;
 use crate::{Turns, die, move_to, pick, put_back, run_turn, sleep, start, switch_out, wake};

@@ -1,10 +1,9 @@
 //! A task's way through a processor: started, picked, put back.
 ghost use Rattle.std.specs.Prelude.{◌≡◌, ◌≢◌, ◌<◌, ◌≤◌, true, None, Some, IfSome, IfNone};
+ghost use Rattle.task_words.specs.Folds.{current_task, stays_queued, task_to_clear};
 ghost use Rattle.task_words.specs.Needs.{need_call};
+ghost use Rattle.task_words.specs.Seats.{IsBetween, IsRunning, HoldsNothing};
 ghost use Rattle.task_words.specs.Views.{IsOf, IsSame, IsSameSeat};
-ghost use Rattle.uses.specs.Between.{IsBetween, IsRunning};
-ghost use Rattle.uses.specs.Holds.{HoldsNothing};
-ghost use Rattle.word_steps.specs.Folds.{current_task, stays_queued, task_to_clear};
 
 use core_data::Rq;
 use handoff_data::{State, TaskNo};

@@ -1,12 +1,12 @@
 //! A sleep on a condition, step by step.
 ghost use Rattle.std.specs.Prelude.{◌≡◌, ◌<◌, ◌≤◌, ◌∷◌, true, false, None, Some};
-ghost use Rattle.uses.specs.Between.{IsBetween, IsRunning};
+ghost use Rattle.task_words.specs.Folds.{body_held, current_task, queue_held, stays_queued, task_to_clear, wait_held};
 ghost use Rattle.task_words.specs.Needs.{need_call};
+ghost use Rattle.task_words.specs.Records.{Gave};
+ghost use Rattle.task_words.specs.Seats.{IsBetween, IsRunning};
+ghost use Rattle.task_words.specs.Told.{TakenWait};
+ghost use Rattle.task_words.specs.Val.TheVariants as val;
 ghost use Rattle.task_words.specs.Views.{IsOf, IsSame, IsSameSeat};
-ghost use Rattle.word_rule.specs.Told.{TakenWait};
-ghost use Rattle.word_steps.specs.Records.{Gave};
-ghost use Rattle.word_steps.specs.declared.val.Val.TheVariants as val;
-ghost use Rattle.word_steps.specs.Folds.{body_held, current_task, queue_held, stays_queued, task_to_clear, wait_held};
 
 use handoff_data::{CondNo, State, TaskNo};
 use std::sync::Wait;

@@ -1,13 +1,13 @@
 //! A wake-up, step by step.
 ghost use Rattle.std.specs.Prelude.{◌≡◌, ◌≢◌, ℕ, ◌<◌, ◌≤◌, ◌-◌, true, false, Some, None, IsSome};
-ghost use Rattle.uses.specs.Between.{IsBetween};
 ghost use Rattle.core_data.specs.Table.{put};
+ghost use Rattle.task_words.specs.Folds.{body_held, current_task, is_claimed, is_matched_by};
+ghost use Rattle.task_words.specs.Folds.{is_moving, last_reads, number_read, queue_held, saw_clear, saw_off};
+ghost use Rattle.task_words.specs.Folds.{task_held, task_to_clear, wait_held, works_held};
+ghost use Rattle.task_words.specs.May.{number_of};
 ghost use Rattle.task_words.specs.Needs.{need_step, need_wake};
+ghost use Rattle.task_words.specs.Seats.{IsBetween};
 ghost use Rattle.task_words.specs.Views.{IsOf, IsSame, IsSameSeat};
-ghost use Rattle.word_rule.specs.May.{number_of};
-ghost use Rattle.word_steps.specs.Folds.{body_held, current_task, is_claimed, is_matched_by};
-ghost use Rattle.word_steps.specs.Folds.{is_moving, last_reads, number_read, queue_held, saw_clear, saw_off};
-ghost use Rattle.word_steps.specs.Folds.{task_held, task_to_clear, wait_held, works_held};
 
 use core_data::Rq;
 use handoff_data::{CpuNo, State, TaskNo, matches};

@@ -1,15 +1,15 @@
 -- How the current task enters a wait queue, and leaves it.
 use Rattle.std.specs.Prelude.{◌≡◌, ℕ, ◌∷◌, Bool, List, Some, if◌then◌else◌}
 use Rattle.std.specs.List.{filter}
-use Rattle.core_data.specs.declared.values.WaitEntry.{WaitEntry}
-use Rattle.core_gives.specs.Waits.{has_task}
-use Rattle.core_kinds.specs.Steps.{running}
 use Rattle.handoff_data.specs.declared.state.State.{State}
+use Rattle.task_words.specs.EntryTasks.{is_of_other}
+use Rattle.task_words.specs.Folds.{current_task}
 use Rattle.task_words.specs.Gives.{entered}
-use Rattle.word_steps.specs.Entries.{is_of_other}
-use Rattle.word_steps.specs.Folds.{current_task}
-use Rattle.word_steps.specs.Records.{Rec, Took, Gave, StoredOwn}
-use Rattle.word_steps.specs.declared.val.Val.TheVariants as val
+use Rattle.task_words.specs.Records.{Rec, Took, Gave, StoredOwn}
+use Rattle.task_words.specs.Steps.{running}
+use Rattle.task_words.specs.Val.TheVariants as val
+use Rattle.task_words.specs.WaitEntry.{WaitEntry}
+use Rattle.task_words.specs.Waits.{has_task}
 
 -- a wait queue with an entry of a task put in, where it had none of that task
 unfoldable pub with_entry : WaitEntry → List WaitEntry → List WaitEntry

@@ -1,16 +1,16 @@
 -- What the calls on wait queues mean for those who wait there.
 use Rattle.std.specs.Prelude.{◌≡◌, ◌≢◌, ℕ, ◌≤◌, ◌++◌, ◌∷◌, [], ◌⊎◌, Bool, true, false, List, Some}
 use Rattle.std.specs.List.{All}
-use Rattle.core_data.specs.Entries.{has_entry}
-use Rattle.core_data.specs.declared.values.WaitEntry.{WaitEntry}
-use Rattle.core_gives.specs.Waits.{has_task}
 use Rattle.handoff_data.specs.declared.shape.Shape.{Shape}
 use Rattle.handoff_data.specs.declared.state.State.{State}
+use Rattle.task_words.specs.Entries.{has_entry}
+use Rattle.task_words.specs.Folds.{current_task}
+use Rattle.task_words.specs.Records.{Rec, Took, Gave, StoredOwn}
+use Rattle.task_words.specs.Val.TheVariants as val
 use Rattle.task_words.specs.Views.{PassView}
+use Rattle.task_words.specs.WaitEntry.{WaitEntry}
+use Rattle.task_words.specs.Waits.{has_task}
 use Rattle.wait_queue.specs.Meets.{Meeting, HasMet, is_true, entries_of, staying, count_exclusive}
-use Rattle.word_steps.specs.Folds.{current_task}
-use Rattle.word_steps.specs.Records.{Rec, Took, Gave, StoredOwn}
-use Rattle.word_steps.specs.declared.val.Val.TheVariants as val
 
 -- The state was stored under the lock of the wait queue with an entry of the current task in, and no state of its own
 -- after it. The entry stayed where it was, or came new: an exclusive one at the tail, another at the head.

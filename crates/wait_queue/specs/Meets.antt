@@ -1,15 +1,15 @@
 -- A walk meets the entries of a wait queue, and wakes their tasks.
 use Rattle.std.specs.Prelude.{◌≡◌, ◌≢◌, ℕ, ◌+◌, ◌++◌, ◌∷◌, [], ◌&&◌, Bool, true, false, List, Some, map, if◌then◌else◌}
-use Rattle.core_data.specs.declared.values.WaitEntry.{WaitEntry}
-use Rattle.core_kinds.specs.Steps.{normal}
 use Rattle.handoff_data.specs.declared.shape.Shape.{Shape}
+use Rattle.task_words.specs.Folds.{current_task, has_passed}
+use Rattle.task_words.specs.Records.{Rec}
+use Rattle.task_words.specs.Steps.{normal}
 use Rattle.task_words.specs.Views.{PassView}
+use Rattle.task_words.specs.WaitEntry.{WaitEntry}
 use Rattle.ttwu_core.specs.Own.{DidWakeOwn}
 use Rattle.ttwu_core.specs.Wakes.{DidWake}
 use Rattle.ttwu_core.specs.declared.answers.Wake.{Wake}
 use Rattle.ttwu_core.specs.declared.answers.Wake.TheVariants as wake
-use Rattle.word_steps.specs.Folds.{current_task, has_passed}
-use Rattle.word_steps.specs.Records.{Rec}
 
 -- an entry that a walk met, and what the wake-up of its task answered
 pub record Meeting : Type 0 where

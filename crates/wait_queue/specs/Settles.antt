@@ -1,9 +1,9 @@
 -- What a call on a wait queue asks of its seat, and what it leaves as it was.
 use Rattle.std.specs.Prelude.{◌≡◌, ℕ, true, false, List, Some, None}
-use Rattle.core_data.specs.declared.values.WaitEntry.{WaitEntry}
+use Rattle.task_words.specs.Folds.{task_held, queue_held, wait_held, current_task, stays_queued, task_to_clear, is_claimed, has_passed, has_retaken, owes_walk}
+use Rattle.task_words.specs.Records.{Rec}
 use Rattle.task_words.specs.Untouched.{Untouched}
-use Rattle.word_steps.specs.Folds.{task_held, queue_held, wait_held, current_task, stays_queued, task_to_clear, is_claimed, has_passed, has_retaken, owes_walk}
-use Rattle.word_steps.specs.Records.{Rec}
+use Rattle.task_words.specs.WaitEntry.{WaitEntry}
 
 -- the seat may wake any task: it holds no task's lock and no queue's, has claimed no task, has no busy word to clear,
 -- which a wake-up might wait for, and its current task, if there is one, has not left its queue

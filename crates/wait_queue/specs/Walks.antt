@@ -1,11 +1,11 @@
 -- What a walk along a wait queue adds to what its pass has done.
 use Rattle.std.specs.Prelude.{◌≡◌, ◌≢◌, ℕ, ◌<◌, ◌++◌, ◌∷◌, [], List, Option, Some, None, length}
-use Rattle.core_data.specs.declared.values.WaitEntry.{WaitEntry}
 use Rattle.handoff_data.specs.declared.shape.Shape.{Shape}
+use Rattle.task_words.specs.Records.{Took, Gave, Bumped}
+use Rattle.task_words.specs.Val.TheVariants as val
 use Rattle.task_words.specs.Views.{PassView}
+use Rattle.task_words.specs.WaitEntry.{WaitEntry}
 use Rattle.wait_queue.specs.Meets.{Meeting, HasMet, entries_of, staying, count_true, count_exclusive, HasPassedAll}
-use Rattle.word_steps.specs.Records.{Took, Gave, Bumped}
-use Rattle.word_steps.specs.declared.val.Val.TheVariants as val
 
 -- a walk ends where no entry is left, or as soon as so many true exclusive wakes are made, where a number was asked for
 pub record IsEnd (limit : Option ℕ) (meetings : List Meeting) (rest : List WaitEntry) : Type 0 where

@@ -1,11 +1,11 @@
 //! The current task enters a wait queue, and leaves it.
 ghost use Rattle.std.specs.Prelude.{◌≡◌, ◌<◌, true, None, IsSome};
-ghost use Rattle.core_kinds.specs.Steps.{is_sleep};
+ghost use Rattle.task_words.specs.Folds.{current_task, stays_queued, wait_held};
+ghost use Rattle.task_words.specs.Steps.{is_sleep};
+ghost use Rattle.task_words.specs.Told.{TakenWait};
 ghost use Rattle.task_words.specs.Views.{IsOf, IsSame};
 ghost use Rattle.wait_queue.specs.Entering.{IsPrepared, IsFinished, with_entry};
 ghost use Rattle.wait_queue.specs.Settles.{Settles};
-ghost use Rattle.word_rule.specs.Told.{TakenWait};
-ghost use Rattle.word_steps.specs.Folds.{current_task, stays_queued, wait_held};
 
 use handoff_data::{CondNo, State, TaskNo};
 use std::sync::Wait;

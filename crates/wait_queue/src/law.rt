@@ -2,11 +2,11 @@
 ghost use Rattle.std.specs.Prelude.{◌≡◌, ℕ, ◌<◌, ◌↔◌, Bool, List, Option, Some, None};
 ghost use Rattle.handoff_data.specs.declared.shape.Shape.{Shape};
 ghost use Rattle.handoff_data.specs.declared.state.State.{State};
+ghost use Rattle.task_words.specs.Records.{Rec};
 ghost use Rattle.task_words.specs.Views.{PassView};
 ghost use Rattle.wait_queue.specs.Entering.{IsPrepared, IsFinished};
 ghost use Rattle.wait_queue.specs.Laws.{IsStoredWithin, IsGone, HasMetAll, IsEnough, NoneWoken};
 ghost use Rattle.wait_queue.specs.Walks.{IsWalked};
-ghost use Rattle.word_steps.specs.Records.{Rec};
 
 /// After `prepare` an entry of the current task stands in the wait queue, and its state was stored under the lock with
 /// the entry in; after `finish` it has none there, and the others' entries are as they were. A law: the call does

@@ -1,13 +1,13 @@
 //! A walk meets entries of a wait queue that it has out.
 ghost use Rattle.std.specs.Prelude.{◌≡◌, ◌≢◌, ℕ, ◌<◌, ◌≤◌, ◌+◌, ◌*◌, ◌∷◌, [], true, false, Some, IfSome, length, slice_get};
-ghost use Rattle.run_queue.specs.Rests.{Rests};
+ghost use Rattle.task_words.specs.Folds.{has_passed};
 ghost use Rattle.task_words.specs.Needs.{need_wake, need_walk};
+ghost use Rattle.task_words.specs.Told.{TakenWait};
 ghost use Rattle.task_words.specs.Views.{IsOf, IsSameSeat};
+ghost use Rattle.ttwu_core.specs.Rests.{Rests};
 ghost use Rattle.wait_queue.specs.Meets.{DidWakeTask, HasMetOne};
 ghost use Rattle.wait_queue.specs.Settles.{IsFree};
 ghost use Rattle.wait_queue.specs.Walks.{HasWalked, IsTurned, IsTurnedOnce};
-ghost use Rattle.word_rule.specs.Told.{TakenWait};
-ghost use Rattle.word_steps.specs.Folds.{has_passed};
 
 use handoff_data::{State, TaskNo};
 use std::sync::Wait;

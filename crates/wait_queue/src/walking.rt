@@ -1,10 +1,10 @@
 //! Walks along the wait queue of a condition.
 ghost use Rattle.std.specs.Prelude.{◌≡◌, ◌<◌, ◌≤◌, ◌+◌, ◌*◌, false, None, Some, IfSome};
+ghost use Rattle.task_words.specs.Folds.{owes_walk, wait_held};
 ghost use Rattle.task_words.specs.Needs.{need_walk};
 ghost use Rattle.task_words.specs.Views.{IsOf, IsSameSeat};
 ghost use Rattle.wait_queue.specs.Settles.{IsFree, Settles};
 ghost use Rattle.wait_queue.specs.Walks.{IsWalked, IsRaisedAndWalked};
-ghost use Rattle.word_steps.specs.Folds.{owes_walk, wait_held};
 
 use crate::meeting::walk_entries;
 use handoff_data::CondNo;

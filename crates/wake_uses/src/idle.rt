@@ -1,9 +1,9 @@
 //! Calls of a seat with no current task.
 ghost use Rattle.std.specs.Prelude.{◌<◌, ◌≤◌};
 ghost use Rattle.task_words.specs.Needs.{need_call, need_wake, need_walk};
+ghost use Rattle.task_words.specs.Seats.{IsBetween};
 ghost use Rattle.task_words.specs.States.{IsWakeMask};
 ghost use Rattle.task_words.specs.Views.{IsOf, IsSameSeat};
-ghost use Rattle.uses.specs.Between.{IsBetween};
 
 use handoff_data::{CondNo, CpuNo, State, TaskNo};
 use run_queue::Start;

@@ -1,8 +1,8 @@
 //! A seat's journal is what was told before and the entries of its turn.
 ghost use Rattle.std.specs.Prelude.{◌≡◌, ◌++◌, ◌<◌, slice_get};
+ghost use Rattle.task_words.specs.Folds.{journal};
+ghost use Rattle.task_words.specs.Seats.{IsBetween};
 ghost use Rattle.task_words.specs.Views.{IsOf, IsOneSeat};
-ghost use Rattle.uses.specs.Between.{IsBetween};
-ghost use Rattle.word_steps.specs.Folds.{journal};
 
 use crate::seats::one_seat;
 use crate::start;

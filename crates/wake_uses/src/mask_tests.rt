@@ -1,9 +1,9 @@
 //! Whom a mask wakes, and that nothing wakes a task that is dead.
 ghost use Rattle.std.specs.Prelude.{◌≡◌, ◌<◌, true, Some};
+ghost use Rattle.task_words.specs.Folds.{ended_known};
+ghost use Rattle.task_words.specs.Seats.{IsBetween, IsRunning};
 ghost use Rattle.task_words.specs.States.{IsWakeMask};
 ghost use Rattle.task_words.specs.Views.{IsOf, IsSame, IsOneSeat};
-ghost use Rattle.uses.specs.Between.{IsBetween, IsRunning};
-ghost use Rattle.word_steps.specs.Folds.{ended_known};
 
 use crate::seats::two_seats;
 use crate::wait_tests::run_new;

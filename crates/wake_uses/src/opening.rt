@@ -1,8 +1,8 @@
 //! How a table begins: every seat stands between two scenarios.
 ghost use Rattle.std.specs.Prelude.{◌≡◌, ◌<◌, ◌≤◌, IfOk};
 ghost use Rattle.std.specs.List.{All};
+ghost use Rattle.task_words.specs.Seats.{IsBetween};
 ghost use Rattle.task_words.specs.Views.{IsOf};
-ghost use Rattle.uses.specs.Between.{IsBetween};
 
 use handoff_data::{NoMemory, Shape};
 use std::alloc::Global;

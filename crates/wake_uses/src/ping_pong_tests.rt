@@ -1,8 +1,8 @@
 //! Two threads, each with a task of its own, that wake each other in turn: no wake is missed.
 ghost use Rattle.std.specs.Prelude.{◌≡◌, ◌<◌, true, IfNone, IfSome};
 ghost use Rattle.std.specs.List.{All};
+ghost use Rattle.task_words.specs.Seats.{IsBetween, IsRunning};
 ghost use Rattle.task_words.specs.Views.{IsOf, IsOneSeat};
-ghost use Rattle.uses.specs.Between.{IsBetween, IsRunning};
 
 use crate::running::{bump_and_wake, finish, prepare};
 use crate::{begin, start};

@@ -1,8 +1,8 @@
 //! Calls of a seat whose current task is on its queue.
 ghost use Rattle.std.specs.Prelude.{◌<◌, ◌≤◌};
 ghost use Rattle.task_words.specs.Needs.{need_call, need_walk};
+ghost use Rattle.task_words.specs.Seats.{IsRunning};
 ghost use Rattle.task_words.specs.Views.{IsOf, IsSame, IsSameSeat};
-ghost use Rattle.uses.specs.Between.{IsRunning};
 
 use handoff_data::{CondNo, State, TaskNo};
 use std::sync::Wait;

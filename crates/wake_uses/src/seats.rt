@@ -1,7 +1,7 @@
 //! The seats that a test begins with.
 ghost use Rattle.std.specs.Prelude.{◌≡◌, ◌+◌, ◌<◌, ◌≤◌, IfOk};
+ghost use Rattle.task_words.specs.Seats.{IsBetween};
 ghost use Rattle.task_words.specs.Views.{IsOf};
-ghost use Rattle.uses.specs.Between.{IsBetween};
 
 use crate::begin;
 use std::alloc::Global;

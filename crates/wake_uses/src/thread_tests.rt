@@ -2,8 +2,8 @@
 //! of a history.
 ghost use Rattle.std.specs.Prelude.{◌≡◌, ◌<◌, ◌≤◌, true};
 ghost use Rattle.std.specs.List.{All};
+ghost use Rattle.task_words.specs.Seats.{IsBetween, IsRunning};
 ghost use Rattle.task_words.specs.Views.{IsOf, IsOneSeat};
-ghost use Rattle.uses.specs.Between.{IsBetween, IsRunning};
 
 use crate::running::{self, finish, prepare};
 use crate::{begin, bump_and_wake, start, wake, wake_all, wake_some};

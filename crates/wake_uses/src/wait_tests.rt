@@ -1,7 +1,7 @@
 //! Wait queues, by the steps of one or two seats.
 ghost use Rattle.std.specs.Prelude.{◌≡◌, ◌<◌, true};
+ghost use Rattle.task_words.specs.Seats.{IsBetween, IsRunning};
 ghost use Rattle.task_words.specs.Views.{IsOf, IsOneSeat};
-ghost use Rattle.uses.specs.Between.{IsBetween, IsRunning};
 
 use crate::running::{self, finish, prepare};
 use crate::seats::{one_seat, two_seats};

@@ -1,7 +1,7 @@
 //! What starts and wake-ups answer.
 ghost use Rattle.std.specs.Prelude.{◌<◌};
+ghost use Rattle.task_words.specs.Seats.{IsBetween};
 ghost use Rattle.task_words.specs.Views.{IsOf};
-ghost use Rattle.uses.specs.Between.{IsBetween};
 
 use crate::running::wake_own;
 use crate::seats::{one_seat, two_seats};

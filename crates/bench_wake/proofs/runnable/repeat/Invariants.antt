@@ -1,6 +1,6 @@
 use Rattle.bench_wake.proofs.runnable.repeat.Given as goal
+use Rattle.task_words.specs.Seats.{IsBetween, IsRunning}
 use Rattle.task_words.specs.Views.{IsOf}
-use Rattle.uses.specs.Between.{IsBetween, IsRunning}
 
 abbrev pub invariant-loop : goal.invariant-loop
 invariant-loop g l = record {

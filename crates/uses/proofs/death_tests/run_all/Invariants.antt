@@ -1,5 +1,5 @@
+use Rattle.task_words.specs.Seats.{IsBetween}
 use Rattle.task_words.specs.Views.{IsOneSeat}
-use Rattle.uses.specs.Between.{IsBetween}
 use Rattle.uses.proofs.death_tests.run_all.Given as goal
 
 abbrev pub invariant-loop : goal.invariant-loop

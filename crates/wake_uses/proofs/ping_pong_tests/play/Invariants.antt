@@ -1,5 +1,5 @@
+use Rattle.task_words.specs.Seats.{IsRunning}
 use Rattle.task_words.specs.Views.{IsOneSeat}
-use Rattle.uses.specs.Between.{IsRunning}
 use Rattle.wake_uses.proofs.ping_pong_tests.play.Given as goal
 
 abbrev pub invariant-loop-count : goal.invariant-loop-count

@@ -1,5 +1,5 @@
+use Rattle.task_words.specs.Seats.{IsBetween}
 use Rattle.task_words.specs.Views.{IsOneSeat}
-use Rattle.uses.specs.Between.{IsBetween}
 use Rattle.wake_uses.proofs.ping_pong_tests.resume.Given as goal
 
 abbrev pub invariant-loop : goal.invariant-loop
