@@ -32,8 +32,9 @@ for page in docs/ARCHITECTURE.md docs/PROVED.md; do
     done
 done >>"$faults"
 
-# A state and a column of words have names. The names are defined in three files; bits of masks are no states.
-{ sources; specs; } | grep -vE 'handoff_data/src/state.rt|core_kinds/specs/Steps.antt|word_steps/specs/Words.antt' |
+# A state and a column of words have names. These files define them, or stand below the definition; bits of masks are
+# no states.
+{ sources; specs; } | grep -vE 'handoff_data/src/state.rt|core_kinds/specs/Steps.antt|core_data/specs/Opening.antt' |
     xargs grep -nHE '\b0x(80|200|800)\b' | say 'a state as a number'
 { sources; specs; } | grep -v 'word_steps/specs/Words.antt' |
     xargs grep -nHE "\b(words|words'|put_at words) \(?[a-z][a-z_.]*\)? [0-9]{2}\b|\bcol(umn)? *(=|≡|:) *\{? *[0-9]+" |

@@ -28,6 +28,7 @@ use word_table::Kept;
 fn few_tasks<B: Kept>(wk: &Wk<B>)
     ensures { wk.now.shape.tasks ≤ 200 }
 {
+    // What `Wk` keeps of its shape is known once it is read.
     let _words = &wk.words;
 }
 
