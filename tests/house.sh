@@ -61,7 +61,7 @@ sources | xargs awk '
     /^ *let _[a-z0-9_]+ =/ && before !~ /^ *\/\/ / { print FILENAME ":" FNR }
     { before = $0 }' | say 'let _ without a reason before it'
 
-cat "$faults"
+sort -u "$faults"
 if [ -s "$faults" ]; then
     exit 1
 fi
