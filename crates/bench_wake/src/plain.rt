@@ -1,5 +1,6 @@
 //! The plain atomic operations of each kind of wake-up and walk, in their order, on words of their own. A lock taken is one
 //! compare-exchange, and a lock given one store.
+use handoff_data::State;
 use std::sync::atomic::AtomicU64;
 use std::sync::atomic::Ordering::SeqCst;
 
@@ -119,7 +120,7 @@ fn queue(words: &PlainWords) {
     lock(&words.task_lock);
     words.state.load(SeqCst);
     let seen = words.rq.load(SeqCst);
-    words.state.store(0x200, SeqCst);
+    words.state.store(State::TASK_WAKING.0 as u64, SeqCst);
     words.busy.load(SeqCst);
     words.cpu.load(SeqCst);
     lock(&words.queue_lock);

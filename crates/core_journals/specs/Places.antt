@@ -1,6 +1,7 @@
 -- Where a task is, by the words of the core, and how a step may change it.
 use Rattle.std.specs.Prelude.{◌≡◌, ◌≢◌, ℕ, ◌==◌, ◌⊎◌, ◌++◌, ◌∷◌, [], Bool, true, false, Option, Some, None, if◌then◌else◌}
 use Rattle.core_data.specs.Table.{Table}
+use Rattle.core_kinds.specs.Steps.{dead, waking}
 use Rattle.handoff_data.specs.Moves.{task_of, Moves}
 use Rattle.handoff_data.specs.declared.entry.Entry.{Entry}
 use Rattle.handoff_data.specs.declared.entry.Entry.TheVariants as entry
@@ -20,8 +21,8 @@ q_of changes on_rq state cpu lock =
     if changes == 0 then q.New
     else if on_rq == 1 then q.On cpu
     else if on_rq == 2 then held_by q.Moving lock
-    else if state.0 == 0x80 then q.Dead
-    else if state.0 == 0x200 then held_by q.Waking lock
+    else if state.0 == dead.0 then q.Dead
+    else if state.0 == waking.0 then held_by q.Waking lock
     else q.Off
 
 -- a busy task is so on its processor

@@ -61,7 +61,7 @@ pub record MayDequeue (core : Table) (s c t : ℕ) : Type 0 where
 
 abbrev pub is_dead : Option State → Bool
 is_dead None = false
-is_dead (Some state) = state.0 == 0x80
+is_dead (Some state) = state.0 == dead.0
 
 abbrev pub dequeue_entry : Option State → ℕ → ℕ → ℕ → Entry
 dequeue_entry seen changes t c = if is_dead seen then Die t (changes + 1) c else Sleep t (changes + 1) c

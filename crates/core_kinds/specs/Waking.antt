@@ -144,7 +144,7 @@ state_read t state reads = record { t = t; state = Some state; rq = None; busy =
 -- the effect of reading this state; a state that doesn't match the mask is noted in the journal
 abbrev pub load_this : Table → ℕ → ℕ → Option State → Bool → TaskReads → State → Table
 load_this core s t mask own old state =
-    logged_if (is_refused state mask) (noted_if (not (is_match state normal)) (noted_if (not (state.0 == 0x200)) (noted_if (is_matched state mask)
+    logged_if (is_refused state mask) (noted_if (not (is_match state normal)) (noted_if (not (state.0 == waking.0)) (noted_if (is_matched state mask)
     (seen_if own (record core { reads = put_at core.reads s t (state_read t state old) }) s state)
     s (Matched t)) s (SawRest t)) s (Passed t)) s (Refused t state)
 

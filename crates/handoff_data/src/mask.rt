@@ -52,6 +52,7 @@ impl CpuMask {
     pub fn limit(&self) -> u32
         ensures { (k : ℕ) → HasCpu self.now k → k < result }
     {
+        // A number behind a reference has its range once it is read: no processor is 128 or more.
         let _bits = self.bits;
         128
     }

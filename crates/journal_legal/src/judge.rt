@@ -36,9 +36,7 @@ impl Judge {
         requires at { IsJudgeAt journals.now before index self.now }
         requires later { before < seat }
         ensures { IsJudgeAt journals.now seat 0 self.now }
-    {
-        let _place = (journals.tasks, before, index, seat);
-    }
+    {}
 
     /// The lowest rule that the entry breaks, which stands at this position, where each earlier entry keeps all
     /// rules. If it breaks none, the judge has gone through it.
@@ -91,7 +89,6 @@ impl Judge {
         requires task { t < journals.now.tasks }
         ensures { IsTrue result ↔ HasEnded journals.now t }
     {
-        let _place = (seat, index);
         journal_rules::has_ended(journals, &self.facts, t)
     }
 }

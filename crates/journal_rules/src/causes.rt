@@ -37,7 +37,6 @@ pub fn chained(journals: &Journals, facts: &Facts, seat: SeatNo, index: u64, ent
     requires { KnowsFacts journals.now facts.now }
     ensures { IsTrue result ↔ Chained journals.now seat index entry }
 {
-    let _place = (journals.tasks, index);
     match entry {
         Entry::New { m, .. } => m == 1,
         Entry::Sleep { t, m, c } => follows_queueing(facts, t, m, c),
@@ -95,7 +94,6 @@ pub fn caused(journals: &Journals, facts: &Facts, seat: SeatNo, index: u64, entr
     requires { KnowsFacts journals.now facts.now }
     ensures { IsTrue result ↔ Caused journals.now seat index entry }
 {
-    let _tasks = journals.tasks;
     match entry {
         Entry::Wake { t, m } => is_sleep(facts, t, m),
         Entry::List { t, m, .. } => is_woken_before(facts, t, m, seat, index),

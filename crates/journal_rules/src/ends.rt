@@ -38,6 +38,7 @@ pub fn has_ended(journals: &Journals, facts: &Facts, t: TaskNo) -> bool
     requires task { t < journals.now.tasks }
     ensures { IsTrue result ↔ HasEnded journals.now t }
 {
+    // A number behind a reference has its range once it is read; t + 1 then has room.
     let _tasks = journals.tasks;
     dies_last(facts, t) && finishes_last(facts, t)
 }

@@ -88,7 +88,6 @@ pub fn listed_in_order(
     requires marks { AreMarks journals.now seat index marks.now }
     ensures { IsTrue result ↔ ListedInOrder journals.now seat index entry }
 {
-    let _place = (journals.tasks, index);
     none_passed(ended(facts, entry), marks, seat)
 }
 
@@ -133,7 +132,6 @@ pub fn note_taken(
     requires stands { Stands journals.now seat index entry }
     ensures { AreMarks journals.now seat (index + 1) marks.new }
 {
-    let _place = (journals.tasks, index);
     note_all(ended(facts, entry), marks, seat);
 }
 

@@ -157,7 +157,6 @@ pub fn masked_and_stood(
     requires members { KnowsMembers journals.now members.now }
     ensures { IsTrue result ↔ MaskedAndStood journals.now seat index entry }
 {
-    let _place = (seat, index);
     let cpus = journals.cpus;
     match entry {
         Entry::Mask { t, r, mask } => may_mask(facts, t, r, mask),
@@ -187,7 +186,6 @@ pub fn done_stood(
     requires { KnowsFacts journals.now facts.now }
     ensures { IsTrue result ↔ DoneStood journals.now seat index entry }
 {
-    let _tasks = journals.tasks;
     match entry {
         Entry::Done { t, r } => may_be_done(facts, t, r, seat, index),
         _ => true,

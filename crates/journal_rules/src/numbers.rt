@@ -57,7 +57,6 @@ pub fn not_repeated(
     requires { KnowsFacts journals.now facts.now }
     ensures { IsTrue result ↔ NotRepeated journals.now seat index entry }
 {
-    let _tasks = journals.tasks;
     match identity_key(entry) {
         Some(key) => !is_told_earlier(facts, key.kind, key.subject, key.number, seat, index),
         None => true,

@@ -68,7 +68,6 @@ fn is_own(journals: &Journals, c: CpuNo, seat: SeatNo) -> bool
 pub fn in_range(journals: &Journals, seat: SeatNo, index: u64, entry: Entry) -> bool
     ensures { IsTrue result ↔ InRange journals.now seat index entry }
 {
-    let _index = index;
     match entry {
         Entry::New { t, c, .. } => are_in(journals, t, c),
         Entry::List { t, c, .. } => are_in(journals, t, c),

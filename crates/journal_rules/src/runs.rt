@@ -56,7 +56,6 @@ pub fn runs_alternate(
     requires { KnowsFacts journals.now facts.now }
     ensures { IsTrue result ↔ RunsAlternate journals.now seat index entry }
 {
-    let _tasks = journals.tasks;
     match entry {
         Entry::Pick { t, n, .. } => may_pick(facts, t, n),
         Entry::Finish { t, n, c } => may_finish(facts, t, n, c, seat, index),

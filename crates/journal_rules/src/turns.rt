@@ -140,7 +140,6 @@ fn may_come(journals: &Journals, facts: &Facts, seat: SeatNo, index: u64, c: Cpu
     requires { KnowsFacts journals.now facts.now }
     ensures { IsTrue result ↔ OutageLeavesNone journals.now seat index (entry.Up c e) }
 {
-    let _cpu = c;
     may_return(last_turn(journals, facts, seat, index), e)
 }
 

@@ -133,6 +133,7 @@ impl Net {
         ensures fresh { IfOk result (λ r. All IsFresh r.items) }
     {
         law_script();
+        // A number behind a reference has its range once it is read.
         let _range = script.shape.tasks;
         let tasks = script.tasks.as_slice();
         let courses = own_courses(alloc, tasks)?;

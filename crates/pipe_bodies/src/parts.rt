@@ -95,7 +95,7 @@ pub(crate) fn hold(said: &mut Lines, held: &mut Held) -> Result<(), NoMemory>
     Ok(())
 }
 
-// The same for a work.
+// Holds what a work says for an item of its side, and answers whether it goes on.
 fn hear_work<W: Work>(
     work: &mut Custom<W>,
     item: Item,
@@ -114,6 +114,7 @@ fn hear_work<W: Work>(
             Ok(true)
         }
         Item::End => {
+            // The clauses of `side` say that a work has one side, which ends here.
             let _side = work.side();
             work.end(said)?;
             hold(said, held)?;
@@ -153,6 +154,7 @@ fn make<W: Work>(alloc: Global, course: &mut Course<W>, held: &mut Held) -> Resu
     match course {
         Course::Own(plan) => make_plan(alloc, plan, held),
         Course::Brought(work) => {
+            // The clauses of `side` say that a work has one side, so it is no source.
             let _side = work.side();
             unreachable!()
         }
@@ -337,6 +339,7 @@ fn is_pinned<W: Work>(plan: &Option<Course<W>>) -> bool
         Some(Course::Own(Plan::Pin { on, .. })) => *on,
         Some(Course::Own(_)) => false,
         Some(Course::Brought(work)) => {
+            // The clauses of `side` say that a work has one side, and is no pin.
             let _side = work.side();
             false
         }

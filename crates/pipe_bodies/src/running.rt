@@ -23,6 +23,7 @@ fn round<W: Work>(bodies: &mut Vec<Body<W>>) -> Result<(), NoMemory>
     ensures ended { All HasEnded bodies.old.items → IsOk result × All HasEnded bodies.new.items }
 {
     for i in 0..bodies.len() {
+        // The round ends by its number of turns, not by verdicts.
         let _verdict = bodies[i].turn()?;
     }
     Ok(())
@@ -36,6 +37,7 @@ fn turn_one<W: Work>(bodies: &mut Vec<Body<W>>, place: usize) -> Result<(), NoMe
     let count = bodies.len();
     if count > 0 {
         let index = place % count;
+        // The list of turns goes on whatever came of this one.
         let _verdict = bodies[index].turn()?;
     }
     Ok(())

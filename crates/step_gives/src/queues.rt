@@ -11,7 +11,7 @@ ghost use Rattle.core_kinds.specs.Steps.{IsRunnable};
 use crate::fits::is_queue_of;
 use crate::switch::may_switch;
 use core_data::{Core, QueueVal, SeatCore};
-use handoff_data::{CpuNo, SeatNo, TaskNo};
+use handoff_data::{CpuNo, SeatNo, State, TaskNo};
 use step_kinds::unsee;
 use step_stores::{
     cpus, current, put_current, put_queue, put_queue_lock, put_to_clear, queue_lock, release_queue,
@@ -26,7 +26,7 @@ fn is_runnable(core: &Core, t: TaskNo) -> bool
         return true;
     }
     let state = task_words(core, t).state;
-    state.0 == 0 || state.0 == 0x800
+    state.0 == State::TASK_RUNNING.0 || state.0 == State::TASK_NEW.0
 }
 
 /// Whether the task at this place of those that wait may run.

@@ -22,7 +22,7 @@ pub fn is_of_shape(core: &Core, s: SeatNo, t: TaskNo) -> bool
 pub fn is_runnable(state: State) -> bool
     ensures { IsTrue result ↔ IsRunnable state }
 {
-    state.0 == 0 || state.0 == 0x800
+    state.0 == State::TASK_RUNNING.0 || state.0 == State::TASK_NEW.0
 }
 
 /// Whether this is a sleep state.

@@ -137,7 +137,7 @@ fn dequeue_entry(state: Option<State>, changes: u64, t: TaskNo, c: CpuNo) -> Ent
     let m = changes + 1;
     match state {
         Some(state) => {
-            if state.0 == 0x80 {
+            if state.0 == State::TASK_DEAD.0 {
                 Entry::Die { t, m, c }
             } else {
                 Entry::Sleep { t, m, c }

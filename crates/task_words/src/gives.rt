@@ -28,6 +28,7 @@ use word_table::Kept;
 fn few_tasks<B: Kept>(wk: &Wk<B>)
     ensures { wk.now.shape.tasks ≤ 200 }
 {
+    // What `Wk` keeps of its shape is known once it is read.
     let _words = &wk.words;
 }
 
@@ -246,7 +247,7 @@ impl<B: Kept> TaskGuard<B> {
 
 impl<B: Kept> WaitGuard<B> {
     /// Puts an entry of a task in that has none there: an exclusive one at the tail, another at the head, as Linux's
-    /// `prepare_to_wait_exclusive` and `prepare_to_wait`.
+    /// `prepare_to_wait_exclusive` and `prepare_to_wait` (`kernel/sched/wait.c`).
     #[tactic(auto, unfolding(crate::specs::Gives::entered))]
     pub fn enter(&mut self, wk: &Wk<B>, pass: &Pass, t: TaskNo, exclusive: bool)
         requires of { IsOf wk.now pass.now }

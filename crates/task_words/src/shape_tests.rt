@@ -51,7 +51,7 @@ fn new_tables_are_closed(rt: HostRuntime) -> Result<(), Fail> {
             return Err(Fail::from("a pass that isn't new"));
         };
         assert!(rt; closed.states.len() == shape.tasks as usize);
-        assert!(rt; closed.states.iter().all(|state| *state == State(0x800)));
+        assert!(rt; closed.states.iter().all(|state| *state == State::TASK_NEW));
         assert!(rt; closed.conds.len() == shape.conds as usize);
         assert!(rt; closed.conds.iter().all(|count| *count == 0));
     }

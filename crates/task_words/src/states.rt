@@ -1,6 +1,6 @@
 //! Stores of a task's state and of its processor, and loads of its state against a mask.
 ghost use Rattle.std.specs.Prelude.{◌≡◌, ℕ, ◌<◌, ◌≤◌, ◌+◌, ◌^◌, ◌∷◌, Some, unwrap_or};
-ghost use Rattle.core_kinds.specs.Steps.{running};
+ghost use Rattle.core_kinds.specs.Steps.{running, waking};
 ghost use Rattle.handoff_data.specs.declared.entry.Entry.TheVariants as entry;
 ghost use Rattle.task_words.specs.Needs.{need_step};
 ghost use Rattle.task_words.specs.Views.{IsOf, IsSame, IsSameSeat, logged};
@@ -52,7 +52,7 @@ pub fn set_running<B: Kept>(wk: &Wk<B>, pass: &mut Pass)
 pub fn store_waking<B: Kept>(wk: &Wk<B>, pass: &mut Pass, t: TaskNo, m: u64)
     requires of { IsOf wk.now pass.old }
     requires task { t < wk.now.shape.tasks }
-    requires may { (x : ℕ) → MayClaimWord pass.old.seat pass.old.trace t x 0x200 }
+    requires may { (x : ℕ) → MayClaimWord pass.old.seat pass.old.trace t x waking.0 }
     requires number { number_of pass.old.trace t ≡ m }
     requires spare { need_step ≤ pass.old.turn.spare }
     ensures same { IsSameSeat pass.old pass.new }

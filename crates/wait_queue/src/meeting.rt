@@ -28,6 +28,7 @@ pub struct Tally {
 fn few_tasks<B: Kept>(wk: &Wk<B>)
     ensures { wk.now.shape.tasks ≤ 200 }
 {
+    // The clause of `shape` says it.
     let _shape = wk.shape();
 }
 

@@ -25,6 +25,7 @@ fn told_by_start<B: Kept, R: Wait>(rt: &R, wk: &Wk<B>, pass: &mut Pass) -> Optio
     ensures first { result ≡ slice_get pass.new.turn.entries 0 }
 {
     pass.clear_turn();
+    // What it answers is tested elsewhere; here the journal alone.
     let _started = start(rt, wk, pass, 0, 0);
     pass.turn().get(0)
 }

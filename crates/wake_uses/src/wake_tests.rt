@@ -59,7 +59,7 @@ fn starts<B: Kept, R: Wait + Abort>(rt: &R, wk: &Wk<B>, pass: &mut Pass)
     requires between { IsBetween pass.old }
 {
     pass.clear_turn();
-    let seen = State(0x800);
+    let seen = State::TASK_NEW;
     assert_eq!(rt; wake(rt, wk, pass, 0), Wake::NoMatch { seen });
     pass.clear_turn();
     assert_eq!(rt; start(rt, wk, pass, 0, 0), Start::Started { m: 1 });

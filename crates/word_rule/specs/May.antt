@@ -10,7 +10,7 @@ use Rattle.core_gives.specs.Queues.{times}
 use Rattle.core_gives.specs.Waits.{HasEachOnce}
 use Rattle.core_kinds.specs.Locks.{IsKept}
 use Rattle.core_kinds.specs.Running.{MayLeave}
-use Rattle.core_kinds.specs.Steps.{is_sleep, dead, running}
+use Rattle.core_kinds.specs.Steps.{is_sleep, dead, running, waking}
 use Rattle.handoff_data.specs.declared.shape.Shape.{Shape}
 use Rattle.word_rule.specs.Sorts.{Sort, OfTask, OfQueue, OfWorks, OfWait}
 use Rattle.word_rule.specs.Standing.{standing, may_run}
@@ -103,7 +103,7 @@ module _ (s : ℕ) (trace : List Rec) where
 
   -- TASK_WAKING: under the task's lock a matching state was read and then `on_rq` as 0
   pub record MayClaimWord (t x y : ℕ) : Type 0 where
-    pub after : y ≡ 0x200
+    pub after : y ≡ waking.0
     pub locked : IsSome (task_held trace t)
     pub off : saw_off trace t ≡ true
 

@@ -4,7 +4,7 @@ use mathlib.Core.Bool.{not}
 use Rattle.core_data.specs.Queue.{times_in}
 use Rattle.core_data.specs.Table.{put}
 use Rattle.core_gives.specs.Queues.{times, is_at, is_some_of}
-use Rattle.core_kinds.specs.Steps.{IsRunnable}
+use Rattle.core_kinds.specs.Steps.{IsRunnable, running, fresh}
 use Rattle.handoff_data.specs.declared.state.State.{State}
 use Rattle.word_steps.specs.Folds.{put_column_if, put_column, put_both, has_put, current_task, stays_queued, queue_held, saw_off, number_read}
 use Rattle.word_steps.specs.Records.{Rec, Took, Queued, Dequeued, Moved, StoredOwn, Released, LoadedState}
@@ -29,7 +29,7 @@ standing (r ∷ rs) = standing_after r (standing rs)
 
 -- TASK_RUNNING or TASK_NEW
 abbrev pub is_runnable : State → Bool
-is_runnable state = (state.0 == 0) || (state.0 == 0x800)
+is_runnable state = (state.0 == running.0) || (state.0 == fresh.0)
 
 -- the seat knows that a task may run which stands in the queue: it waited there as the lock was taken, or the seat put
 -- it there as new or in a move, or stored TASK_RUNNING once it was there, or read that its own current

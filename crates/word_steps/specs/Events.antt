@@ -5,6 +5,7 @@ use Rattle.core_data.specs.Table.{Table, put_at}
 use Rattle.core_data.specs.declared.values.TaskVal.{TaskVal}
 use Rattle.core_data.specs.declared.values.WaitEntry.{WaitEntry}
 use Rattle.core_data.specs.declared.values.WorkItem.{WorkItem}
+use Rattle.core_kinds.specs.Steps.{waking}
 use Rattle.core_law.specs.Steps.{Step}
 use Rattle.core_law.specs.declared.step.StepKind.{StepKind}
 use Rattle.core_law.specs.declared.step.StepKind.TheVariants as step
@@ -64,7 +65,7 @@ Writes s (step.StoreRqMoving c t queue) words words' = (x : ℕ) × (words' ≡ 
 Writes s (step.SetBusy c t queue) words words' = (x : ℕ) × (words' ≡ put_at words t BUSY x)
 Writes s (step.ClearBusy t) words words' = (x : ℕ) × (words' ≡ put_at words t BUSY x)
 Writes s (step.OwnState t state) words words' = words' ≡ put_at words t STATE state.0
-Writes s (step.StoreWaking t) words words' = words' ≡ put_at words t STATE 0x200
+Writes s (step.StoreWaking t) words words' = words' ≡ put_at words t STATE waking.0
 Writes s (step.StoreRunning t) words words' = words' ≡ put_at words t STATE 0
 Writes s (step.StoreCpu t c) words words' = words' ≡ put_at words t CPU c
 Writes s (step.Bump k) words words' = words' ≡ put_at words k COND ((words k COND + 1) % 2 ^ 64)

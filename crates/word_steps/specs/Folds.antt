@@ -16,7 +16,7 @@ use Rattle.core_data.specs.declared.values.WorkItem.{WorkItem}
 use Rattle.core_gives.specs.Queues.{gives_up}
 use Rattle.core_gives.specs.Waits.{sleeper_of, is_walk}
 use Rattle.core_kinds.specs.Running.{queue_entry, dequeue_entry}
-use Rattle.core_kinds.specs.Steps.{normal, is_sleep, is_match, kept_reads, numbered_reads}
+use Rattle.core_kinds.specs.Steps.{normal, is_sleep, is_match, kept_reads, numbered_reads, waking}
 use Rattle.core_kinds.specs.Waking.{is_some_of, is_matched, is_refused, state_read, rq_read, busy_read, cpu_read}
 use Rattle.word_steps.specs.Records.{Rec, Took, Gave, OutBody, HomeBody, Queued, Dequeued, Moved, SetBusy, ClearedBusy, StoredOwn, Claimed, Released, LoadedState, LoadedRq, LoadedBusy, LoadedCpu, StoredCpu, Bumped, LoadedCond}
 use Rattle.word_steps.specs.declared.val.Val.TheVariants as val
@@ -201,7 +201,7 @@ saw_off [] = λ t. false
 saw_off (r ∷ rs) = off_after r (is_unstored rs) (saw_off rs)
 
 abbrev pub rest_after : Rec → (ℕ → Bool) → ℕ → Bool
-rest_after (LoadedState t mask state) h = put_if (not (state.0 == 0x200)) t true h
+rest_after (LoadedState t mask state) h = put_if (not (state.0 == waking.0)) t true h
 rest_after r h = put_some (renewed_task r) false h
 
 abbrev pub saw_rest : List Rec → ℕ → Bool

@@ -6,6 +6,7 @@ use mathlib.Core.Option as maybe
 use lib.ListN.{get_elem?}
 use Rattle.atomic_table.specs.Seated.{TableId}
 use Rattle.core_data.specs.Opening.{no_tasks}
+use Rattle.core_kinds.specs.Steps.{fresh}
 use Rattle.handoff_data.specs.declared.mask.CpuMask.{CpuMask}
 use Rattle.handoff_data.specs.declared.shape.Shape.{Shape}
 use Rattle.word_steps.specs.Opening.{first_val}
@@ -20,7 +21,7 @@ use Rattle.word_table.specs.declared.slot.Slot.TheVariants.{Empty, Held, Body}
 -- some tasks are TASK_NEW, some processors active in epoch 0; every other word is 0
 abbrev pub words_with : (tasks cpus : ℕ) → ℕ → ℕ → ℕ
 words_with tasks cpus n c =
-    if c == STATE then (if nat_lt n tasks then 0x800 else 0) else if c == ACTIVE then (if nat_lt n cpus then 1 else 0) else 0
+    if c == STATE then (if nat_lt n tasks then fresh.0 else 0) else if c == ACTIVE then (if nat_lt n cpus then 1 else 0) else 0
 
 module _ {B : Type 0} where
   abbrev pub body_slot : maybe.Option B → Slot B

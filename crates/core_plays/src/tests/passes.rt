@@ -69,7 +69,8 @@ fn nothing_by_an_earlier_lock(rt: HostRuntime) -> Result<(), Fail> {
         0 take_queue 0 ; not 0 store_running 0 -- queued under an earlier lock of the queue ;
 
         opening ;
-        start_0 ; 2 take_task 0 ; 2 take_queue 0 ; 2 load_busy 0 ; 2 give_queue 0 cur - left - waiting 0 ; 2 take_queue 0 ;
+        start_0 ; 2 take_task 0 ; 2 take_queue 0 ; 2 load_busy 0 ; 2 give_queue 0 cur - left - waiting 0 ;
+        2 take_queue 0 ;
         not 2 store_rq_moving 0 0 cur - left - waiting 0 -- its busy word was read under an earlier lock of the queue ;
 
         opening ;

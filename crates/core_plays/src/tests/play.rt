@@ -161,6 +161,7 @@ fn play_line(alloc: Global, played: &mut Played, line: &[Word<'_>]) -> Result<bo
 
 /// Plays a list from the opening core, and answers the first line, from 0, that isn't as it should be: an event that
 /// isn't possible, one that is and shouldn't be, something of the core that isn't so, or a word that means nothing.
+/// Answers `NoMemory` where memory runs out.
 pub fn wrong_line(alloc: Global, text: &str) -> Result<Option<usize>, NoMemory> {
     let words = words_of(alloc, text)?;
     let mut played = opening(alloc)?;
@@ -177,7 +178,7 @@ pub fn wrong_line(alloc: Global, text: &str) -> Result<Option<usize>, NoMemory> 
     Ok(Some(lines))
 }
 
-/// Plays a list, each line of which has to be as it should be.
+/// Plays a list, each line of which has to be as it should be. Answers `NoMemory` where memory runs out.
 pub fn plays<R: Abort + AllocGlobal>(rt: &R, list: &str) -> Result<(), NoMemory> {
     assert_eq!(rt; wrong_line(rt.alloc(), list)?, None);
     Ok(())

@@ -14,7 +14,8 @@ fn a_sleeper_is_owed(rt: HostRuntime) -> Result<(), Fail> {
         leave_0 ; clear_0 ; tested 0 0 0 0 ; asleep 0 0 0 ; cond 0 1 ; owes 2 0 ;
 
         opening ;
-        start_0 ; pick_0 ; prepare_0 ; leave_0 ; clear_0 ; 2 bump 0 ; tested 0 0 0 0 ; asleep 0 0 0 ; cond 0 1 ; owes 2 0 ;
+        start_0 ; pick_0 ; prepare_0 ; leave_0 ; clear_0 ; 2 bump 0 ; tested 0 0 0 0 ; asleep 0 0 0 ;
+        cond 0 1 ; owes 2 0 ;
         ",
     )?;
     Ok(())
@@ -64,7 +65,8 @@ fn a_mask_matches_by_its_bits(rt: HostRuntime) -> Result<(), Fail> {
         &rt,
         "
         start_0 ; pick_0 ;
-        0 take_wait 0 ; 0 own_state 0 TASK_UNINTERRUPTIBLE ; 0 give_wait 0 plain 0 ; 0 load_cond 0 ; leave_0 ; clear_0 ;
+        0 take_wait 0 ; 0 own_state 0 TASK_UNINTERRUPTIBLE ; 0 give_wait 0 plain 0 ; 0 load_cond 0 ; leave_0 ;
+        clear_0 ;
         1 take_task 0 ; 1 load_state 0 TASK_WAKEKILL ; 1 load_rq 0 ;
         not 1 store_waking 0 -- no state that matches TASK_WAKEKILL ;
         1 load_state 0 TASK_INTERRUPTIBLE ; 1 load_rq 0 ;

@@ -281,7 +281,7 @@ fn step_of(alloc: Global, verb: &str, words: &[Word<'_>]) -> Result<Option<StepK
     }
 }
 
-/// The event that is meant: a seat, and its step.
+/// The event that is meant: a seat, and its step. Answers `NoMemory` where memory runs out.
 pub fn event_of(alloc: Global, words: &[Word<'_>]) -> Result<Option<Event>, NoMemory> {
     let [Number(seat), Name(verb), rest @ ..] = words else {
         return Ok(None);
