@@ -12,7 +12,7 @@ use crate::plain::{
 };
 use crate::starts::{Round, Start, Started, TASKS, start_all};
 use crate::step::{Step, repeat};
-use crate::steps::{Bump, Busy, Cond, Cpu, Queue, Rq, State, Task, WaitQueue, Works};
+use crate::steps::{Bump, Busy, Cond, Cpu, Level, Queue, Rq, State, Task, WaitQueue, Works};
 use crate::table::{small_seat, small_table};
 use std::rt::Runtime;
 use std::sync::Wait;
@@ -26,11 +26,12 @@ pub struct Took {
     pub plain: f64,
 }
 
-const NAMES: [&str; 19] = [
+const NAMES: [&str; 20] = [
     "load_state",
     "load_rq",
     "load_busy",
     "load_cpu",
+    "load_count",
     "load_cond",
     "match_state",
     "set_state",
@@ -64,6 +65,7 @@ pub fn pick<R: Runtime + AllocGlobal + Wait>(rt: &R, name: &str, count: u32) -> 
         "load_rq" => time::<Rq, OneLoad, R>(rt, count),
         "load_busy" => time::<Busy, OneLoad, R>(rt, count),
         "load_cpu" => time::<Cpu, OneLoad, R>(rt, count),
+        "load_count" => time::<Level, OneLoad, R>(rt, count),
         "load_cond" => time::<Cond, OneLoad, R>(rt, count),
         "bump_cond" => time::<Bump, OneAdd, R>(rt, count),
         "lock_task" => time::<Task, OneLock, R>(rt, count),

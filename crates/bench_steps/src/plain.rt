@@ -11,6 +11,7 @@ pub struct PlainWords {
     rq: AtomicU64,
     busy: AtomicU64,
     cpu: AtomicU64,
+    level: AtomicU64,
     queue_lock: AtomicU64,
 }
 
@@ -23,6 +24,7 @@ impl PlainWords {
             rq: AtomicU64::new(0),
             busy: AtomicU64::new(0),
             cpu: AtomicU64::new(0),
+            level: AtomicU64::new(0),
             queue_lock: AtomicU64::new(0),
         }
     }
@@ -152,6 +154,7 @@ fn pick(words: &PlainWords) {
 fn put_back(words: &PlainWords) {
     lock(&words.queue_lock);
     words.state.load(SeqCst);
+    words.level.load(SeqCst);
     give(&words.queue_lock);
     words.busy.fetch_add(1, SeqCst);
 }

@@ -6,8 +6,8 @@ ghost use Rattle.task_words.specs.Views.{IsOf, IsSame, IsOneSeat};
 use crate::step::Step;
 use std::sync::Wait;
 use task_words::{
-    Pass, Wk, bump_cond, load_busy, load_cond, load_cpu, load_rq, load_state, lock_queue,
-    lock_task, lock_wait, lock_works,
+    Pass, Wk, bump_cond, load_busy, load_cond, load_count, load_cpu, load_rq, load_state,
+    lock_queue, lock_task, lock_wait, lock_works,
 };
 
 pub struct State;
@@ -39,6 +39,14 @@ pub struct Cpu;
 impl Step for Cpu {
     fn once<R: Wait>(_rt: &R, wk: &Wk<()>, pass: &mut Pass) {
         load_cpu(wk, pass, 0);
+    }
+}
+
+pub struct Level;
+
+impl Step for Level {
+    fn once<R: Wait>(_rt: &R, wk: &Wk<()>, pass: &mut Pass) {
+        load_count(wk, pass, 0);
     }
 }
 

@@ -62,6 +62,7 @@ no_position =
     record {
       to_clear = None;
       seen = None;
+      level_known = None;
       recent = [];
       tests = [];
       asleep = [];

@@ -23,6 +23,7 @@ use Rattle.core_data.specs.declared.pos.Served.{Served}
 pub record Position : Type 0 where
   pub to_clear : Option ℕ
   pub seen : Option State
+  pub level_known : Option ℕ
   pub recent : List Act
   pub tests : List Test
   pub asleep : List Asleep

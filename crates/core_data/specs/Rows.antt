@@ -1,6 +1,6 @@
 -- The rows of the table, and the table with one row written.
 use Rattle.std.specs.Prelude.{ℕ}
-use Rattle.core_data.specs.Table.{Table, put, mark_of, done_of, refs_of, current_of, task_out_of, queue_out_of, list_out_of, works_out_of, wait_out_of, body_out_of, to_clear_of, seen_of, matched_of, unstored_of, saw_off_of, claimed_of, clear_of, stored_of, rest_state_of, rest_off_of, rest_idle_of, slept_of, requeued_of, idle_of, added_of, dropped_of, passed_of, own_stored_of, slept_in_of, owes_of, retaken_of, test_of, asleep_of, reads_of, hand_of, actives_of, counts_of, lowered_of, given_up_of, due_of, ticket_of, zeroed_of, joined_of, refs_zero_of, completing_of, posted_of, works_hand_of, phases_of, unmarked_of, alive_of, turns_of, served_of, journal_of}
+use Rattle.core_data.specs.Table.{Table, put, mark_of, done_of, refs_of, current_of, task_out_of, queue_out_of, list_out_of, works_out_of, wait_out_of, body_out_of, to_clear_of, seen_of, level_known_of, matched_of, unstored_of, saw_off_of, claimed_of, clear_of, stored_of, rest_state_of, rest_off_of, rest_idle_of, slept_of, requeued_of, idle_of, added_of, dropped_of, passed_of, own_stored_of, slept_in_of, owes_of, retaken_of, test_of, asleep_of, reads_of, hand_of, actives_of, counts_of, lowered_of, given_up_of, due_of, ticket_of, zeroed_of, joined_of, refs_zero_of, completing_of, posted_of, works_hand_of, phases_of, unmarked_of, alive_of, turns_of, served_of, journal_of}
 use Rattle.core_data.specs.declared.seat.SeatCore.{SeatCore}
 use Rattle.core_data.specs.declared.words.TaskWords.{TaskWords}
 use Rattle.core_data.specs.declared.words.CpuWords.{CpuWords}
@@ -78,6 +78,7 @@ with_seat core k w =
       body_out = put core.body_out k (body_out_of w);
       to_clear = put core.to_clear k (to_clear_of w);
       seen = put core.seen k (seen_of w);
+      level_known = put core.level_known k (level_known_of w);
       matched = put core.matched k (matched_of w);
       unstored = put core.unstored k (unstored_of w);
       saw_off = put core.saw_off k (saw_off_of w);

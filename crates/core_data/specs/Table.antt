@@ -83,6 +83,8 @@ pub record Table : Type 0 where
   pub body_out : ℕ → Option ℕ
   pub to_clear : ℕ → Option ℕ
   pub seen : ℕ → Option State
+  -- the level of its current task, as it was last read since the pick
+  pub level_known : ℕ → Option ℕ
   -- a state of t that matches was read since its lock was taken
   pub matched : ℕ → ℕ → Bool
   -- .. and no word of t was stored since that read
@@ -200,6 +202,9 @@ to_clear_of w = w.pos.to_clear
 
 abbrev pub seen_of : SeatCore → Option State
 seen_of w = w.pos.seen
+
+abbrev pub level_known_of : SeatCore → Option ℕ
+level_known_of w = w.pos.level_known
 
 abbrev pub matched_of : SeatCore → ℕ → Bool
 matched_of w = λ t. since (Matched t) (TookTask t) w.pos.recent
@@ -370,6 +375,7 @@ table_of shape tasks cpus conds seats =
       body_out = column body_out_of None seats;
       to_clear = column to_clear_of None seats;
       seen = column seen_of None seats;
+      level_known = column level_known_of None seats;
       matched = column matched_of (λ t. false) seats;
       unstored = column unstored_of (λ t. false) seats;
       saw_off = column saw_off_of (λ t. false) seats;

@@ -118,6 +118,8 @@ pub struct Pos {
     pub to_clear: Option<TaskNo>,
     /// The state of the current task that was read under the own queue's lock, with none stored since.
     pub seen: Option<State>,
+    /// The migrate-disable level of the current task, as it was last read since the pick.
+    pub level_known: Option<u32>,
     /// The latest steps, oldest first.
     pub recent: Vec<Act>,
     pub tests: Vec<Test>,
@@ -157,5 +159,5 @@ impl Model for Pos {
 
     ghost Value = { Position };
 
-    ghost view = { λ p. record { to_clear = p.to_clear; seen = p.seen; recent = p.recent.items; tests = p.tests.items; asleep = p.asleep.items; reads = p.reads.items; hand = p.hand.items; actives = p.actives.items; counts = p.counts.items; lowered = p.lowered.items; given_up = p.given_up.items; due = p.due; ticket = p.ticket; zeroed = p.zeroed.items; joined = p.joined.items; refs_zero = p.refs_zero; completing = p.completing.items; posted = p.posted.items; works_hand = p.works_hand.items; phases = p.phases.items; unmarked = p.unmarked.items; alive = p.alive.items; turns = p.turns.items; served = p.served } };
+    ghost view = { λ p. record { to_clear = p.to_clear; seen = p.seen; level_known = p.level_known; recent = p.recent.items; tests = p.tests.items; asleep = p.asleep.items; reads = p.reads.items; hand = p.hand.items; actives = p.actives.items; counts = p.counts.items; lowered = p.lowered.items; given_up = p.given_up.items; due = p.due; ticket = p.ticket; zeroed = p.zeroed.items; joined = p.joined.items; refs_zero = p.refs_zero; completing = p.completing.items; posted = p.posted.items; works_hand = p.works_hand.items; phases = p.phases.items; unmarked = p.unmarked.items; alive = p.alive.items; turns = p.turns.items; served = p.served } };
 }

@@ -13,7 +13,7 @@ use Rattle.core_journals.proofs.RulesLog.{RulesKept-log, plain-log}
 use Rattle.core_journals.proofs.Running.{past, log, in_tasks}
 use Rattle.core_kinds.specs.Steps.{normal, is_match}
 use Rattle.core_kinds.specs.Waking.{MayLoad, MayLoadState, load_state, load_this, is_own_read, is_matched, is_refused, noted_if, logged_if, seen_if, load_rq, load_rq_so, load_busy}
-use Rattle.core_kinds.specs.Waking.{load_busy_so, load_cpu, MayBump, bump, tested_if, test_by, load_cond}
+use Rattle.core_kinds.specs.Waking.{load_busy_so, load_cpu, load_count, MayBump, bump, tested_if, test_by, load_cond}
 use Rattle.handoff_data.specs.declared.entry.Entry.{Entry}
 use Rattle.handoff_data.specs.declared.entry.Entry.TheVariants as entry
 use Rattle.handoff_data.specs.declared.state.State.{State}
@@ -120,6 +120,9 @@ JournalsHold-load_busy core s t holds may =
 
 pub JournalsHold-load_cpu : (core : Table) (s t : ℕ) → Holds core → MayLoad core s t → JournalsHold (load_cpu core s t)
 JournalsHold-load_cpu core s t holds may = let p = holds.journals in record { plain = p.plain; rules = p.rules; numbered = p.numbered; last_changes = p.last_changes; wakes = p.wakes; last_runs = p.last_runs }
+
+pub JournalsHold-load_count : (core : Table) (s t : ℕ) → Holds core → MayLoad core s t → JournalsHold (load_count core s t)
+JournalsHold-load_count core s t holds may = let p = holds.journals in record { plain = p.plain; rules = p.rules; numbered = p.numbered; last_changes = p.last_changes; wakes = p.wakes; last_runs = p.last_runs }
 
 pub JournalsHold-bump : (core : Table) (s k : ℕ) → Holds core → MayBump core s k → JournalsHold (bump core s k)
 JournalsHold-bump core s k holds may = let p = holds.journals in record { plain = p.plain; rules = p.rules; numbered = p.numbered; last_changes = p.last_changes; wakes = p.wakes; last_runs = p.last_runs }

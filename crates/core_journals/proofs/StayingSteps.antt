@@ -26,7 +26,7 @@ use Rattle.core_kinds.specs.Running.{MayBodyOut, body_out, MayBodyHome, body_hom
 use Rattle.core_kinds.specs.Steps.{running, waking, normal, is_match, is_sleep}
 use Rattle.core_kinds.specs.Waking.{MayOwnState, own_state, slept_if, ran_if, MayRelease, release}
 use Rattle.core_kinds.specs.Waking.{MayLoad, MayLoadState, load_state, load_this, is_own_read, is_matched, is_refused, noted_if, logged_if, seen_if, load_rq, load_rq_so, load_busy, load_busy_so}
-use Rattle.core_kinds.specs.Waking.{load_cpu, MayStoreCpu, store_cpu, MayBump, bump, tested_if, test_by, load_cond}
+use Rattle.core_kinds.specs.Waking.{load_cpu, load_count, MayStoreCpu, store_cpu, MayBump, bump, tested_if, test_by, load_cond}
 use Rattle.handoff_data.specs.declared.entry.Entry.{Entry}
 use Rattle.handoff_data.specs.declared.entry.Entry.TheVariants as entry
 use Rattle.handoff_data.specs.declared.state.State.{State}
@@ -195,6 +195,9 @@ Moves-load_busy core s t holds may = stays s core _ (stays-read_busy core s t (c
 
 pub Moves-load_cpu : (core : Table) (s t : ℕ) → Holds core → MayLoad core s t → OneMoveOrNone s core (load_cpu core s t)
 Moves-load_cpu core s t holds may = stays s core _ (record { places = λ t. refl; journals = λ k. refl })
+
+pub Moves-load_count : (core : Table) (s t : ℕ) → Holds core → MayLoad core s t → OneMoveOrNone s core (load_count core s t)
+Moves-load_count core s t holds may = stays s core _ (record { places = λ t. refl; journals = λ k. refl })
 
 pub Moves-store_cpu : (core : Table) (s t c : ℕ) → Holds core → MayStoreCpu core s t c → OneMoveOrNone s core (store_cpu core s t c)
 Moves-store_cpu core s t c holds may =

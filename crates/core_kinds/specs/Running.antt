@@ -103,7 +103,7 @@ pub record MaySetBusy (core : Table) (s c t : ℕ) (val : Queue) : Type 0 where
   pub clear : core.to_clear s ≡ None
   pub room : IsBelowEnd (core.runs t)
 
--- a task that is picked has neither tests nor sleeps of an earlier run
+-- a task that is picked has neither tests nor sleeps of an earlier run, and its level is to be read anew
 abbrev pub set_busy : Table → ℕ → ℕ → ℕ → Table
 set_busy core s c t =
     noted (stored_word (record core {
@@ -111,6 +111,7 @@ set_busy core s c t =
       runs = put core.runs t (core.runs t + 1);
       current = put core.current s (Some t);
       seen = put core.seen s None;
+      level_known = put core.level_known s None;
       test = put core.test s (λ u l. if u == t then None else core.test s u l);
       asleep = put core.asleep s (λ u l. if u == t then false else core.asleep s u l);
       journal = put core.journal s (core.journal s ++ Pick t (core.runs t + 1) c ∷ []);

@@ -184,6 +184,14 @@ abbrev pub store_cpu : Table → ℕ → ℕ → ℕ → Table
 store_cpu core s t c =
     stored_word (record core { cpu = put core.cpu t c; reads = put_at core.reads s t (cpu_read t c (core.reads s t)) }) s t
 
+-- LoadCount: of its current task a seat keeps the migrate-disable level that it reads
+abbrev pub level_read : Option ℕ → ℕ → ℕ → Option ℕ → Option ℕ
+level_read current t level known = if is_some_of current t then Some level else known
+
+abbrev pub load_count : Table → ℕ → ℕ → Table
+load_count core s t =
+    record core { level_known = put core.level_known s (level_read (core.current s) t (core.count t) (core.level_known s)) }
+
 -- LoadCond: a current task that has stored a sleep state has tested the condition
 abbrev pub tested_if : Bool → Table → ℕ → ℕ → ℕ → ℕ → Table
 tested_if true core s t k v = record core { test = put core.test s (λ u l. if (u == t) && (l == k) then Some v else core.test s u l) }

@@ -2,13 +2,13 @@
 use Rattle.std.proofs.Common.{ℕ, inl, refl, ◌∙◌}
 use Rattle.core_data.specs.Table.{Table}
 use Rattle.core_invariant.specs.Invariant.{Holds}
-use Rattle.core_law.proofs.SameWords.{same-take_task, same-give_task, same-take_queue, same-give_queue, same-take_wait, same-give_wait, same-take_works, same-give_works, same-body_out, same-body_home, same-load_state, same-load_rq, same-load_busy, same-load_cpu, same-bump, same-load_cond}
+use Rattle.core_law.proofs.SameWords.{same-take_task, same-give_task, same-take_queue, same-give_queue, same-take_wait, same-give_wait, same-take_works, same-give_works, same-body_out, same-body_home, same-load_state, same-load_rq, same-load_busy, same-load_cpu, same-load_count, same-bump, same-load_cond}
 use Rattle.core_law.proofs.Stores.{ends-queue_task, ends-dequeue_task, ends-move_task, ends-set_busy, ends-clear_busy, ends-own_state, ends-claim, ends-release, ends-store_cpu, stores-own_state, stores-claim, stores-release, dead-own_state, dead-claim, dead-release}
 use Rattle.core_law.proofs.Tests.{tests-give_queue, tests-give_wait, tests-set_busy, tests-own_state, tests-load_state, tests-load_rq, tests-load_busy, tests-load_cond}
 use Rattle.core_law.specs.StepLaws.{KeepsTests, KeepsTheDead, StoresItsStates, EndsReads}
 use Rattle.core_law.specs.Steps.{May, after}
 use Rattle.core_law.specs.declared.step.StepKind.{StepKind}
-use Rattle.core_law.specs.declared.step.StepKind.TheVariants.{TakeTask, GiveTask, TakeQueue, GiveQueue, TakeWait, GiveWait, TakeWorks, GiveWorks, BodyOut, BodyHome, StoreRqOn, StoreRqOff, StoreRqMoving, SetBusy, ClearBusy, OwnState, StoreWaking, StoreRunning, LoadState, LoadRq, LoadBusy, LoadCpu, StoreCpu, Bump, LoadCond}
+use Rattle.core_law.specs.declared.step.StepKind.TheVariants.{TakeTask, GiveTask, TakeQueue, GiveQueue, TakeWait, GiveWait, TakeWorks, GiveWorks, BodyOut, BodyHome, StoreRqOn, StoreRqOff, StoreRqMoving, SetBusy, ClearBusy, OwnState, StoreWaking, StoreRunning, LoadState, LoadRq, LoadBusy, LoadCpu, LoadCount, StoreCpu, Bump, LoadCond}
 
 pub Ends-after : (core : Table) (s : ℕ) (step : StepKind) → May core s step → EndsReads s core (after core s step)
 Ends-after core s (TakeTask t) may = λ u. inl (same-take_task core s t u)
@@ -33,6 +33,7 @@ Ends-after core s (LoadState t mask) may = λ u. inl (same-load_state core s t m
 Ends-after core s (LoadRq t) may = λ u. inl (same-load_rq core s t u)
 Ends-after core s (LoadBusy t) may = λ u. inl (same-load_busy core s t u)
 Ends-after core s (LoadCpu t) may = λ u. inl (same-load_cpu core s t u)
+Ends-after core s (LoadCount t) may = λ u. inl (same-load_count core s t u)
 Ends-after core s (StoreCpu t c) may = ends-store_cpu core s t c
 Ends-after core s (Bump k) may = λ u. inl (same-bump core s k u)
 Ends-after core s (LoadCond k) may = λ u. inl (same-load_cond core s k u)
@@ -60,6 +61,7 @@ Stores-after core s (LoadState t mask) may = λ u. inl (same-load_state core s t
 Stores-after core s (LoadRq t) may = λ u. inl (same-load_rq core s t u).state
 Stores-after core s (LoadBusy t) may = λ u. inl (same-load_busy core s t u).state
 Stores-after core s (LoadCpu t) may = λ u. inl (same-load_cpu core s t u).state
+Stores-after core s (LoadCount t) may = λ u. inl (same-load_count core s t u).state
 Stores-after core s (StoreCpu t c) may = λ u. inl refl
 Stores-after core s (Bump k) may = λ u. inl (same-bump core s k u).state
 Stores-after core s (LoadCond k) may = λ u. inl (same-load_cond core s k u).state
@@ -87,6 +89,7 @@ Dead-after core s (LoadState t mask) holds may = λ u dead other. (same-load_sta
 Dead-after core s (LoadRq t) holds may = λ u dead other. (same-load_rq core s t u).state ∙ dead
 Dead-after core s (LoadBusy t) holds may = λ u dead other. (same-load_busy core s t u).state ∙ dead
 Dead-after core s (LoadCpu t) holds may = λ u dead other. (same-load_cpu core s t u).state ∙ dead
+Dead-after core s (LoadCount t) holds may = λ u dead other. (same-load_count core s t u).state ∙ dead
 Dead-after core s (StoreCpu t c) holds may = λ u dead other. dead
 Dead-after core s (Bump k) holds may = λ u dead other. (same-bump core s k u).state ∙ dead
 Dead-after core s (LoadCond k) holds may = λ u dead other. (same-load_cond core s k u).state ∙ dead
@@ -114,6 +117,7 @@ Tests-after core s (LoadState t mask) may = tests-load_state core s t mask
 Tests-after core s (LoadRq t) may = tests-load_rq core s t
 Tests-after core s (LoadBusy t) may = tests-load_busy core s t
 Tests-after core s (LoadCpu t) may = λ x u l. inl refl
+Tests-after core s (LoadCount t) may = λ x u l. inl refl
 Tests-after core s (StoreCpu t c) may = λ x u l. inl refl
 Tests-after core s (Bump k) may = λ x u l. inl refl
 Tests-after core s (LoadCond k) may = tests-load_cond core s k

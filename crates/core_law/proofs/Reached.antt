@@ -8,10 +8,10 @@ use Rattle.handoff_data.specs.Shape.{IsShape}
 use Rattle.handoff_data.specs.declared.shape.Shape.{Shape}
 use Rattle.core_invariant.specs.Invariant.{Holds}
 use Rattle.core_journals.proofs.MovingSteps.{Moves-queue_task, Moves-dequeue_task, Moves-move_task, Moves-set_busy, Moves-clear_busy, Moves-claim}
-use Rattle.core_journals.proofs.StayingSteps.{Moves-take_task, Moves-give_task, Moves-take_queue, Moves-give_queue, Moves-take_wait, Moves-give_wait, Moves-take_works, Moves-give_works, Moves-body_out, Moves-body_home, Moves-own_state, Moves-release, Moves-load_state, Moves-load_rq, Moves-load_busy, Moves-load_cpu, Moves-store_cpu, Moves-bump, Moves-load_cond}
+use Rattle.core_journals.proofs.StayingSteps.{Moves-take_task, Moves-give_task, Moves-take_queue, Moves-give_queue, Moves-take_wait, Moves-give_wait, Moves-take_works, Moves-give_works, Moves-body_out, Moves-body_home, Moves-own_state, Moves-release, Moves-load_state, Moves-load_rq, Moves-load_busy, Moves-load_cpu, Moves-load_count, Moves-store_cpu, Moves-bump, Moves-load_cond}
 use Rattle.core_journals.specs.Places.{OneMoveOrNone}
 use Rattle.core_locks.proofs.Rows.{each_word}
-use Rattle.core_law.proofs.Kept.{Holds-start, Holds-take_task, Holds-give_task, Holds-take_queue, Holds-give_queue, Holds-take_wait, Holds-give_wait, Holds-take_works, Holds-give_works, Holds-body_out, Holds-body_home, Holds-queue_task, Holds-dequeue_task, Holds-move_task, Holds-set_busy, Holds-clear_busy, Holds-own_state, Holds-claim, Holds-release, Holds-load_state, Holds-load_rq, Holds-load_busy, Holds-load_cpu, Holds-store_cpu, Holds-bump, Holds-load_cond}
+use Rattle.core_law.proofs.Kept.{Holds-start, Holds-take_task, Holds-give_task, Holds-take_queue, Holds-give_queue, Holds-take_wait, Holds-give_wait, Holds-take_works, Holds-give_works, Holds-body_out, Holds-body_home, Holds-queue_task, Holds-dequeue_task, Holds-move_task, Holds-set_busy, Holds-clear_busy, Holds-own_state, Holds-claim, Holds-release, Holds-load_state, Holds-load_rq, Holds-load_busy, Holds-load_cpu, Holds-load_count, Holds-store_cpu, Holds-bump, Holds-load_cond}
 use Rattle.core_kinds.specs.Steps.{dead}
 use Rattle.core_law.specs.Reached.{IsReached, IsOpening}
 use Rattle.core_law.specs.Runs.{Ran, EachMoves}
@@ -19,7 +19,7 @@ use Rattle.core_law.specs.Steps.{May, after, Step}
 use Rattle.core_data.specs.declared.words.TaskWords.{TaskWords}
 use Rattle.core_law.specs.declared.event.Event.{Event}
 use Rattle.core_law.specs.declared.step.StepKind.{StepKind}
-use Rattle.core_law.specs.declared.step.StepKind.TheVariants.{TakeTask, GiveTask, TakeQueue, GiveQueue, TakeWait, GiveWait, TakeWorks, GiveWorks, BodyOut, BodyHome, StoreRqOn, StoreRqOff, StoreRqMoving, SetBusy, ClearBusy, OwnState, StoreWaking, StoreRunning, LoadState, LoadRq, LoadBusy, LoadCpu, StoreCpu, Bump, LoadCond}
+use Rattle.core_law.specs.declared.step.StepKind.TheVariants.{TakeTask, GiveTask, TakeQueue, GiveQueue, TakeWait, GiveWait, TakeWorks, GiveWorks, BodyOut, BodyHome, StoreRqOn, StoreRqOff, StoreRqMoving, SetBusy, ClearBusy, OwnState, StoreWaking, StoreRunning, LoadState, LoadRq, LoadBusy, LoadCpu, LoadCount, StoreCpu, Bump, LoadCond}
 
 pub Holds-after : (core : Table) (s : ℕ) (step : StepKind) → Holds core → May core s step → Holds (after core s step)
 Holds-after core s (TakeTask t) holds may = Holds-take_task core s t holds may
@@ -44,6 +44,7 @@ Holds-after core s (LoadState t mask) holds may = Holds-load_state core s t mask
 Holds-after core s (LoadRq t) holds may = Holds-load_rq core s t holds may
 Holds-after core s (LoadBusy t) holds may = Holds-load_busy core s t holds may
 Holds-after core s (LoadCpu t) holds may = Holds-load_cpu core s t holds may
+Holds-after core s (LoadCount t) holds may = Holds-load_count core s t holds may
 Holds-after core s (StoreCpu t c) holds may = Holds-store_cpu core s t c holds may
 Holds-after core s (Bump k) holds may = Holds-bump core s k holds may
 Holds-after core s (LoadCond k) holds may = Holds-load_cond core s k holds may
@@ -74,6 +75,7 @@ Moves-after core s (LoadState t mask) holds may = Moves-load_state core s t mask
 Moves-after core s (LoadRq t) holds may = Moves-load_rq core s t holds may
 Moves-after core s (LoadBusy t) holds may = Moves-load_busy core s t holds may
 Moves-after core s (LoadCpu t) holds may = Moves-load_cpu core s t holds may
+Moves-after core s (LoadCount t) holds may = Moves-load_count core s t holds may
 Moves-after core s (StoreCpu t c) holds may = Moves-store_cpu core s t c holds may
 Moves-after core s (Bump k) holds may = Moves-bump core s k holds may
 Moves-after core s (LoadCond k) holds may = Moves-load_cond core s k holds may

@@ -10,7 +10,7 @@ use Rattle.core_gives.specs.Queues.{give_queue, give_up_if, gives_up}
 use Rattle.core_gives.specs.Waits.{give_wait, give_by, walked_if, is_walk}
 use Rattle.core_kinds.specs.Locks.{take_task, give_task, take_queue, take_wait, take_works, give_works}
 use Rattle.core_kinds.specs.Running.{body_out, body_home}
-use Rattle.core_kinds.specs.Waking.{load_state, load_rq, load_busy, load_cpu, load_cond, bump}
+use Rattle.core_kinds.specs.Waking.{load_state, load_rq, load_busy, load_cpu, load_count, load_cond, bump}
 use Rattle.core_law.specs.StepLaws.{HasSameWords}
 use Rattle.core_locks.proofs.Branches.{IsLoadFree, load_state-keeps, load_rq-keeps, load_busy-keeps, load_cond-keeps}
 use Rattle.handoff_data.specs.declared.state.State.{State}
@@ -95,6 +95,9 @@ same-load_busy core s t u = load_busy-keeps (λ next. HasSameWords core next u) 
 
 pub same-load_cpu : (core : Table) (s t u : ℕ) → HasSameWords core (load_cpu core s t) u
 same-load_cpu core s t u = record { state = refl; on_rq = refl; changes = refl; on_cpu = refl; cpu = refl }
+
+pub same-load_count : (core : Table) (s t u : ℕ) → HasSameWords core (load_count core s t) u
+same-load_count core s t u = record { state = refl; on_rq = refl; changes = refl; on_cpu = refl; cpu = refl }
 
 pub same-bump : (core : Table) (s k u : ℕ) → HasSameWords core (bump core s k) u
 same-bump core s k u = record { state = refl; on_rq = refl; changes = refl; on_cpu = refl; cpu = refl }

@@ -1,5 +1,5 @@
 -- What steps keep for the laws on wakes, what loads tell, and what gives leave.
-use Rattle.std.proofs.Common.{◌≡◌, ℕ, ◌⊎◌, inl, inr, ◌+◌, ◌++◌, ◌∷◌, [], List, Bool, true, false, Some, None, Option, refl, sym, ap, ◌∙◌, subst, arith}
+use Rattle.std.proofs.Common.{◌≡◌, ◌≢◌, ℕ, ◌⊎◌, inl, inr, ◌+◌, ◌++◌, ◌∷◌, [], List, Bool, true, false, Some, None, Option, refl, sym, ap, ◌∙◌, subst, arith}
 use Rattle.std.specs.Prelude.{if◌then◌else◌, ◌==◌, ◌&&◌, IsSome, is_some, bit_and}
 use mathlib.Core.Bool.{not}
 use Rattle.std.proofs.lemmas.Bool.{cases_eq}
@@ -14,7 +14,7 @@ use Rattle.core_invariant.proofs.Puts.{put_here}
 use Rattle.core_invariant.specs.Sleepers.{IsAwake}
 use Rattle.core_kinds.specs.Running.{MayLeave}
 use Rattle.core_kinds.specs.Steps.{normal, running, fresh, is_match, is_sleep, stored_word, numbered_reads, kept_reads, dead}
-use Rattle.core_kinds.specs.Waking.{ran_if, slept_if, noted_if, logged_if, seen_if, is_own_read, is_matched, is_refused, state_read, rq_read, busy_read, cpu_read, test_by, tested_if}
+use Rattle.core_kinds.specs.Waking.{ran_if, slept_if, noted_if, logged_if, seen_if, is_own_read, is_matched, is_refused, state_read, rq_read, busy_read, cpu_read, level_read, test_by, tested_if}
 use Rattle.core_law.specs.StepLaws.{SleepsAreKept, PassesAreKept, RefusalsAreTold, LoadsTell, GivesKeep, StepsAsk, WordsMean}
 use Rattle.core_places.proofs.LastReads.{reads_here}
 use Rattle.handoff_data.specs.declared.entry.Entry.{Entry}
@@ -291,6 +291,17 @@ known (Some y) x h = refl
 numbered : (core : Table) (s t : ℕ) → (put_at core.reads s t (numbered_reads t (core.changes t + 1) (core.reads s t)) s t).number ≡ Some (core.changes t + 1)
 numbered core s t = ap (λ (x : TaskReads). x.number) (reads_here core.reads s t (numbered_reads t (core.changes t + 1) (core.reads s t)) s t refl refl)
 
+own-level : (o : Option ℕ) (t level : ℕ) (known : Option ℕ) → o ≡ Some t → level_read o t level known ≡ Some level
+own-level None t level known e = absurd (grind (arith, e))
+own-level (Some u) t level known e = let same : u ≡ t = grind (arith, e) in grind (arith, nat_tests, same)
+
+other-level : (o : Option ℕ) (t level : ℕ) (known : Option ℕ) → o ≢ Some t → level_read o t level known ≡ known
+other-level None t level known ne = refl
+other-level (Some u) t level known ne = elim (cases_eq u t) [
+  | inl e ↦ absurd (ne (ap Some e))
+  | inr other ↦ grind (arith, nat_tests, other)
+]
+
 pub loads-tell : (core : Table) → LoadsTell core
 loads-tell core =
     record {
@@ -298,6 +309,9 @@ loads-tell core =
       rq = λ s t h. ap (λ (x : TaskReads). x.rq) (rq-reads core s t) ∙ known (core.reads s t).state (record { on = core.on_rq t; m = core.changes t }) h;
       busy = λ s t h. ap (λ (x : TaskReads). x.busy) (busy-reads core s t) ∙ known (core.reads s t).rq (core.on_cpu t) h;
       cpu = λ s t. ap (λ (x : TaskReads). x.cpu) (reads_here core.reads s t (cpu_read t (core.cpu t) (core.reads s t)) s t refl refl);
+      level = λ s t own. put_here core.level_known s _ s refl ∙ own-level (core.current s) t (core.count t) (core.level_known s) own;
+      other_level = λ s t other. put_here core.level_known s _ s refl ∙ other-level (core.current s) t (core.count t) (core.level_known s) other;
+      unknown_level = λ s c t. put_here core.level_known s None s refl;
       placed = λ s t c.
           let r = cpu_read t c (core.reads s t) in
           let between = put_at core.reads s t r in

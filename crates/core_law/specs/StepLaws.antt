@@ -10,9 +10,9 @@ use Rattle.core_gives.specs.Queues.{MayGiveQueue}
 use Rattle.core_gives.specs.Waits.{MayGiveWait, give_wait, has_task}
 use Rattle.core_invariant.specs.Sleepers.{IsAwake}
 use Rattle.core_kinds.specs.Locks.{MayGiveTask, MayGiveWorks}
-use Rattle.core_kinds.specs.Running.{MayDequeue, MayMove, MaySetBusy, queue_task, dequeue_task, move_task}
+use Rattle.core_kinds.specs.Running.{MayDequeue, MayMove, MaySetBusy, set_busy, queue_task, dequeue_task, move_task}
 use Rattle.core_kinds.specs.Steps.{dead, fresh, is_sleep, IsBelowEnd}
-use Rattle.core_kinds.specs.Waking.{own_state, release, load_state, load_rq, load_busy, load_cpu, store_cpu, load_cond}
+use Rattle.core_kinds.specs.Waking.{own_state, release, load_state, load_rq, load_busy, load_cpu, load_count, store_cpu, load_cond}
 use Rattle.handoff_data.specs.declared.entry.Entry.TheVariants.{Refused}
 use Rattle.handoff_data.specs.declared.state.State.{State}
 
@@ -90,6 +90,10 @@ pub record LoadsTell (core : Table) : Type 0 where
       → ((load_rq core s t).reads s t).rq ≡ Some (record { on = core.on_rq t; m = core.changes t })
   pub busy : (s t : ℕ) → IsSome (core.reads s t).rq → ((load_busy core s t).reads s t).busy ≡ Some (core.on_cpu t)
   pub cpu : (s t : ℕ) → ((load_cpu core s t).reads s t).cpu ≡ Some (core.cpu t)
+  -- a seat keeps the level of its current task, not that of another, until it picks
+  pub level : (s t : ℕ) → core.current s ≡ Some t → (load_count core s t).level_known s ≡ Some (core.count t)
+  pub other_level : (s t : ℕ) → core.current s ≢ Some t → (load_count core s t).level_known s ≡ core.level_known s
+  pub unknown_level : (s c t : ℕ) → (set_busy core s c t).level_known s ≡ None
   pub placed : (s t c : ℕ) → ((store_cpu core s t c).reads s t).cpu ≡ Some c
   pub number : (s t : ℕ) → ((load_rq core s t).reads s t).number ≡ Some (core.changes t)
   pub queued : (s c t : ℕ) → ((queue_task core s c t).reads s t).number ≡ Some (core.changes t + 1)

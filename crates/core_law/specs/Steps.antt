@@ -5,10 +5,10 @@ use Rattle.core_gives.specs.Queues.{MayGiveQueue, give_queue}
 use Rattle.core_gives.specs.Waits.{MayGiveWait, give_wait}
 use Rattle.core_kinds.specs.Locks.{MayTakeTask, take_task, MayGiveTask, give_task, MayTakeQueue, take_queue, MayTakeWait, take_wait, MayTakeWorks, take_works, MayGiveWorks, give_works}
 use Rattle.core_kinds.specs.Running.{MayQueue, queue_task, MayDequeue, dequeue_task, MayMove, move_task, MaySetBusy, set_busy, MayClearBusy, clear_busy, MayBodyOut, body_out, MayBodyHome, body_home}
-use Rattle.core_kinds.specs.Waking.{MayOwnState, own_state, MayClaim, claim, MayRelease, release, MayLoad, MayLoadState, load_state, load_rq, load_busy, load_cpu, MayStoreCpu, store_cpu, MayBump, bump, load_cond}
+use Rattle.core_kinds.specs.Waking.{MayOwnState, own_state, MayClaim, claim, MayRelease, release, MayLoad, MayLoadState, load_state, load_rq, load_busy, load_cpu, load_count, MayStoreCpu, store_cpu, MayBump, bump, load_cond}
 use Rattle.core_law.specs.declared.event.Event.{Event}
 use Rattle.core_law.specs.declared.step.StepKind.{StepKind}
-use Rattle.core_law.specs.declared.step.StepKind.TheVariants.{TakeTask, GiveTask, TakeQueue, GiveQueue, TakeWait, GiveWait, TakeWorks, GiveWorks, BodyOut, BodyHome, StoreRqOn, StoreRqOff, StoreRqMoving, SetBusy, ClearBusy, OwnState, StoreWaking, StoreRunning, LoadState, LoadRq, LoadBusy, LoadCpu, StoreCpu, Bump, LoadCond}
+use Rattle.core_law.specs.declared.step.StepKind.TheVariants.{TakeTask, GiveTask, TakeQueue, GiveQueue, TakeWait, GiveWait, TakeWorks, GiveWorks, BodyOut, BodyHome, StoreRqOn, StoreRqOff, StoreRqMoving, SetBusy, ClearBusy, OwnState, StoreWaking, StoreRunning, LoadState, LoadRq, LoadBusy, LoadCpu, LoadCount, StoreCpu, Bump, LoadCond}
 
 abbrev pub May : Table → ℕ → StepKind → Type 0
 May core s (TakeTask t) = MayTakeTask core s t
@@ -33,6 +33,7 @@ May core s (LoadState t mask) = MayLoadState core s t mask
 May core s (LoadRq t) = MayLoad core s t
 May core s (LoadBusy t) = MayLoad core s t
 May core s (LoadCpu t) = MayLoad core s t
+May core s (LoadCount t) = MayLoad core s t
 May core s (StoreCpu t c) = MayStoreCpu core s t c
 May core s (Bump k) = MayBump core s k
 May core s (LoadCond k) = MayBump core s k
@@ -60,6 +61,7 @@ after core s (LoadState t mask) = load_state core s t mask
 after core s (LoadRq t) = load_rq core s t
 after core s (LoadBusy t) = load_busy core s t
 after core s (LoadCpu t) = load_cpu core s t
+after core s (LoadCount t) = load_count core s t
 after core s (StoreCpu t c) = store_cpu core s t c
 after core s (Bump k) = bump core s k
 after core s (LoadCond k) = load_cond core s k

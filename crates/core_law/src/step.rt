@@ -110,6 +110,10 @@ pub enum StepKind {
     LoadCpu {
         t: TaskNo,
     },
+    /// Loads the migrate-disable level of a task.
+    LoadCount {
+        t: TaskNo,
+    },
     /// Stores the processor of a task.
     StoreCpu {
         t: TaskNo,

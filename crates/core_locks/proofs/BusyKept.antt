@@ -16,7 +16,7 @@ use Rattle.core_invariant.specs.Invariant.{Holds}
 use Rattle.core_kinds.specs.Locks.{MayTakeTask, take_task, MayGiveTask, give_task, MayTakeQueue, take_queue, unseen, MayTakeWorks, take_works, MayGiveWorks, give_works, MayTakeWait, take_wait}
 use Rattle.core_kinds.specs.Running.{MayQueue, queue_task, MayDequeue, dequeue_task, MayMove, move_task, MaySetBusy, set_busy, MayClearBusy, clear_busy, MayBodyOut, body_out, MayBodyHome, body_home}
 use Rattle.core_kinds.specs.Steps.{waking, running, dead}
-use Rattle.core_kinds.specs.Waking.{IsOwnState, MayOwnState, own_state, MayClaim, claim, MayRelease, release, MayLoad, MayStoreCpu, store_cpu, MayBump, bump, MayLoadState, load_state, load_rq, load_busy, load_cpu, load_cond}
+use Rattle.core_kinds.specs.Waking.{IsOwnState, MayOwnState, own_state, MayClaim, claim, MayRelease, release, MayLoad, MayStoreCpu, store_cpu, MayBump, bump, MayLoadState, load_state, load_rq, load_busy, load_cpu, load_count, load_cond}
 use Rattle.core_locks.proofs.Branches.{IsLoadFree, load_state-keeps, load_rq-keeps, load_busy-keeps, load_cond-keeps, IsOwnFree, own_state-keeps}
 use Rattle.core_locks.proofs.Found.{some_of, only_out, idle_placeable}
 use Rattle.core_locks.proofs.Runners.{OneRunner-set_busy, OneRunner-clear_busy, OneRunner-store_cpu, OneRunner-give_up, NamedByQueue-take, NamedByQueue-set_busy, NamedByQueue-clear_busy}
@@ -194,6 +194,9 @@ BusyHolds-load_busy core s t holds may = load_busy-keeps BusyHolds core s t (loa
 
 pub BusyHolds-load_cpu : (core : Table) (s t : ℕ) → Holds core → MayLoad core s t → BusyHolds (load_cpu core s t)
 BusyHolds-load_cpu core s t holds may = assumption (holds.busy)
+
+pub BusyHolds-load_count : (core : Table) (s t : ℕ) → Holds core → MayLoad core s t → BusyHolds (load_count core s t)
+BusyHolds-load_count core s t holds may = assumption (holds.busy)
 
 pub BusyHolds-store_cpu : (core : Table) (s t c : ℕ) → Holds core → MayStoreCpu core s t c → BusyHolds (store_cpu core s t c)
 BusyHolds-store_cpu core s t c holds may = assumption (holds.busy, OneRunner-store_cpu core.on_cpu core.cpu core.current core.to_clear t c holds.busy.runner (idle_placeable core s t holds may.locked may.placeable))

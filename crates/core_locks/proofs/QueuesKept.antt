@@ -16,7 +16,7 @@ use Rattle.core_invariant.specs.Invariant.{Holds}
 use Rattle.core_invariant.specs.Queues.{QueuesHold, AddedTasks}
 use Rattle.core_kinds.specs.Locks.{MayTakeTask, take_task, MayGiveTask, give_task, MayTakeQueue, take_queue, unseen, MayTakeWorks, take_works, MayGiveWorks, give_works, MayTakeWait, take_wait}
 use Rattle.core_kinds.specs.Running.{MayQueue, queue_task, queue_entry, store_rq, MayDequeue, dequeue_task, dequeue_entry, MayMove, move_task, MaySetBusy, set_busy, MayClearBusy, clear_busy, MayBodyOut, body_out, MayBodyHome, body_home}
-use Rattle.core_kinds.specs.Waking.{MayOwnState, own_state, MayClaim, claim, MayRelease, release, MayLoad, MayStoreCpu, store_cpu, MayBump, bump, MayLoadState, load_state, load_rq, load_busy, load_cpu, load_cond}
+use Rattle.core_kinds.specs.Waking.{MayOwnState, own_state, MayClaim, claim, MayRelease, release, MayLoad, MayStoreCpu, store_cpu, MayBump, bump, MayLoadState, load_state, load_rq, load_busy, load_cpu, load_count, load_cond}
 use Rattle.core_locks.proofs.AddedParts.{AddedTasks-log, AddedTasks-take, AddedTasks-give, AddedTasks-place, AddedTasks-queue, AddedTasks-off, queue_entry-puts, dequeue_entry-change}
 use Rattle.core_locks.proofs.Branches.{IsLoadFree, load_state-keeps, load_rq-keeps, load_busy-keeps, load_cond-keeps, IsOwnFree, own_state-keeps}
 use Rattle.core_locks.proofs.Found.{only_out, off_placeable}
@@ -192,6 +192,9 @@ QueuesHold-load_busy core s t holds may = (load_busy-keeps (Seated s) core s t (
 
 pub QueuesHold-load_cpu : (core : Table) (s t : ℕ) → Holds core → MayLoad core s t → QueuesHold (load_cpu core s t)
 QueuesHold-load_cpu core s t holds may = assumption (holds.queues)
+
+pub QueuesHold-load_count : (core : Table) (s t : ℕ) → Holds core → MayLoad core s t → QueuesHold (load_count core s t)
+QueuesHold-load_count core s t holds may = assumption (holds.queues)
 
 pub QueuesHold-store_cpu : (core : Table) (s t c : ℕ) → Holds core → MayStoreCpu core s t c → QueuesHold (store_cpu core s t c)
 QueuesHold-store_cpu core s t c holds may =

@@ -15,7 +15,7 @@ use Rattle.core_invariant.specs.Invariant.{Holds}
 use Rattle.core_invariant.specs.Shapes.{ShapesHold, IsTaskVal, IsQueueVal, IsWaitVal}
 use Rattle.core_kinds.specs.Locks.{MayTakeTask, take_task, MayGiveTask, give_task, MayTakeQueue, take_queue, unseen, MayTakeWorks, take_works, MayGiveWorks, give_works, MayTakeWait, take_wait}
 use Rattle.core_kinds.specs.Running.{MayQueue, queue_task, MayDequeue, dequeue_task, MayMove, move_task, MaySetBusy, set_busy, MayClearBusy, clear_busy, MayBodyOut, body_out, MayBodyHome, body_home}
-use Rattle.core_kinds.specs.Waking.{MayOwnState, own_state, MayClaim, claim, MayRelease, release, MayLoad, MayStoreCpu, store_cpu, MayBump, bump, MayLoadState, load_state, load_rq, load_busy, load_cpu, load_cond}
+use Rattle.core_kinds.specs.Waking.{MayOwnState, own_state, MayClaim, claim, MayRelease, release, MayLoad, MayStoreCpu, store_cpu, MayBump, bump, MayLoadState, load_state, load_rq, load_busy, load_cpu, load_count, load_cond}
 use Rattle.core_locks.proofs.Branches.{IsLoadFree, load_state-keeps, load_rq-keeps, load_busy-keeps, load_cond-keeps, IsOwnFree, own_state-keeps}
 use Rattle.core_locks.proofs.Found.{some_of}
 use Rattle.core_locks.proofs.Values.{HoldsOfValues-take, HoldsOfValues-give, IsTaskVal-kept, IsQueueVal-given}
@@ -177,6 +177,9 @@ ShapesHold-load_busy core s t holds may = load_busy-keeps ShapesHold core s t (l
 
 pub ShapesHold-load_cpu : (core : Table) (s t : ℕ) → Holds core → MayLoad core s t → ShapesHold (load_cpu core s t)
 ShapesHold-load_cpu core s t holds may = assumption (holds.shapes)
+
+pub ShapesHold-load_count : (core : Table) (s t : ℕ) → Holds core → MayLoad core s t → ShapesHold (load_count core s t)
+ShapesHold-load_count core s t holds may = assumption (holds.shapes)
 
 pub ShapesHold-store_cpu : (core : Table) (s t c : ℕ) → Holds core → MayStoreCpu core s t c → ShapesHold (store_cpu core s t c)
 ShapesHold-store_cpu core s t c holds may =

@@ -9,7 +9,7 @@ use Rattle.core_invariant.specs.Places.{PlacesHold}
 use Rattle.core_kinds.specs.Locks.{MayTakeTask, take_task, MayGiveTask, give_task, MayTakeQueue, take_queue, MayTakeWait, take_wait, MayTakeWorks, take_works, MayGiveWorks, give_works}
 use Rattle.core_kinds.specs.Running.{MayQueue, queue_task, MayDequeue, dequeue_task, MayMove, move_task, MaySetBusy, set_busy, MayClearBusy, clear_busy, MayBodyOut, body_out, MayBodyHome, body_home}
 use Rattle.core_kinds.specs.Steps.{waking, running}
-use Rattle.core_kinds.specs.Waking.{MayClaim, claim, IsRelease, MayRelease, release, MayLoad, load_cpu, MayStoreCpu, store_cpu, MayBump, bump}
+use Rattle.core_kinds.specs.Waking.{MayClaim, claim, IsRelease, MayRelease, release, MayLoad, load_cpu, load_count, MayStoreCpu, store_cpu, MayBump, bump}
 use Rattle.core_places.proofs.Facts.{idle_apart, ready_idle, ready_state, leaves, queued_started, claim_off, claim_started, move_idle, placeable_off}
 use Rattle.core_places.proofs.NewTasks.{on_rq-put, NewTasks-change, NewTasks-busy, NewTasks-clear, NewStates-take, NewStates-give, NewStates-stored, NewStates-change, NewStates-state, NewValues-take, NewValues-give, NewValues-change}
 use Rattle.core_places.proofs.OffTasks.{OffTasks-take, OffTasks-give, OffTasks-queue, OffTasks-move, OffTasks-leave, OffTasks-state, OffTasks-claim}
@@ -154,6 +154,9 @@ PlacesHold-release core s t holds may =
 
 pub PlacesHold-load_cpu : (core : Table) (s t : ℕ) → Holds core → MayLoad core s t → PlacesHold (load_cpu core s t)
 PlacesHold-load_cpu core s t holds may = let p = holds.places in assumption p
+
+pub PlacesHold-load_count : (core : Table) (s t : ℕ) → Holds core → MayLoad core s t → PlacesHold (load_count core s t)
+PlacesHold-load_count core s t holds may = let p = holds.places in assumption p
 
 pub PlacesHold-store_cpu : (core : Table) (s t c : ℕ) → Holds core → MayStoreCpu core s t c → PlacesHold (store_cpu core s t c)
 PlacesHold-store_cpu core s t c holds may =

@@ -13,7 +13,7 @@ use Rattle.core_invariant.specs.Positions.{PositionsHold, ReadsTold}
 use Rattle.core_kinds.specs.Locks.{MayTakeTask, take_task, MayGiveTask, give_task, MayTakeQueue, take_queue, MayTakeWait, take_wait, MayTakeWorks, take_works, MayGiveWorks, give_works}
 use Rattle.core_kinds.specs.Running.{MayQueue, queue_task, queue_entry, MayDequeue, dequeue_task, dequeue_entry, MayMove, move_task, MaySetBusy, set_busy, MayClearBusy, clear_busy, MayBodyOut, body_out, MayBodyHome, body_home}
 use Rattle.core_kinds.specs.Steps.{waking, running, dead, kept_reads, numbered_reads}
-use Rattle.core_kinds.specs.Waking.{MayClaim, claim, IsRelease, MayRelease, release, MayLoad, load_cpu, cpu_read, MayStoreCpu, store_cpu, MayBump, bump}
+use Rattle.core_kinds.specs.Waking.{MayClaim, claim, IsRelease, MayRelease, release, MayLoad, load_cpu, cpu_read, load_count, MayStoreCpu, store_cpu, MayBump, bump}
 use Rattle.core_places.proofs.Claimed.{ClaimedTasks-take, ClaimedTasks-give, ClaimedTasks-queue, ClaimedTasks-off, ClaimedTasks-busy, ClaimedTasks-clear, ClaimedTasks-state, ClaimedTasks-claim}
 use Rattle.core_places.proofs.Facts.{idle_apart, ready_idle, ready_alive, leaves, claim_off, free_rests, free_settled, new_rests, leaves_rests, placeable_off}
 use Rattle.core_places.proofs.Idle.{IdleTasks-take, IdleTasks-queue, IdleTasks-off, IdleTasks-pick, IdleTasks-clear, IdleTasks-cpu}
@@ -257,6 +257,9 @@ PositionsHold-load_cpu core s t holds may =
       CpusRead-load core.cpu core.lock core.reads s t r p.cpu refl,
       ReadsTold-same j core.cpu core.on_rq core.changes core.lock core.reads s t r p.reads refl refl refl,
     )
+
+pub PositionsHold-load_count : (core : Table) (s t : ℕ) → Holds core → MayLoad core s t → PositionsHold (load_count core s t)
+PositionsHold-load_count core s t holds may = let p = holds.positions in assumption p
 
 pub PositionsHold-store_cpu : (core : Table) (s t c : ℕ) → Holds core → MayStoreCpu core s t c → PositionsHold (store_cpu core s t c)
 PositionsHold-store_cpu core s t c holds may =

@@ -11,7 +11,7 @@ use Rattle.core_invariant.specs.Invariant.{Holds}
 use Rattle.core_invariant.specs.Sleepers.{SleepersHold}
 use Rattle.core_kinds.specs.Locks.{MayTakeTask, take_task, MayGiveTask, give_task, MayTakeQueue, take_queue, MayTakeWorks, take_works, MayGiveWorks, give_works}
 use Rattle.core_kinds.specs.Running.{MayQueue, queue_task, MayDequeue, dequeue_task, MayMove, move_task, MayClearBusy, clear_busy, MayBodyOut, body_out, MayBodyHome, body_home}
-use Rattle.core_kinds.specs.Waking.{MayLoad, load_rq, load_rq_so, load_busy, load_busy_so, load_cpu, rq_read, noted_if}
+use Rattle.core_kinds.specs.Waking.{MayLoad, load_rq, load_rq_so, load_busy, load_busy_so, load_cpu, load_count, rq_read, noted_if}
 
 pub SleepersHold-take_task : (core : Table) (s t : ℕ) → Holds core → MayTakeTask core s t → SleepersHold (take_task core s t)
 SleepersHold-take_task core s t holds may = assumption (holds.sleepers)
@@ -68,3 +68,6 @@ SleepersHold-load_busy core s t holds may = busy_so core s t (core.rest_off s t)
 
 pub SleepersHold-load_cpu : (core : Table) (s t : ℕ) → Holds core → MayLoad core s t → SleepersHold (load_cpu core s t)
 SleepersHold-load_cpu core s t holds may = assumption (holds.sleepers)
+
+pub SleepersHold-load_count : (core : Table) (s t : ℕ) → Holds core → MayLoad core s t → SleepersHold (load_count core s t)
+SleepersHold-load_count core s t holds may = assumption (holds.sleepers)

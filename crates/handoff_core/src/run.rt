@@ -14,11 +14,11 @@ use step_data::{copy_core, copy_wait, copy_works};
 use step_gives::{give_queue, give_wait, may_give_queue, may_give_wait, may_give_works};
 use step_kinds::{
     body_home, body_out, bump, claim, clear_busy, dequeue_task, give_task, give_works, load_busy,
-    load_cond, load_cpu, load_rq, load_state, may_body_home, may_body_out, may_bump, may_claim,
-    may_clear_busy, may_dequeue, may_give_task, may_load, may_load_state, may_move, may_own_state,
-    may_queue, may_release, may_set_busy, may_store_cpu, may_take_queue, may_take_task,
-    may_take_wait, may_take_works, move_task, own_state, queue_task, release, set_busy, store_cpu,
-    take_queue, take_task, take_wait, take_works,
+    load_cond, load_count, load_cpu, load_rq, load_state, may_body_home, may_body_out, may_bump,
+    may_claim, may_clear_busy, may_dequeue, may_give_task, may_load, may_load_state, may_move,
+    may_own_state, may_queue, may_release, may_set_busy, may_store_cpu, may_take_queue,
+    may_take_task, may_take_wait, may_take_works, move_task, own_state, queue_task, release,
+    set_busy, store_cpu, take_queue, take_task, take_wait, take_works,
 };
 
 /// Whether an event is possible.
@@ -54,6 +54,7 @@ fn may_happen(core: &Core, event: &Event) -> bool
         StepKind::LoadRq { t } => may_load(core, s, *t),
         StepKind::LoadBusy { t } => may_load(core, s, *t),
         StepKind::LoadCpu { t } => may_load(core, s, *t),
+        StepKind::LoadCount { t } => may_load(core, s, *t),
         StepKind::StoreCpu { t, c } => may_store_cpu(core, s, *t, *c),
         StepKind::Bump { k } => may_bump(core, s, *k),
         StepKind::LoadCond { k } => may_bump(core, s, *k),
@@ -114,6 +115,10 @@ fn happen(core: &mut Core, event: &Event) -> Result<(), NoMemory>
         StepKind::LoadRq { t } => load_rq(core, s, *t),
         StepKind::LoadBusy { t } => load_busy(core, s, *t),
         StepKind::LoadCpu { t } => load_cpu(core, s, *t),
+        StepKind::LoadCount { t } => {
+            load_count(core, s, *t);
+            Ok(())
+        }
         StepKind::StoreCpu { t, c } => store_cpu(core, s, *t, *c),
         StepKind::Bump { k } => bump(core, s, *k),
         StepKind::LoadCond { k } => load_cond(core, s, *k),

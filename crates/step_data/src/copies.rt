@@ -191,6 +191,7 @@ fn copy_pos(pos: &Pos) -> Result<Pos, AllocError>
     Ok(Pos {
         to_clear: pos.to_clear,
         seen: pos.seen,
+        level_known: pos.level_known,
         recent,
         tests,
         asleep,

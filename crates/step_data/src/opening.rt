@@ -121,6 +121,7 @@ fn no_position(alloc: Global) -> Pos
     Pos {
         to_clear: None,
         seen: None,
+        level_known: None,
         recent: Vec::new(alloc),
         tests: Vec::new(alloc),
         asleep: Vec::new(alloc),

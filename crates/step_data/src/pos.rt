@@ -42,6 +42,13 @@ pub fn seen(pos: &Pos) -> Option<State>
     pos.seen
 }
 
+/// What was read of the current task's migrate-disable level.
+pub fn level_known(pos: &Pos) -> Option<u32>
+    ensures { result ≡ pos.now.level_known }
+{
+    pos.level_known
+}
+
 /// The last reads of the task.
 pub fn reads(pos: &Pos, t: TaskNo) -> TaskReads
     ensures { result ≡ found (λ (x : TaskReads). t == x.t) (λ x. x) (no_reads t) pos.now.reads }
@@ -61,6 +68,13 @@ pub fn set_seen(pos: &mut Pos, state: Option<State>)
     ensures { pos.new ≡ record pos.old { seen = state } }
 {
     pos.seen = state;
+}
+
+/// Sets what was read of the current task's migrate-disable level.
+pub fn set_level_known(pos: &mut Pos, level: Option<u32>)
+    ensures { pos.new ≡ record pos.old { level_known = level } }
+{
+    pos.level_known = level;
 }
 
 /// Sets what the task tested at the condition. Answers `NoMemory` where memory runs out.

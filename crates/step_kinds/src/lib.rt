@@ -9,7 +9,8 @@ mod running;
 mod waking;
 
 pub use loads::{
-    bump, load_busy, load_cond, load_cpu, load_rq, load_state, may_bump, may_load, may_load_state,
+    bump, load_busy, load_cond, load_count, load_cpu, load_rq, load_state, may_bump, may_load,
+    may_load_state,
 };
 pub use locks::{
     give_task, give_works, may_give_task, may_take_queue, may_take_task, may_take_wait,

@@ -5,15 +5,15 @@ ghost use mathlib.Core.Bool.{not};
 ghost use Rattle.core_data.specs.Noted.{noted};
 ghost use Rattle.core_data.specs.Table.{Table, table, put, put_at};
 ghost use Rattle.core_kinds.specs.Steps.{is_match};
-ghost use Rattle.core_kinds.specs.Waking.{MayLoad, IsMask, MayLoadState, is_own_read, is_matched, is_refused, load_state, load_this, state_read, load_rq, load_rq_so, rq_read, load_busy, load_busy_so, busy_read, load_cpu, cpu_read, MayBump, bump, load_cond, test_by};
+ghost use Rattle.core_kinds.specs.Waking.{MayLoad, IsMask, MayLoadState, is_own_read, is_matched, is_refused, load_state, load_this, state_read, load_rq, load_rq_so, rq_read, load_busy, load_busy_so, busy_read, load_cpu, cpu_read, load_count, level_read, MayBump, bump, load_cond, test_by};
 
 use crate::common::is_of_shape;
 use crate::notes::{log_if, note_if, see_if, test_if};
 use core_data::{Act, Core, Rq, TaskReads};
 use handoff_data::{CondNo, Entry, NoMemory, SeatNo, State, TaskNo};
 use step_stores::{
-    cond, conds, cpus, current, note, put_cond, queue_lock, reads, rest_off, rest_state, seats,
-    set_reads, slept, task_words, unstored,
+    cond, conds, cpus, current, level_known, note, put_cond, put_level_known, queue_lock, reads,
+    rest_off, rest_state, seats, set_reads, slept, task_words, unstored,
 };
 
 /// Whether seat s may load a word of task t.
@@ -253,6 +253,32 @@ pub fn load_cpu(core: &mut Core, s: SeatNo, t: TaskNo) -> Result<(), NoMemory>
     };
     set_reads(core, s, reads)?;
     Ok(())
+}
+
+/// The level that the seat knows after it read that of task t.
+fn level_read(current: Option<TaskNo>, t: TaskNo, level: u32, known: Option<u32>) -> Option<u32>
+    ensures { result ≡ level_read current t level known }
+{
+    match current {
+        Some(own) => {
+            if own == t {
+                Some(level)
+            } else {
+                known
+            }
+        }
+        None => known,
+    }
+}
+
+/// Loads the migrate-disable level of task t.
+pub fn load_count(core: &mut Core, s: SeatNo, t: TaskNo)
+    requires { (s < (table core.old).seats) × (t < (table core.old).tasks) }
+    ensures { table core.new ≡ load_count (table core.old) s t }
+{
+    let level = task_words(core, t).count;
+    let known = level_read(current(core, s), t, level, level_known(core, s));
+    put_level_known(core, s, known);
 }
 
 /// Whether seat s may raise condition k.

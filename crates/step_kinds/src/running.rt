@@ -15,8 +15,8 @@ use core_data::{Act, Core, QueueVal, TaskReads, TaskWords};
 use handoff_data::{CpuNo, Entry, NoMemory, SeatNo, State, TaskNo};
 use step_stores::{
     body_out as body_out_of, clear, cpus, current, forget_sleep, idle, log, note, put_body,
-    put_body_out, put_busy, put_current, put_rq, put_seen, put_to_clear, queue_lock, reads, seen,
-    set_reads, take_body, task_words, to_clear,
+    put_body_out, put_busy, put_current, put_level_known, put_rq, put_seen, put_to_clear,
+    queue_lock, reads, seen, set_reads, take_body, task_words, to_clear,
 };
 
 /// Whether seat s has the lock of the queue of processor c, and all three are of the shape.
@@ -245,11 +245,13 @@ fn finish(core: &mut Core, s: SeatNo, t: TaskNo, n: u64) -> Result<(), NoMemory>
 
 fn pick(core: &mut Core, s: SeatNo, c: CpuNo, t: TaskNo, n: u64) -> Result<(), NoMemory>
     requires { (s < (table core.old).seats) × (t < (table core.old).tasks) }
-    ensures { OnOk result (table core.new ≡ record (table core.old) { on_cpu = put (table core.old).on_cpu t true; runs = put (table core.old).runs t n; current = put (table core.old).current s (Some t); seen = put (table core.old).seen s None; test = put (table core.old).test s (λ u l. if u == t then None else (table core.old).test s u l); asleep = put (table core.old).asleep s (λ u l. if u == t then false else (table core.old).asleep s u l); journal = put (table core.old).journal s ((table core.old).journal s ++ Pick t n c ∷ []) }) }
+    ensures { OnOk result (table core.new ≡ record (table core.old) { on_cpu = put (table core.old).on_cpu t true; runs = put (table core.old).runs t n; current = put (table core.old).current s (Some t); seen = put (table core.old).seen s None; level_known = put (table core.old).level_known s None; test = put (table core.old).test s (λ u l. if u == t then None else (table core.old).test s u l); asleep = put (table core.old).asleep s (λ u l. if u == t then false else (table core.old).asleep s u l); journal = put (table core.old).journal s ((table core.old).journal s ++ Pick t n c ∷ []) }) }
 {
     put_busy(core, t, true, n);
     put_current(core, s, Some(t));
     put_seen(core, s, None);
+    // the level was that of the task before: one that is disabled would go as if it weren't
+    put_level_known(core, s, None);
     forget_sleep(core, s, t);
     log(core, s, Entry::Pick { t, n, c })?;
     Ok(())

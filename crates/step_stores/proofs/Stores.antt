@@ -126,6 +126,13 @@ put_seen_lem core k w new state h e is =
     ∙ table-seat core k (record w { pos = record w.pos { seen = state } }) h
     ∙ (λ i. record (same-seat core k w h e i) { seen = put (table core).seen k state })
 
+pub put_level_known_lem : (core : Core) (k : ℕ) (w : SeatCore) (new : Position) (level : Option ℕ) → k < (table core).seats → w ≡ get_or core.seats.items k w
+    → new ≡ record w.pos { level_known = level } → table (record core { seats = with_item core.seats k (record w { pos = new }) }) ≡ record (table core) { level_known = put (table core).level_known k level }
+put_level_known_lem core k w new level h e is =
+    ap (λ x. table (record core { seats = with_item core.seats k (record w { pos = x }) })) is
+    ∙ table-seat core k (record w { pos = record w.pos { level_known = level } }) h
+    ∙ (λ i. record (same-seat core k w h e i) { level_known = put (table core).level_known k level })
+
 pub log_lem : (core : Core) (k : ℕ) (w : SeatCore) (new : List Entry) (entry : Entry) → k < (table core).seats → w ≡ get_or core.seats.items k w → new ≡ w.journal ++ entry ∷ []
     → table (record core { seats = with_item core.seats k (record w { journal = new }) }) ≡ record (table core) { journal = put (table core).journal k ((table core).journal k ++ entry ∷ []) }
 log_lem core k w new entry h e is =

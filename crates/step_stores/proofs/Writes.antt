@@ -3,7 +3,7 @@ use Rattle.std.proofs.Common.{◌≡◌, ℕ, ◌<◌, [], false, None, get_or, 
 use Rattle.std.proofs.lemmas.List.{length-set}
 use Rattle.std.specs.Vec.{with_item}
 use Rattle.core_data.specs.Table.{table, unserved, mark_of, done_of, refs_of, current_of, task_out_of, queue_out_of, list_out_of, works_out_of, wait_out_of, body_out_of}
-use Rattle.core_data.specs.Table.{to_clear_of, seen_of, matched_of, unstored_of, saw_off_of, claimed_of, clear_of, stored_of, rest_state_of, rest_off_of, rest_idle_of, slept_of, requeued_of, idle_of}
+use Rattle.core_data.specs.Table.{to_clear_of, seen_of, level_known_of, matched_of, unstored_of, saw_off_of, claimed_of, clear_of, stored_of, rest_state_of, rest_off_of, rest_idle_of, slept_of, requeued_of, idle_of}
 use Rattle.core_data.specs.Table.{added_of, dropped_of, passed_of, own_stored_of, slept_in_of, owes_of, retaken_of, test_of, asleep_of, reads_of, hand_of, actives_of, counts_of, lowered_of}
 use Rattle.core_data.specs.Table.{given_up_of, due_of, ticket_of, zeroed_of, joined_of, refs_zero_of, completing_of, posted_of, works_hand_of, phases_of, unmarked_of, alive_of, turns_of, served_of}
 use Rattle.core_data.specs.Table.{journal_of}
@@ -127,6 +127,7 @@ table-seat core k w h =
       body_out = column-set body_out_of None core.seats.items k w h i;
       to_clear = column-set to_clear_of None core.seats.items k w h i;
       seen = column-set seen_of None core.seats.items k w h i;
+      level_known = column-set level_known_of None core.seats.items k w h i;
       matched = column-set matched_of (λ t. false) core.seats.items k w h i;
       unstored = column-set unstored_of (λ t. false) core.seats.items k w h i;
       saw_off = column-set saw_off_of (λ t. false) core.seats.items k w h i;
@@ -186,6 +187,7 @@ same-seat core k w h e =
       body_out = column-put body_out_of None core.seats.items k w h e i;
       to_clear = column-put to_clear_of None core.seats.items k w h e i;
       seen = column-put seen_of None core.seats.items k w h e i;
+      level_known = column-put level_known_of None core.seats.items k w h e i;
       matched = column-put matched_of (λ t. false) core.seats.items k w h e i;
       unstored = column-put unstored_of (λ t. false) core.seats.items k w h e i;
       saw_off = column-put saw_off_of (λ t. false) core.seats.items k w h e i;
@@ -306,6 +308,10 @@ get-to_clear core k w h e = column-get to_clear_of None core.seats.items k w h e
 pub get-seen : (core : Core) (k : ℕ) (w : SeatCore) → k < (table core).seats → w ≡ get_or core.seats.items k w → (table core).seen k ≡ seen_of w
 unfolding table
 get-seen core k w h e = column-get seen_of None core.seats.items k w h e
+
+pub get-level_known : (core : Core) (k : ℕ) (w : SeatCore) → k < (table core).seats → w ≡ get_or core.seats.items k w → (table core).level_known k ≡ level_known_of w
+unfolding table
+get-level_known core k w h e = column-get level_known_of None core.seats.items k w h e
 
 pub get-reads : (core : Core) (k : ℕ) (w : SeatCore) → k < (table core).seats → w ≡ get_or core.seats.items k w → (table core).reads k ≡ reads_of w
 unfolding table

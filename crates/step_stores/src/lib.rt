@@ -19,11 +19,13 @@ pub use facts::{
     added, claimed, clear, idle, matched, owes, own_stored, passed, rest_off, rest_state, retaken,
     saw_off, slept, slept_in, unstored,
 };
-pub use outs::{body_out, queue_out, reads, seen, task_out, to_clear, wait_out, works_out};
+pub use outs::{
+    body_out, level_known, queue_out, reads, seen, task_out, to_clear, wait_out, works_out,
+};
 pub use seat_stores::{
     current, forget_sleep, give_asleep, hold_queue, hold_task, hold_wait, hold_works, log, note,
-    put_body_out, put_current, put_seen, put_to_clear, release_queue, release_task, release_wait,
-    release_works, set_reads, set_test,
+    put_body_out, put_current, put_level_known, put_seen, put_to_clear, release_queue,
+    release_task, release_wait, release_works, set_reads, set_test,
 };
 pub use task_stores::{
     conds, cpus, put_body, put_busy, put_cpu, put_lock, put_rq, put_state, put_val, seats,

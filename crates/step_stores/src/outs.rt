@@ -135,6 +135,15 @@ pub fn seen(core: &Core, s: SeatNo) -> Option<State>
     pos::seen(&row.pos)
 }
 
+/// The migrate-disable level of its current task that seat s has read since it picked it.
+pub fn level_known(core: &Core, s: SeatNo) -> Option<u32>
+    requires { s < (table core.now).seats }
+    ensures { result ≡ (table core.now).level_known s }
+{
+    let row = &core.seats[s as usize];
+    pos::level_known(&row.pos)
+}
+
 /// The task whose body seat s has out.
 pub fn body_out(core: &Core, s: SeatNo) -> Option<TaskNo>
     requires { s < (table core.now).seats }

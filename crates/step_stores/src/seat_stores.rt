@@ -62,6 +62,15 @@ pub fn put_seen(core: &mut Core, s: SeatNo, state: Option<State>)
     pos::set_seen(&mut row.pos, state);
 }
 
+/// Sets the migrate-disable level of its current task that seat s has read.
+pub fn put_level_known(core: &mut Core, s: SeatNo, level: Option<u32>)
+    requires { s < (table core.old).seats }
+    ensures { table core.new ≡ record (table core.old) { level_known = put (table core.old).level_known s level } }
+{
+    let row = &mut core.seats[s as usize];
+    pos::set_level_known(&mut row.pos, level);
+}
+
 /// Adds an entry to the journal of seat s. Answers `NoMemory` where memory runs out.
 pub fn log(core: &mut Core, s: SeatNo, entry: Entry) -> Result<(), NoMemory>
     requires { s < (table core.old).seats }

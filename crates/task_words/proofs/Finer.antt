@@ -11,7 +11,7 @@ use Rattle.task_words.specs.Gives.{is_load, is_quiet, takes_queue, without}
 use Rattle.word_rule.specs.May.{MayGiveQueueVal}
 use Rattle.word_rule.specs.Standing.{standing, standing_after, may_run, may_run_after, is_runnable}
 use Rattle.word_steps.specs.Folds.{put_both, put_column_if, queue_held, queue_after, has_added, added_after, has_dropped, dropped_after, has_put, put_after, current_task, current_after, stays_queued, stays_after, body_held, body_after, task_to_clear, to_clear_after}
-use Rattle.word_steps.specs.Records.{Rec, Took, Gave, OutBody, HomeBody, Queued, Dequeued, Moved, SetBusy, ClearedBusy, StoredOwn, Claimed, Released, LoadedState, LoadedRq, LoadedBusy, LoadedCpu, StoredCpu, Bumped, LoadedCond}
+use Rattle.word_steps.specs.Records.{Rec, Took, Gave, OutBody, HomeBody, Queued, Dequeued, Moved, SetBusy, ClearedBusy, StoredOwn, Claimed, Released, LoadedState, LoadedRq, LoadedBusy, LoadedCpu, LoadedCount, StoredCpu, Bumped, LoadedCond}
 use Rattle.word_steps.specs.declared.val.Val.TheVariants as val
 
 -- What is known of one table is known of another that knows more
@@ -72,6 +72,7 @@ module _ (s : ℕ) (current : Option ℕ) (stays own : Bool) (were h k : ℕ →
   more_known (LoadedRq u on m) c t more e = more e
   more_known (LoadedBusy u busy n) c t more e = more e
   more_known (LoadedCpu u d) c t more e = more e
+  more_known (LoadedCount u level) c t more e = more e
   more_known (StoredCpu u d) c t more e = more e
   more_known (Bumped n v) c t more e = more e
   more_known (LoadedCond n v) c t more e = more e
@@ -167,6 +168,7 @@ module _ (s : ℕ) where
   finer_skip (LoadedRq t on m) q a = same_but (LoadedRq t on m) a refl refl refl refl refl refl refl refl refl (λ c u e. e)
   finer_skip (LoadedBusy t busy n) q a = same_but (LoadedBusy t busy n) a refl refl refl refl refl refl refl refl refl (λ c u e. e)
   finer_skip (LoadedCpu t d) q a = same_but (LoadedCpu t d) a refl refl refl refl refl refl refl refl refl (λ c u e. e)
+  finer_skip (LoadedCount t level) q a = same_but (LoadedCount t level) a refl refl refl refl refl refl refl refl refl (λ c u e. e)
   finer_skip (LoadedCond k v) q a = same_but (LoadedCond k v) a refl refl refl refl refl refl refl refl refl (λ c u e. e)
   finer_skip (Released t) q a =
       same_but (Released t) a refl refl refl refl refl refl refl refl refl
@@ -224,6 +226,7 @@ loads_quiet (LoadedState t mask state) q = refl
 loads_quiet (LoadedRq t on m) q = refl
 loads_quiet (LoadedBusy t busy n) q = refl
 loads_quiet (LoadedCpu t d) q = refl
+loads_quiet (LoadedCount t level) q = refl
 loads_quiet (LoadedCond k v) q = refl
 loads_quiet (Released t) q = refl
 loads_quiet (Took n v) q = q

@@ -2,7 +2,7 @@
 use Rattle.std.proofs.Common.{◌≡◌, ◌∙◌, ℕ, ◌∷◌, List, refl, sym}
 use Rattle.std.specs.Prelude.{Bool, true, false}
 use Rattle.std.proofs.lemmas.Bool.{false≢true}
-use Rattle.word_steps.specs.Records.{Rec, Took, Gave, OutBody, HomeBody, Queued, Dequeued, Moved, SetBusy, ClearedBusy, StoredOwn, Claimed, Released, LoadedState, LoadedRq, LoadedBusy, LoadedCpu, StoredCpu, Bumped, LoadedCond}
+use Rattle.word_steps.specs.Records.{Rec, Took, Gave, OutBody, HomeBody, Queued, Dequeued, Moved, SetBusy, ClearedBusy, StoredOwn, Claimed, Released, LoadedState, LoadedRq, LoadedBusy, LoadedCpu, LoadedCount, StoredCpu, Bumped, LoadedCond}
 use Rattle.task_words.specs.Untouched.{Untouched}
 use Rattle.word_steps.specs.declared.val.Val.TheVariants as val
 
@@ -55,6 +55,7 @@ module _ (a : List Rec) where
   untouched_next (LoadedRq t on m) e = record { works = refl; body = refl; ended = refl; stays = refl }
   untouched_next (LoadedBusy t busy n) e = record { works = refl; body = refl; ended = refl; stays = refl }
   untouched_next (LoadedCpu t c) e = record { works = refl; body = refl; ended = refl; stays = refl }
+  untouched_next (LoadedCount t level) e = record { works = refl; body = refl; ended = refl; stays = refl }
   untouched_next (StoredCpu t c) e = record { works = refl; body = refl; ended = refl; stays = refl }
   untouched_next (Bumped k v) e = record { works = refl; body = refl; ended = refl; stays = refl }
   untouched_next (LoadedCond k v) e = record { works = refl; body = refl; ended = refl; stays = refl }

@@ -10,7 +10,7 @@ use Rattle.task_words.proofs.Finer.{IsFiner, finer_without, loads_quiet}
 use Rattle.task_words.specs.Gives.{is_load, since}
 use Rattle.word_rule.specs.Standing.{may_run, is_runnable}
 use Rattle.word_steps.specs.Folds.{put_both, current_task, stays_queued, queue_held, seen_state}
-use Rattle.word_steps.specs.Records.{Rec, Took, Gave, OutBody, HomeBody, Queued, Dequeued, Moved, SetBusy, ClearedBusy, StoredOwn, Claimed, Released, LoadedState, LoadedRq, LoadedBusy, LoadedCpu, StoredCpu, Bumped, LoadedCond}
+use Rattle.word_steps.specs.Records.{Rec, Took, Gave, OutBody, HomeBody, Queued, Dequeued, Moved, SetBusy, ClearedBusy, StoredOwn, Claimed, Released, LoadedState, LoadedRq, LoadedBusy, LoadedCpu, LoadedCount, StoredCpu, Bumped, LoadedCond}
 use Rattle.word_steps.specs.declared.val.Val.TheVariants as val
 
 same_some : (a b : State) → Some a ≡ Some b → a ≡ b
@@ -61,6 +61,7 @@ module _ (s t : ℕ) (state : State) (runs : is_runnable state ≡ true) (v : Qu
   seen_may (LoadedRq u on m ∷ a) did current stays seen = seen_may a did current stays seen
   seen_may (LoadedBusy u busy n ∷ a) did current stays seen = seen_may a did current stays seen
   seen_may (LoadedCpu u c ∷ a) did current stays seen = seen_may a did current stays seen
+  seen_may (LoadedCount u level ∷ a) did current stays seen = seen_may a did current stays seen
   seen_may (LoadedCond k n ∷ a) did current stays seen = seen_may a did current stays seen
   seen_may (Took n (val.Queue w) ∷ a) did current stays seen =
       let same : n ≡ s = ap first_taken did in

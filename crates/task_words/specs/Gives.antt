@@ -13,7 +13,7 @@ use Rattle.word_rule.specs.May.{number_of}
 use Rattle.word_rule.specs.Standing.{is_runnable}
 use Rattle.word_rule.specs.Told.{TakenQueue, TakenWait, IsOff}
 use Rattle.word_steps.specs.Folds.{task_held, current_task, stays_queued, body_held, task_to_clear, seen_state, is_claimed, is_moving}
-use Rattle.word_steps.specs.Records.{Rec, Took, Queued, Dequeued, Moved, SetBusy, StoredOwn, Released, LoadedState, LoadedRq, LoadedBusy, LoadedCpu, LoadedCond}
+use Rattle.word_steps.specs.Records.{Rec, Took, Queued, Dequeued, Moved, SetBusy, StoredOwn, Released, LoadedState, LoadedRq, LoadedBusy, LoadedCpu, LoadedCount, LoadedCond}
 use Rattle.word_steps.specs.declared.val.Val.TheVariants as val
 
 -- loads change nothing of a queue
@@ -22,6 +22,7 @@ is_load (LoadedState t mask state) = true
 is_load (LoadedRq t on m) = true
 is_load (LoadedBusy t busy n) = true
 is_load (LoadedCpu t c) = true
+is_load (LoadedCount t level) = true
 is_load (LoadedCond k v) = true
 is_load r = false
 

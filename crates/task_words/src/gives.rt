@@ -10,7 +10,7 @@ ghost use Rattle.task_words.specs.Views.{IsOf, IsSame, IsSameSeat, logged};
 ghost use Rattle.word_rule.specs.May.{IsPutHere};
 ghost use Rattle.word_rule.specs.Told.{TakenWait};
 ghost use Rattle.word_rule.specs.Standing.{may_run};
-ghost use Rattle.word_steps.specs.Folds.{current_task, queue_held, task_held, task_to_clear, wait_held};
+ghost use Rattle.word_steps.specs.Folds.{current_task, level_known, queue_held, task_held, task_to_clear, wait_held};
 ghost use Rattle.word_steps.specs.Records.{Gave, Released, SetBusy};
 ghost use Rattle.word_steps.specs.declared.val.Val.TheVariants as val;
 
@@ -204,26 +204,30 @@ impl<B: Kept> QueueGuard<B> {
     }
 
     /// Gives the lock of the seat's own queue after its current task was put back at the end, whose state was read as
-    /// TASK_RUNNING or TASK_NEW.
+    /// TASK_RUNNING or TASK_NEW. Its migrate-disable level was read as 0 since it was picked: from here on a seat that has
+    /// its lock may place it elsewhere.
     pub fn give_put_back(self, wk: &Wk<B>, pass: &mut Pass)
         requires of { IsOf wk.now pass.old }
         requires table { self.of ≡ wk.now.name }
         requires processor { self.cpu < wk.now.shape.cpus }
         requires own { self.cpu ≡ pass.old.seat }
         requires may { IsPutBack pass.old.shape pass.old.seat pass.old.trace self.val }
+        requires level { level_known pass.old.seat pass.old.trace ≡ Some 0 }
         ensures same { IsSame pass.old pass.new }
         ensures trace { pass.new.trace ≡ Gave self.cpu (val.Queue (unwrap_or (queue_held pass.old.trace self.cpu) self.val)) (val.Queue self.val) ∷ pass.old.trace }
     {
         self.give(wk, pass);
     }
 
-    /// Gives the lock of the seat's own queue after its current task has left the queue to sleep or to die.
+    /// Gives the lock of the seat's own queue after its current task has left the queue to sleep or to die. Its
+    /// migrate-disable level was read as 0 since it was picked: its waker may place it elsewhere.
     pub fn give_asleep(self, wk: &Wk<B>, pass: &mut Pass)
         requires of { IsOf wk.now pass.old }
         requires table { self.of ≡ wk.now.name }
         requires processor { self.cpu < wk.now.shape.cpus }
         requires own { self.cpu ≡ pass.old.seat }
         requires may { IsAsleep pass.old.shape pass.old.seat pass.old.trace self.val }
+        requires level { level_known pass.old.seat pass.old.trace ≡ Some 0 }
         ensures same { IsSame pass.old pass.new }
         ensures trace { pass.new.trace ≡ Gave self.cpu (val.Queue (unwrap_or (queue_held pass.old.trace self.cpu) self.val)) (val.Queue self.val) ∷ pass.old.trace }
     {

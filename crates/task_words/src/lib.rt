@@ -34,7 +34,7 @@ pub use bodies::{body_home, body_out};
 pub use conds::{bump_cond, load_cond};
 pub use guards::{QueueGuard, TaskGuard, WaitGuard, WorksGuard};
 pub use laws::between_steps;
-pub use loads::{BusyWord, load_busy, load_cpu, load_rq, load_state};
+pub use loads::{BusyWord, load_busy, load_count, load_cpu, load_rq, load_state};
 pub use locks::{lock_queue, lock_task, lock_wait, lock_works};
 pub use pass::{Pass, Turn};
 pub use runs::{clear_busy, dequeue_task, move_task, queue_task, set_busy};

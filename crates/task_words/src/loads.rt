@@ -4,14 +4,14 @@ ghost use Rattle.task_words.specs.Views.{IsOf, IsSame};
 ghost use Rattle.core_kinds.specs.Steps.{dead};
 ghost use Rattle.handoff_data.specs.declared.state.State.{State};
 ghost use Rattle.word_rule.specs.Own.{IsOfCurrent, IsStill, last_own};
-ghost use Rattle.word_steps.specs.Folds.{task_held, is_matched_by, current_task, stays_queued};
-ghost use Rattle.word_steps.specs.Records.{LoadedState, LoadedRq, LoadedBusy, LoadedCpu};
+ghost use Rattle.word_steps.specs.Folds.{task_held, is_matched_by, current_task, stays_queued, level_known};
+ghost use Rattle.word_steps.specs.Records.{LoadedState, LoadedRq, LoadedBusy, LoadedCpu, LoadedCount};
 
 use crate::pass::Pass;
 use crate::wk::Wk;
 use core_data::Rq;
 use handoff_data::{CpuNo, State, TaskNo};
-use word_kinds::{LoadBusy, LoadCpu, LoadRq, LoadState};
+use word_kinds::{LoadBusy, LoadCount, LoadCpu, LoadRq, LoadState};
 use word_table::{Kept, load};
 
 /// What a busy word says.
@@ -77,4 +77,17 @@ pub fn load_cpu<B: Kept>(wk: &Wk<B>, pass: &mut Pass, t: TaskNo) -> CpuNo
     ensures processor { result < wk.now.shape.cpus }
 {
     load::<B, LoadCpu>(&wk.words, &mut pass.token, t) as CpuNo
+}
+
+/// The migrate-disable level of a task, as Linux's `p->migration_disabled`. No step stores one, so it is 0. Of its own
+/// current task the seat knows it until it picks another.
+pub fn load_count<B: Kept>(wk: &Wk<B>, pass: &mut Pass, t: TaskNo) -> u32
+    requires of { IsOf wk.now pass.old }
+    requires task { t < wk.now.shape.tasks }
+    ensures same { IsSame pass.old pass.new }
+    ensures trace { pass.new.trace ≡ LoadedCount t result ∷ pass.old.trace }
+    ensures known { current_task pass.old.seat pass.old.trace ≡ Some t → level_known pass.new.seat pass.new.trace ≡ Some result }
+    ensures zero { result ≡ 0 }
+{
+    load::<B, LoadCount>(&wk.words, &mut pass.token, t) as u32
 }

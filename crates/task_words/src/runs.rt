@@ -6,7 +6,7 @@ ghost use Rattle.task_words.specs.Needs.{need_step};
 ghost use Rattle.task_words.specs.Queues.{MayQueueHere, MayMoveHere};
 ghost use Rattle.task_words.specs.Views.{IsOf, IsSameSeat, logged};
 ghost use Rattle.word_rule.specs.May.{cpu_read_of, number_of, on_of, queued_next, MayQueueWord, MayDequeueWord, MaySetBusyWord, MayClearBusyWord, next_rq, next_busy};
-ghost use Rattle.word_steps.specs.Folds.{seen_state, number_read};
+ghost use Rattle.word_steps.specs.Folds.{seen_state, level_known, number_read};
 ghost use Rattle.word_table.specs.Views.{IsOf as IsTokenOf, IsSame as IsSameToken};
 ghost use Rattle.word_steps.specs.Records.{Queued, Dequeued, Moved, SetBusy, ClearedBusy};
 
@@ -165,8 +165,8 @@ pub fn queue_task<B: Kept, R: Wait>(
 }
 
 /// Takes the seat's current task off its queue, as Linux's `deactivate_task` (`kernel/sched/core.c`): it sleeps, or,
-/// where `dies`, it is dead, by the state that the seat read under its queue's lock. It answers the number of changes
-/// before.
+/// where `dies`, it is dead, by the state that the seat read under its queue's lock. A task dies only at migrate-disable
+/// level 0, as the seat read it since the pick. It answers the number of changes before.
 pub fn dequeue_task<B: Kept, R: Wait>(
     rt: &R,
     wk: &Wk<B>,
@@ -178,6 +178,7 @@ pub fn dequeue_task<B: Kept, R: Wait>(
     requires task { t < wk.now.shape.tasks }
     requires may { (x : ℕ) → x / 4 < 2 ^ 60 → MayDequeueWord pass.old.seat pass.old.trace t x (next_rq x 0) }
     requires dies { is_dead (seen_state pass.old.seat pass.old.trace) ≡ dies }
+    requires level { dies ≡ true → level_known pass.old.seat pass.old.trace ≡ Some 0 }
     requires spare { need_step ≤ pass.old.turn.spare }
     ensures same { IsSameSeat pass.old pass.new }
     ensures trace { pass.new.trace ≡ Dequeued t pass.old.seat result ∷ pass.old.trace }

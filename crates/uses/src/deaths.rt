@@ -8,7 +8,8 @@ ghost use Rattle.task_words.specs.Views.{IsOf, IsSameSeat};
 use handoff_data::{State, TaskNo};
 use std::sync::Wait;
 use task_words::{
-    Kept, Pass, Wk, clear_busy, dequeue_task, load_state, lock_queue, lock_task, set_state,
+    Kept, Pass, Wk, clear_busy, dequeue_task, load_count, load_state, lock_queue, lock_task,
+    set_state,
 };
 
 /// Ends the current task, whose body has ended, as Linux's `do_task_dead`: it is TASK_DEAD, which no other seat changes,
@@ -29,6 +30,8 @@ pub fn die<B: Kept, R: Wait>(rt: &R, wk: &Wk<B>, pass: &mut Pass, t: TaskNo)
     let c = pass.seat();
     let mut queue = lock_queue(rt, wk, pass, c);
     load_state(wk, pass, t);
+    // a task that dies with migration disabled would be counted on its processor for good
+    load_count(wk, pass, t);
     dequeue_task(rt, wk, pass, t, true);
     queue.val_mut(wk).set_cur(None);
     queue.val_mut(wk).set_left(Some(t));

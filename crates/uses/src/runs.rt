@@ -9,8 +9,8 @@ use core_data::Rq;
 use handoff_data::{State, TaskNo};
 use std::sync::Wait;
 use task_words::{
-    Kept, Pass, Wk, body_home, body_out, clear_busy, load_cpu, load_rq, load_state, lock_queue,
-    lock_task, queue_task,
+    Kept, Pass, Wk, body_home, body_out, clear_busy, load_count, load_cpu, load_rq, load_state,
+    lock_queue, lock_task, queue_task,
 };
 
 /// Puts a new task at the back of its processor's queue, as Linux's `wake_up_new_task`; whether it was new.
@@ -141,6 +141,8 @@ pub fn put_back<B: Kept, R: Wait>(rt: &R, wk: &Wk<B>, pass: &mut Pass, t: TaskNo
         queue.give_as_taken(wk, pass);
         return false;
     }
+    // read while the task is still the seat's own: once it is given up another seat may move it
+    load_count(wk, pass, t);
     queue.push(wk, pass, t);
     queue.val_mut(wk).set_cur(None);
     queue.val_mut(wk).set_left(Some(t));

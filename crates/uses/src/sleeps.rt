@@ -11,8 +11,8 @@ ghost use Rattle.task_words.specs.Views.{IsOf, IsSame, IsSameSeat};
 use handoff_data::{CondNo, State, TaskNo};
 use std::sync::Wait;
 use task_words::{
-    Kept, Pass, WaitGuard, Wk, clear_busy, dequeue_task, load_cond, load_state, lock_queue,
-    lock_wait, set_running, set_state,
+    Kept, Pass, WaitGuard, Wk, clear_busy, dequeue_task, load_cond, load_count, load_state,
+    lock_queue, lock_wait, set_running, set_state,
 };
 
 /// Puts the current task to sleep until a condition has another value than `seen`, as Linux's `prepare_to_wait` and
@@ -111,6 +111,8 @@ pub fn switch_out<B: Kept, R: Wait>(rt: &R, wk: &Wk<B>, pass: &mut Pass, t: Task
         queue.give_as_taken(wk, pass);
         return false;
     }
+    // read while the task is still the seat's own: once it is given up its waker may place it elsewhere
+    load_count(wk, pass, t);
     dequeue_task(rt, wk, pass, t, false);
     queue.val_mut(wk).set_cur(None);
     queue.val_mut(wk).set_left(Some(t));

@@ -12,7 +12,7 @@ mod runs;
 mod stores;
 
 pub use laws::{bodies_make_events, locks_make_events};
-pub use loads::{LoadBusy, LoadCond, LoadCpu, LoadRq, LoadState};
+pub use loads::{LoadBusy, LoadCond, LoadCount, LoadCpu, LoadRq, LoadState};
 pub use masks::{
     Interruptible, InterruptibleKill, Killable, Mask, MatchState, NoBits, Normal, NormalKill,
     Uninterruptible, WakeKill,

@@ -148,6 +148,43 @@ impl Kind for LoadCpu {
     }
 }
 
+/// A load of a task's migrate-disable level.
+pub struct LoadCount;
+
+impl Kind for LoadCount {
+    ghost use Rattle.std.specs.Prelude.{◌≡◌, refl};
+    ghost use Rattle.std.proofs.Common.{lit<};
+    ghost use Rattle.word_kinds.specs.Rows.{tasks_rows};
+    ghost use Rattle.word_rule.proofs.LoadLaws.{load_count_law, load_count_is_event};
+    ghost use Rattle.word_steps.specs.Records.{LoadedCount};
+    ghost use Rattle.word_steps.specs.Words.{COUNT};
+
+    ghost col = { COUNT };
+
+    ghost bound = { λ shape. shape.tasks };
+
+    ghost note = { λ s trace t y x. LoadedCount t x };
+
+    ghost may = { λ shape s trace t x y. y ≡ x };
+
+    // No step stores a level, so each is 0.
+    ghost told = { λ shape s trace t x. x ≡ 0 };
+
+    ghost low = { lit< tt };
+
+    ghost rows = { tasks_rows };
+
+    ghost quiet = { λ s trace t y x. record { task = refl; queue = refl; works = refl; wait = refl; body = refl } };
+
+    ghost event = { load_count_is_event };
+
+    ghost keep = { load_count_law };
+
+    fn column() -> usize {
+        14
+    }
+}
+
 /// A load of a condition's counter.
 pub struct LoadCond;
 

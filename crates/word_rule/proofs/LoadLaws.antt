@@ -20,7 +20,7 @@ use Rattle.word_rule.specs.Standing.{may_run}
 use Rattle.word_steps.proofs.CurrentKept.{current_still}
 use Rattle.word_steps.proofs.EndedKept.{ended_still}
 use Rattle.word_steps.proofs.ExclusivesKept.{exclusives_still}
-use Rattle.word_steps.proofs.Events.{load_state_event, load_rq_event, load_busy_event, load_cpu_event, load_cond_event}
+use Rattle.word_steps.proofs.Events.{load_state_event, load_rq_event, load_busy_event, load_cpu_event, load_count_event, load_cond_event}
 use Rattle.word_steps.proofs.MatchedKept.{matched_still, load_state_matched}
 use Rattle.word_steps.proofs.MovingSteps.{moving_still}
 use Rattle.word_steps.proofs.NumbersKept.{numbers_still, load_rq_numbers}
@@ -31,8 +31,8 @@ use Rattle.word_steps.specs.Decode.{Homes, core_of, core_after}
 use Rattle.word_steps.specs.Events.{IsEvent}
 use Rattle.word_steps.specs.Exclusives.{ExclusivesHold}
 use Rattle.word_steps.specs.Folds.{task_held, is_matched_by}
-use Rattle.word_steps.specs.Records.{Rec, LoadedState, LoadedRq, LoadedBusy, LoadedCpu, LoadedCond}
-use Rattle.word_steps.specs.Words.{STATE, RQ, BUSY, CPU, COND, is_set}
+use Rattle.word_steps.specs.Records.{Rec, LoadedState, LoadedRq, LoadedBusy, LoadedCpu, LoadedCount, LoadedCond}
+use Rattle.word_steps.specs.Words.{STATE, RQ, BUSY, CPU, COUNT, COND, is_set}
 
 module _ (shape : Shape) (words : ℕ → ℕ → ℕ) (homes : Homes) (traces : ℕ → List Rec) (s n y : ℕ)
     (kept : Kept shape words homes traces) (seat : s < shape.cpus + shape.agents) where
@@ -201,6 +201,33 @@ module _ (shape : Shape) (words : ℕ → ℕ → ℕ) (homes : Homes) (traces :
         (exclusives_still words homes.wait traces s kept.exclusives (LoadedCpu n (words n CPU)) (λ t k e. e) refl refl)
         (load_cpu_event shape words homes traces s n (record { seat = seat; task = task })),
     kept.holds.shapes.cpu n task,
+  )
+
+  pub load_count_is_event : n < shape.tasks → y ≡ words n COUNT
+      → IsEvent shape words homes traces s (LoadedCount n (words n COUNT)) (put_at words n COUNT y) homes
+  load_count_is_event task same =
+      event_found COUNT (LoadedCount n (words n COUNT)) same
+      (load_count_event shape words homes traces s n (record { seat = seat; task = task }))
+
+  -- no step stores a level, so each is 0
+  pub load_count_law : n < shape.tasks → y ≡ words n COUNT
+      → Kept shape (put_at words n COUNT y) homes
+      (put traces s (LoadedCount n (words n COUNT) ∷ traces s)) × (words n COUNT ≡ 0)
+  load_count_law task same = (
+    quiet_load COUNT (LoadedCount n (words n COUNT)) same
+        (record {
+          moving = λ h. refl;
+          numbers = λ h. refl;
+          matched = refl;
+          queued = λ c t e. e;
+          put_there = refl;
+          standing = refl;
+          off = λ t e. e;
+        })
+        (record { current = λ j. refl; stays = refl }) (record { ended = refl; body = refl }) refl
+        (exclusives_still words homes.wait traces s kept.exclusives (LoadedCount n (words n COUNT)) (λ t k e. e) refl refl)
+        (load_count_event shape words homes traces s n (record { seat = seat; task = task })),
+    kept.counts n,
   )
 
   pub load_cond_is_event : n < shape.conds → y ≡ words n COND

@@ -138,6 +138,7 @@ masks_after core s (step.LoadState t mask) may masks = load_state-keeps Masks co
 masks_after core s (step.LoadRq t) may masks = load_rq-keeps Masks core s t (load_free s t) masks
 masks_after core s (step.LoadBusy t) may masks = load_busy-keeps Masks core s t (load_free s t) masks
 masks_after core s (step.LoadCpu t) may masks = assumption (masks)
+masks_after core s (step.LoadCount t) may masks = assumption (masks)
 masks_after core s (step.StoreCpu t c) may masks = assumption (masks)
 masks_after core s (step.Bump k) may masks = assumption (masks)
 masks_after core s (step.LoadCond k) may masks = load_cond-keeps Masks core s k (λ next x p. assumption (p)) masks

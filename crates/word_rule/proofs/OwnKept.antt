@@ -22,8 +22,8 @@ use Rattle.word_steps.specs.Beside.{CurrentHolds}
 use Rattle.word_steps.specs.Decode.{Homes, core_of}
 use Rattle.word_steps.specs.Events.{IsEvent, IsNoted, Writes}
 use Rattle.word_steps.specs.Folds.{current_task, stays_queued}
-use Rattle.word_steps.specs.Records.{Rec, Took, Gave, OutBody, HomeBody, Queued, Dequeued, Moved, SetBusy, ClearedBusy, StoredOwn, Claimed, Released, LoadedState, LoadedRq, LoadedBusy, LoadedCpu, StoredCpu, Bumped, LoadedCond}
-use Rattle.word_steps.specs.Words.{LOCK, STATE, RQ, BUSY, CPU, QUEUE_LOCK, WORKS_LOCK, WAIT_LOCK, COND, is_set}
+use Rattle.word_steps.specs.Records.{Rec, Took, Gave, OutBody, HomeBody, Queued, Dequeued, Moved, SetBusy, ClearedBusy, StoredOwn, Claimed, Released, LoadedState, LoadedRq, LoadedBusy, LoadedCpu, LoadedCount, StoredCpu, Bumped, LoadedCond}
+use Rattle.word_steps.specs.Words.{LOCK, STATE, RQ, BUSY, CPU, COUNT, QUEUE_LOCK, WORKS_LOCK, WAIT_LOCK, COND, is_set}
 use Rattle.word_steps.specs.declared.val.Val.TheVariants as val
 
 pub own_start : (words : ℕ → ℕ → ℕ) → OwnHolds words (λ s. [])
@@ -256,6 +256,8 @@ module _ (shape : Shape) (words : ℕ → ℕ → ℕ) (homes : Homes) (traces :
       as_made traces s w words r (LoadedBusy t (is_set (words t BUSY)) (words t BUSY / 2)) writes noted (own_still words traces s own (LoadedBusy t (is_set (words t BUSY)) (words t BUSY / 2)) (λ u e. e) (λ e. e) refl)
   own_by (step.LoadCpu t) r w noted writes may =
       as_made traces s w words r (LoadedCpu t (words t CPU)) writes noted (own_still words traces s own (LoadedCpu t (words t CPU)) (λ u e. e) (λ e. e) refl)
+  own_by (step.LoadCount t) r w noted writes may =
+      as_made traces s w words r (LoadedCount t (words t COUNT)) writes noted (own_still words traces s own (LoadedCount t (words t COUNT)) (λ u e. e) (λ e. e) refl)
   own_by (step.StoreCpu t c) r w noted writes may =
       as_made traces s w (put_at words t CPU (c)) r (StoredCpu t c) writes noted
       (own_beside words traces s own t CPU (c) (StoredCpu t c) (λ e. omega (arith, e)) (λ u e. e) (λ e. e) refl)

@@ -20,7 +20,7 @@ use Rattle.word_steps.proofs.EndedKept.{body_home_may}
 use Rattle.word_steps.proofs.MovingSteps.{settled_given}
 use Rattle.word_steps.specs.Decode.{Homes, core_of}
 use Rattle.word_steps.specs.Folds.{number_read, ended_known, saw_off, put_if, is_unstored}
-use Rattle.word_steps.specs.Records.{Rec, Took, Gave, OutBody, HomeBody, Queued, Dequeued, Moved, SetBusy, ClearedBusy, StoredOwn, Claimed, Released, LoadedState, LoadedRq, LoadedBusy, LoadedCpu, StoredCpu, Bumped, LoadedCond}
+use Rattle.word_steps.specs.Records.{Rec, Took, Gave, OutBody, HomeBody, Queued, Dequeued, Moved, SetBusy, ClearedBusy, StoredOwn, Claimed, Released, LoadedState, LoadedRq, LoadedBusy, LoadedCpu, LoadedCount, StoredCpu, Bumped, LoadedCond}
 use Rattle.word_steps.specs.Words.{LOCK, STATE, RQ, holder}
 use Rattle.word_steps.specs.declared.val.Val.TheVariants as val
 
@@ -74,6 +74,7 @@ off_read (LoadedRq n on m ∷ rs) t e =
     read ((on == 0) && is_unstored rs n) (saw_off rs) (number_read rs) n m (off_read rs) t e
 off_read (LoadedBusy n busy m ∷ rs) t e = off_read rs t e
 off_read (LoadedCpu n c ∷ rs) t e = off_read rs t e
+off_read (LoadedCount n level ∷ rs) t e = off_read rs t e
 off_read (StoredCpu n c ∷ rs) t e = unread (saw_off rs) (number_read rs) n (off_read rs) t e
 off_read (Bumped k v ∷ rs) t e = off_read rs t e
 off_read (LoadedCond k v ∷ rs) t e = off_read rs t e

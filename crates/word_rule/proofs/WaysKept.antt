@@ -23,8 +23,8 @@ use Rattle.word_steps.specs.Beside.{MovingHolds}
 use Rattle.word_steps.specs.Decode.{Homes, core_of, core_after}
 use Rattle.word_steps.specs.Events.{IsEvent, IsNoted, Writes}
 use Rattle.word_steps.specs.Folds.{is_claimed, is_moving, number_read, saw_off}
-use Rattle.word_steps.specs.Records.{Rec, Took, Gave, OutBody, HomeBody, Queued, Dequeued, Moved, SetBusy, ClearedBusy, StoredOwn, Claimed, Released, LoadedState, LoadedRq, LoadedBusy, LoadedCpu, StoredCpu, Bumped, LoadedCond}
-use Rattle.word_steps.specs.Words.{LOCK, STATE, RQ, BUSY, CPU, QUEUE_LOCK, WORKS_LOCK, WAIT_LOCK, COND, is_set, holder}
+use Rattle.word_steps.specs.Records.{Rec, Took, Gave, OutBody, HomeBody, Queued, Dequeued, Moved, SetBusy, ClearedBusy, StoredOwn, Claimed, Released, LoadedState, LoadedRq, LoadedBusy, LoadedCpu, LoadedCount, StoredCpu, Bumped, LoadedCond}
+use Rattle.word_steps.specs.Words.{LOCK, STATE, RQ, BUSY, CPU, COUNT, QUEUE_LOCK, WORKS_LOCK, WAIT_LOCK, COND, is_set, holder}
 use Rattle.word_steps.specs.declared.val.Val.TheVariants as val
 
 pub ways_start : (words : ℕ → ℕ → ℕ) → WaysHold words (λ s. [])
@@ -280,6 +280,8 @@ module _ (shape : Shape) (words : ℕ → ℕ → ℕ) (homes : Homes) (traces :
       as_made traces s w words r (LoadedBusy t (is_set (words t BUSY)) (words t BUSY / 2)) writes noted (ways_still words traces s ways (LoadedBusy t (is_set (words t BUSY)) (words t BUSY / 2)) (λ u way. way) refl)
   ways_by (step.LoadCpu t) r w h noted writes made =
       as_made traces s w words r (LoadedCpu t (words t CPU)) writes noted (ways_still words traces s ways (LoadedCpu t (words t CPU)) (λ u way. way) refl)
+  ways_by (step.LoadCount t) r w h noted writes made =
+      as_made traces s w words r (LoadedCount t (words t COUNT)) writes noted (ways_still words traces s ways (LoadedCount t (words t COUNT)) (λ u way. way) refl)
   ways_by (step.StoreCpu t c) r w h noted writes made =
       as_made traces s w (put_at words t CPU (c)) r (StoredCpu t c) writes noted
       (ways_beside words traces s ways t CPU (c) (StoredCpu t c) (λ e. omega (arith, e)) (λ u way. way) refl)

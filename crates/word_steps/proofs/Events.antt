@@ -18,14 +18,14 @@ use Rattle.handoff_data.specs.declared.state.State.{State}
 use Rattle.word_steps.proofs.Takes.{take_task_shown, take_queue_shown, take_works_shown, take_wait_shown}
 use Rattle.word_steps.proofs.Gives.{give_task_shown, give_queue_shown, give_works_shown, give_wait_shown}
 use Rattle.word_steps.proofs.Stores.{store_cpu_shown, own_state_shown, claim_shown, release_shown, bump_shown}
-use Rattle.word_steps.proofs.Loads.{load_cpu_shown, load_state_shown, load_rq_shown, load_busy_shown, load_cond_shown}
+use Rattle.word_steps.proofs.Loads.{load_cpu_shown, load_count_shown, load_state_shown, load_rq_shown, load_busy_shown, load_cond_shown}
 use Rattle.word_steps.proofs.Runs.{queue_task_shown, dequeue_task_shown, move_task_shown, set_busy_shown, clear_busy_shown, body_out_shown, body_home_shown}
 use Rattle.word_steps.proofs.OwnRead.{own_read}
 use Rattle.word_steps.specs.Decode.{Homes, core_of}
 use Rattle.word_steps.specs.Events.{IsEvent}
 use Rattle.word_steps.specs.Folds.{task_held, queue_held, works_held, wait_held}
-use Rattle.word_steps.specs.Records.{Rec, Took, Gave, OutBody, HomeBody, Queued, Dequeued, Moved, SetBusy, ClearedBusy, StoredOwn, Claimed, Released, LoadedState, LoadedRq, LoadedBusy, LoadedCpu, StoredCpu, Bumped, LoadedCond}
-use Rattle.word_steps.specs.Words.{LOCK, STATE, RQ, BUSY, CPU, QUEUE_LOCK, WORKS_LOCK, WAIT_LOCK, COND, is_set}
+use Rattle.word_steps.specs.Records.{Rec, Took, Gave, OutBody, HomeBody, Queued, Dequeued, Moved, SetBusy, ClearedBusy, StoredOwn, Claimed, Released, LoadedState, LoadedRq, LoadedBusy, LoadedCpu, LoadedCount, StoredCpu, Bumped, LoadedCond}
+use Rattle.word_steps.specs.Words.{LOCK, STATE, RQ, BUSY, CPU, COUNT, QUEUE_LOCK, WORKS_LOCK, WAIT_LOCK, COND, is_set}
 use Rattle.word_steps.specs.declared.val.Val.TheVariants as val
 
 module _ (shape : Shape) (words : ℕ → ℕ → ℕ) (homes : Homes) (traces : ℕ → List Rec) (s : ℕ) where
@@ -103,6 +103,11 @@ module _ (shape : Shape) (words : ℕ → ℕ → ℕ) (homes : Homes) (traces :
       → IsEvent shape words homes traces s (LoadedCpu t (words t CPU)) words homes
   load_cpu_event t may =
       record { kind = step.LoadCpu t; noted = refl; writes = refl; event = record { possible = may; next_is = load_cpu_shown shape words homes traces s t } }
+
+  pub load_count_event : (t : ℕ) → MayLoad (core_of shape words homes traces) s t
+      → IsEvent shape words homes traces s (LoadedCount t (words t COUNT)) words homes
+  load_count_event t may =
+      record { kind = step.LoadCount t; noted = refl; writes = refl; event = record { possible = may; next_is = load_count_shown shape words homes traces s t } }
 
   pub load_state_event : (t : ℕ) (mask : Option State) → Holds (core_of shape words homes traces) → MayLoadState (core_of shape words homes traces) s t mask
       → IsEvent shape words homes traces s (LoadedState t mask (record { 0 = words t STATE })) words homes

@@ -5,7 +5,7 @@ use Rattle.std.proofs.lemmas.Bool.{cases_lt}
 use Rattle.std.proofs.lemmas.List.{length-replicate}
 use Rattle.core_data.specs.Found.{no_reads}
 use Rattle.core_data.specs.Opening.{IsStart, first_task, first_cpu, first_cond, first_seat, no_tasks}
-use Rattle.core_data.specs.Table.{Table, table_of, column, unserved, mark_of, done_of, refs_of, current_of, task_out_of, queue_out_of, list_out_of, works_out_of, wait_out_of, body_out_of, to_clear_of, seen_of, matched_of, unstored_of, saw_off_of, claimed_of, clear_of, stored_of, rest_state_of, rest_off_of, rest_idle_of, slept_of, requeued_of, idle_of, added_of, dropped_of, passed_of, own_stored_of, slept_in_of, owes_of, retaken_of, test_of, asleep_of, reads_of, hand_of, actives_of, counts_of, lowered_of, given_up_of, due_of, ticket_of, zeroed_of, joined_of, refs_zero_of, completing_of, posted_of, works_hand_of, phases_of, unmarked_of, alive_of, turns_of, served_of, journal_of}
+use Rattle.core_data.specs.Table.{Table, table_of, column, unserved, mark_of, done_of, refs_of, current_of, task_out_of, queue_out_of, list_out_of, works_out_of, wait_out_of, body_out_of, to_clear_of, seen_of, level_known_of, matched_of, unstored_of, saw_off_of, claimed_of, clear_of, stored_of, rest_state_of, rest_off_of, rest_idle_of, slept_of, requeued_of, idle_of, added_of, dropped_of, passed_of, own_stored_of, slept_in_of, owes_of, retaken_of, test_of, asleep_of, reads_of, hand_of, actives_of, counts_of, lowered_of, given_up_of, due_of, ticket_of, zeroed_of, joined_of, refs_zero_of, completing_of, posted_of, works_hand_of, phases_of, unmarked_of, alive_of, turns_of, served_of, journal_of}
 use Rattle.core_data.specs.declared.words.CondWords.{CondWords}
 use Rattle.core_data.specs.declared.words.CpuWords.{CpuWords}
 use Rattle.core_data.specs.declared.words.TaskWords.{TaskWords}
@@ -86,6 +86,7 @@ seats_are shape mask s = λ i. record {
   body_out = column_is (λ b. None) body_out_of None (shape.cpus + shape.agents) first_seat s refl refl i;
   to_clear = column_is (λ b. None) to_clear_of None (shape.cpus + shape.agents) first_seat s refl refl i;
   seen = column_is (λ b. None) seen_of None (shape.cpus + shape.agents) first_seat s refl refl i;
+  level_known = column_is (λ b. None) level_known_of None (shape.cpus + shape.agents) first_seat s refl refl i;
   matched = column_is (λ b. λ t. false) matched_of (λ t. false) (shape.cpus + shape.agents) first_seat s refl refl i;
   unstored = column_is (λ b. λ t. false) unstored_of (λ t. false) (shape.cpus + shape.agents) first_seat s refl refl i;
   saw_off = column_is (λ b. λ t. false) saw_off_of (λ t. false) (shape.cpus + shape.agents) first_seat s refl refl i;

@@ -6,15 +6,15 @@ use Rattle.core_data.specs.declared.act.Act.TheVariants.{Matched, SawRest, Passe
 use Rattle.handoff_data.specs.declared.entry.Entry.TheVariants as entry
 use Rattle.core_data.specs.Table.{Table, put_at}
 use Rattle.core_kinds.specs.Steps.{is_match, normal}
-use Rattle.core_kinds.specs.Waking.{load_state, load_rq, load_busy, load_cpu, load_cond, state_read, rq_read, busy_read, seen_if, noted_if, is_matched, is_refused, load_this, is_own_read, is_some_of}
+use Rattle.core_kinds.specs.Waking.{load_state, load_rq, load_busy, load_cpu, load_count, load_cond, state_read, rq_read, busy_read, seen_if, noted_if, is_matched, is_refused, load_this, is_own_read, is_some_of}
 use Rattle.handoff_data.specs.declared.shape.Shape.{Shape}
 use Rattle.handoff_data.specs.declared.state.State.{State}
 use Rattle.word_steps.proofs.Flats.{matched_by, matched_flat, rest_by, rest_flat, passed_by, passed_flat, off_by, off_flat, rest_off_by, rest_off_flat, rest_idle_by, rest_idle_flat, clear_by, clear_flat, logged_by, logged_flat, seen_by, seen_flat, tested_by, test_flat}
 use Rattle.word_steps.proofs.Rows.{seat_row}
 use Rattle.word_steps.proofs.Shown.{known, shown}
 use Rattle.word_steps.specs.Decode.{Homes, core_of, core_after}
-use Rattle.word_steps.specs.Records.{Rec, LoadedState, LoadedRq, LoadedBusy, LoadedCpu, LoadedCond}
-use Rattle.word_steps.specs.Words.{STATE, RQ, BUSY, CPU, COND, is_set}
+use Rattle.word_steps.specs.Records.{Rec, LoadedState, LoadedRq, LoadedBusy, LoadedCpu, LoadedCount, LoadedCond}
+use Rattle.word_steps.specs.Words.{STATE, RQ, BUSY, CPU, COUNT, COND, is_set}
 
 module _ (shape : Shape) (words : ℕ → ℕ → ℕ) (homes : Homes) (traces : ℕ → List Rec) (s : ℕ) where
   abbrev now : Table
@@ -30,6 +30,18 @@ module _ (shape : Shape) (words : ℕ → ℕ → ℕ) (homes : Homes) (traces :
       mine = rw (eq-eqb s s refl)
 
       others : (j : ℕ) → j ≢ s → known shape j (traces j) ≡ seat_row (load_cpu now s t) j
+      others j ne = rw (ne_eqb j s ne)
+
+  pub load_count_shown : (t : ℕ)
+      → core_after shape words homes traces s (LoadedCount t (words t COUNT))
+      ≡ load_count (core_of shape words homes traces) s t
+  load_count_shown t =
+      shown shape words homes traces s (LoadedCount t (words t COUNT)) (load_count now s t) (λ n. refl) mine others
+    where
+      mine : known shape s (LoadedCount t (words t COUNT) ∷ traces s) ≡ seat_row (load_count now s t) s
+      mine = rw (eq-eqb s s refl)
+
+      others : (j : ℕ) → j ≢ s → known shape j (traces j) ≡ seat_row (load_count now s t) j
       others j ne = rw (ne_eqb j s ne)
 
   abbrev load_state_core : (t : ℕ) (mask : Option State) → Table

@@ -68,6 +68,7 @@ pub record SeatRow : Type 0 where
   pub body_out : Option ℕ
   pub to_clear : Option ℕ
   pub seen : Option State
+  pub level_known : Option ℕ
   pub matched : ℕ → Bool
   pub unstored : ℕ → Bool
   pub saw_off : ℕ → Bool
@@ -160,6 +161,7 @@ seat_row core s =
       body_out = core.body_out s;
       to_clear = core.to_clear s;
       seen = core.seen s;
+      level_known = core.level_known s;
       matched = core.matched s;
       unstored = core.unstored s;
       saw_off = core.saw_off s;
@@ -248,6 +250,7 @@ table_path c d words seats = λ i. record {
   body_out = λ s. (seats s i).body_out;
   to_clear = λ s. (seats s i).to_clear;
   seen = λ s. (seats s i).seen;
+  level_known = λ s. (seats s i).level_known;
   matched = λ s. (seats s i).matched;
   unstored = λ s. (seats s i).unstored;
   saw_off = λ s. (seats s i).saw_off;

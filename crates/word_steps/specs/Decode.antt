@@ -6,7 +6,7 @@ use Rattle.core_data.specs.Table.{Table, put, unserved}
 use Rattle.core_data.specs.declared.values.TaskVal.{TaskVal}
 use Rattle.core_data.specs.declared.values.WaitEntry.{WaitEntry}
 use Rattle.core_data.specs.declared.values.WorkItem.{WorkItem}
-use Rattle.word_steps.specs.Folds.{task_held, queue_held, works_held, wait_held, body_held, current_task, task_to_clear, seen_state, is_matched_by, is_unstored, saw_off, saw_rest, saw_rest_off, saw_rest_idle, is_claimed, saw_clear, has_stored, has_slept, is_requeued, last_reads, saw_idle, has_added, has_dropped, has_passed, has_own_stored, has_slept_in, has_retaken, owes_walk, tested, is_asleep, journal}
+use Rattle.word_steps.specs.Folds.{task_held, queue_held, works_held, wait_held, body_held, current_task, task_to_clear, seen_state, level_known, is_matched_by, is_unstored, saw_off, saw_rest, saw_rest_off, saw_rest_idle, is_claimed, saw_clear, has_stored, has_slept, is_requeued, last_reads, saw_idle, has_added, has_dropped, has_passed, has_own_stored, has_slept_in, has_retaken, owes_walk, tested, is_asleep, journal}
 use Rattle.word_steps.specs.Records.{Rec}
 use Rattle.word_steps.specs.Words.{LOCK, STATE, RQ, BUSY, CPU, COUNT, QUEUE_LOCK, WORKS_LOCK, LIST_LOCK, HINT, PINNED, PHASE, ACTIVE, WAIT_LOCK, COND, MARK, DONE, REFS, holder, is_set, phase_of}
 
@@ -65,6 +65,7 @@ core_of shape words homes traces =
       body_out = λ s. body_held (traces s);
       to_clear = λ s. task_to_clear s (traces s);
       seen = λ s. seen_state s (traces s);
+      level_known = λ s. level_known s (traces s);
       matched = λ s. is_matched_by (traces s);
       unstored = λ s. is_unstored (traces s);
       saw_off = λ s. saw_off (traces s);

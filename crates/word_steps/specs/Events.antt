@@ -11,7 +11,7 @@ use Rattle.core_law.specs.declared.step.StepKind.{StepKind}
 use Rattle.core_law.specs.declared.step.StepKind.TheVariants as step
 use Rattle.handoff_data.specs.declared.shape.Shape.{Shape}
 use Rattle.word_steps.specs.Decode.{Homes, core_of, core_after}
-use Rattle.word_steps.specs.Records.{Rec, Took, Gave, OutBody, HomeBody, Queued, Dequeued, Moved, SetBusy, ClearedBusy, StoredOwn, Claimed, Released, LoadedState, LoadedRq, LoadedBusy, LoadedCpu, StoredCpu, Bumped, LoadedCond}
+use Rattle.word_steps.specs.Records.{Rec, Took, Gave, OutBody, HomeBody, Queued, Dequeued, Moved, SetBusy, ClearedBusy, StoredOwn, Claimed, Released, LoadedState, LoadedRq, LoadedBusy, LoadedCpu, LoadedCount, StoredCpu, Bumped, LoadedCond}
 use Rattle.word_steps.specs.Words.{LOCK, STATE, RQ, BUSY, CPU, QUEUE_LOCK, WORKS_LOCK, WAIT_LOCK, COND}
 use Rattle.word_steps.specs.declared.val.Val.TheVariants as val
 
@@ -44,6 +44,7 @@ IsNoted core s (step.LoadState t mask) r = r ≡ LoadedState t mask (core.state 
 IsNoted core s (step.LoadRq t) r = r ≡ LoadedRq t (core.on_rq t) (core.changes t)
 IsNoted core s (step.LoadBusy t) r = r ≡ LoadedBusy t (core.on_cpu t) (core.runs t)
 IsNoted core s (step.LoadCpu t) r = r ≡ LoadedCpu t (core.cpu t)
+IsNoted core s (step.LoadCount t) r = r ≡ LoadedCount t (core.count t)
 IsNoted core s (step.StoreCpu t c) r = r ≡ StoredCpu t c
 IsNoted core s (step.Bump k) r = r ≡ Bumped k (core.cond k)
 IsNoted core s (step.LoadCond k) r = r ≡ LoadedCond k (core.cond k)

@@ -17,8 +17,8 @@ use Rattle.core_gives.specs.Queues.{gives_up}
 use Rattle.core_gives.specs.Waits.{sleeper_of, is_walk}
 use Rattle.core_kinds.specs.Running.{queue_entry, dequeue_entry}
 use Rattle.core_kinds.specs.Steps.{normal, is_sleep, is_match, kept_reads, numbered_reads, waking}
-use Rattle.core_kinds.specs.Waking.{is_some_of, is_matched, is_refused, state_read, rq_read, busy_read, cpu_read}
-use Rattle.word_steps.specs.Records.{Rec, Took, Gave, OutBody, HomeBody, Queued, Dequeued, Moved, SetBusy, ClearedBusy, StoredOwn, Claimed, Released, LoadedState, LoadedRq, LoadedBusy, LoadedCpu, StoredCpu, Bumped, LoadedCond}
+use Rattle.core_kinds.specs.Waking.{is_some_of, is_matched, is_refused, state_read, rq_read, busy_read, cpu_read, level_read}
+use Rattle.word_steps.specs.Records.{Rec, Took, Gave, OutBody, HomeBody, Queued, Dequeued, Moved, SetBusy, ClearedBusy, StoredOwn, Claimed, Released, LoadedState, LoadedRq, LoadedBusy, LoadedCpu, LoadedCount, StoredCpu, Bumped, LoadedCond}
 use Rattle.word_steps.specs.declared.val.Val.TheVariants as val
 
 -- f with v at the number, where there is one
@@ -173,6 +173,16 @@ seen_after s r current own h = h
 abbrev pub seen_state : ℕ → List Rec → Option State
 seen_state s [] = None
 seen_state s (r ∷ rs) = seen_after s r (current_task s rs) (is_some (queue_held rs s)) (seen_state s rs)
+
+-- the level of its current task, as it has read it since the pick
+abbrev pub level_after : Rec → Option ℕ → Option ℕ → Option ℕ
+level_after (SetBusy t c n) current h = None
+level_after (LoadedCount t level) current h = level_read current t level h
+level_after r current h = h
+
+abbrev pub level_known : ℕ → List Rec → Option ℕ
+level_known s [] = None
+level_known s (r ∷ rs) = level_after r (current_task s rs) (level_known s rs)
 
 -- Of each task
 

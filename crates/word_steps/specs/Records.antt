@@ -30,6 +30,7 @@ pub data Rec : Type 0 where
   LoadedRq : (t on m : ℕ) → Rec
   LoadedBusy : (t : ℕ) (busy : Bool) (n : ℕ) → Rec
   LoadedCpu : (t c : ℕ) → Rec
+  LoadedCount : (t level : ℕ) → Rec
   StoredCpu : (t c : ℕ) → Rec
   -- the condition was raised by one from v
   Bumped : (k v : ℕ) → Rec

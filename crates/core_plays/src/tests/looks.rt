@@ -5,6 +5,7 @@
 //! - `read 0 1 state TASK_RUNNING`, `read 0 1 rq 1 4`, `read 0 1 busy` or `read 0 1 idle`, `read 0 1 number 4`,
 //!   `read 0 1 cpu 0`: what it read last of the task; `unread 0 1 state` and so on: it has no such read.
 //! - `seen 0 TASK_RUNNING`: the state of its current task that it read under its own queue's lock; `seen 0 -`: none.
+//! - `level 0 2`: the migrate-disable level of its current task, as it read it since it picked it; `level 0 -`: none.
 //! - `rests 0 1 state`, `rests 0 1 rq`, `rests 0 1 busy`: whether it has read, since it last stored a word of the task,
 //!   another state than TASK_WAKING; then `on_rq` as 0; then the busy word as clear. `rests_not` is the opposite.
 
@@ -108,6 +109,8 @@ pub fn is_so(core: &Core, line: &[Word<'_>]) -> bool {
         },
         ("unread", [Number(t), Name(name)]) => is_unread(reads_of(pos, *t), name),
         ("seen", [Name(name)]) => is_state(pos.seen, name),
+        ("level", [Number(level)]) => pos.level_known == Some(*level),
+        ("level", [Name("-")]) => pos.level_known.is_none(),
         ("rests", [Number(t), Name(name)]) => rests(pos, *t, name) == Some(true),
         ("rests_not", [Number(t), Name(name)]) => rests(pos, *t, name) == Some(false),
         _ => false,

@@ -117,3 +117,19 @@ fn a_seat_sees_its_own_state_under_the_lock_of_its_queue(rt: HostRuntime) -> Res
     )?;
     Ok(())
 }
+
+// A seat knows the level of its own current task once it has read it, and of no other. What it knew of the task before
+// counts no more once it has picked the next.
+#[test]
+fn a_seat_knows_the_level_of_its_current_task(rt: HostRuntime) -> Result<(), Fail> {
+    plays(
+        &rt,
+        "
+        start_0 ; 0 load_count 0 ; level 0 - ; pick_0 ; level 0 - ; 0 load_count 1 ; level 0 - ;
+        1 load_count 0 ; level 1 - ; level 0 - ; 0 load_count 0 ; level 0 0 ; 0 load_count 1 ; level 0 0 ;
+        prepare_0 ; leave_0 ; clear_0 ; level 0 0 ; claim_0 ; enqueue_0 ; pick_0_again ; level 0 - ;
+        0 load_count 0 ; level 0 0 ; yield_0 ; clear_0 ; pick_0_again ; level 0 - ;
+        ",
+    )?;
+    Ok(())
+}

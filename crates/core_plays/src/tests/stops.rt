@@ -24,6 +24,8 @@ fn nothing_of_another_shape(rt: HostRuntime) -> Result<(), Fail> {
         not 0 load_busy 2 -- a busy word too many ;
         not 3 load_cpu 0 -- a seat too many loads a processor word ;
         not 0 load_cpu 2 -- a processor word too many ;
+        not 3 load_count 0 -- a seat too many loads a level ;
+        not 0 load_count 2 -- a level too many ;
         not 3 bump 0 -- a seat too many bumps ;
         not 0 bump 2 -- a condition too many is bumped ;
         not 3 load_cond 0 -- a seat too many loads a condition ;

@@ -191,6 +191,7 @@ fn step_at(verb: &str, n: u32) -> Option<StepKind> {
         "load_rq" => Some(StepKind::LoadRq { t: n }),
         "load_busy" => Some(StepKind::LoadBusy { t: n }),
         "load_cpu" => Some(StepKind::LoadCpu { t: n }),
+        "load_count" => Some(StepKind::LoadCount { t: n }),
         "bump" => Some(StepKind::Bump { k: n }),
         "load_cond" => Some(StepKind::LoadCond { k: n }),
         _ => None,
