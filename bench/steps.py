@@ -15,7 +15,7 @@ import sys
 TOP = os.path.dirname(os.path.dirname(os.path.abspath(__file__)))
 PROGRAM = os.path.join(TOP, "crates", "bench_steps", "out", "bench_steps")
 STEPS = ["load_state", "load_rq", "load_busy", "load_cpu", "load_count", "load_cond", "match_state", "set_state",
-         "set_running", "store_running", "store_cpu", "bump_cond", "lock_task", "lock_queue", "lock_works", "lock_wait", "body", "turn"]
+         "set_running", "make_runnable", "store_cpu", "bump_cond", "lock_task", "lock_queue", "lock_works", "lock_wait", "body", "turn"]
 # Made once with each task of many tables, whose making isn't measured.
 STARTS = ["start", "round"]
 SEATS = [1, 2, 4, 8, 16]

@@ -7,7 +7,7 @@ ghost use Rattle.task_words.specs.Views.{IsOf, IsSame, IsOneSeat};
 use handoff_data::State;
 use std::sync::Wait;
 use task_words::{Pass, Wk, match_state, set_running, set_state};
-use uses::{pick, put_back, run, start};
+use uses_words::{pick, put_back, run, start};
 
 /// A step, or some, of a seat that runs the first task; whether it still does.
 pub trait OwnStep {

@@ -10,8 +10,8 @@ use core_data::Rq;
 use handoff_data::CpuNo;
 use std::sync::Wait;
 use task_words::{
-    Pass, TaskGuard, Wk, load_cpu, load_rq, lock_queue, lock_task, queue_task, store_cpu,
-    store_running,
+    Pass, TaskGuard, Wk, load_cpu, load_rq, lock_queue, lock_task, make_runnable, queue_task,
+    store_cpu,
 };
 
 /// A store to a word of a new task, on its processor.
@@ -41,7 +41,7 @@ pub struct Run;
 
 impl Placing for Run {
     fn once(wk: &Wk<()>, pass: &mut Pass, task: &TaskGuard<()>, _c: CpuNo) {
-        store_running(wk, pass, task.task());
+        make_runnable(wk, pass, task.task());
     }
 }
 

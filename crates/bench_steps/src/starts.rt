@@ -6,7 +6,7 @@ ghost use Rattle.task_words.specs.Views.{IsOf, IsOneSeat};
 use handoff_data::TaskNo;
 use std::sync::Wait;
 use task_words::{Pass, Wk};
-use uses::{pick, put_back, start};
+use uses_words::{pick, put_back, start};
 
 /// How many tasks the table has.
 pub const TASKS: u32 = 200;

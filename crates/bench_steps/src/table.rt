@@ -11,7 +11,7 @@ use task_words::{Pass, Wk};
 
 /// A table of so many processors and tasks, and of one condition, with the passes of its seats. Answers `NoMemory`
 /// where memory runs out.
-#[tactic(auto, using(uses::proofs::Begin::firsts_between))]
+#[tactic(auto, using(uses_words::proofs::Begin::firsts_between))]
 pub fn small_table(alloc: Global, cpus: u32, tasks: u32) -> Result<(Wk<()>, Vec<Pass>), NoMemory>
     requires cpus { (0 < cpus) × (cpus ≤ 16) }
     requires tasks { (0 < tasks) × (tasks ≤ 200) }

@@ -10,7 +10,7 @@ use handoff_data::State;
 use std::sync::Wait;
 use task_words::{Pass, Wk, set_state};
 use ttwu_core::{How, Wake};
-use uses::{pick, switch_out};
+use uses_words::{pick, switch_out};
 
 /// All tasks sleep, and are woken one after another.
 pub struct Queued;

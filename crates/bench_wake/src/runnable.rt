@@ -13,7 +13,7 @@ use std::sync::Wait;
 use std::time::Instant;
 use task_words::{Pass, Wk, set_state};
 use ttwu_core::{How, Wake};
-use uses::pick;
+use uses_words::pick;
 
 /// A task that another seat runs is woken so many times, each time after it has stored TASK_INTERRUPTIBLE as its own
 /// state. The time of as many of these stores alone is taken off.

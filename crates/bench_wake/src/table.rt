@@ -11,7 +11,7 @@ use task_words::{Pass, Wk};
 
 /// A table of so many processors, tasks and conditions, with the passes of its seats. Answers `NoMemory` where memory
 /// runs out.
-#[tactic(auto, using(uses::proofs::Begin::firsts_between))]
+#[tactic(auto, using(uses_words::proofs::Begin::firsts_between))]
 pub fn new_table(
     alloc: Global,
     cpus: u32,

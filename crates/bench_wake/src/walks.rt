@@ -9,7 +9,7 @@ use crate::rounds::{CONDS, Round};
 use handoff_data::CondNo;
 use std::sync::Wait;
 use task_words::{Pass, Wk, load_cond};
-use uses::{pick, sleep};
+use uses_words::{pick, sleep};
 
 /// No task sleeps at any condition.
 pub struct Empty;

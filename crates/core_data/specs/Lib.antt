@@ -7,4 +7,4 @@ pub mod Opening
 pub mod Position
 pub mod Queue
 pub mod Rows
-pub mod Table
+pub mod Columns

@@ -6,7 +6,7 @@ use Rattle.handoff_data.specs.declared.shape.Shape.{Shape}
 use Rattle.core_data.specs.Holding.{Holding}
 use Rattle.core_data.specs.Position.{Position}
 use Rattle.core_data.specs.Queue.{Queue}
-use Rattle.core_data.specs.Table.{Table, table_of, unserved}
+use Rattle.core_data.specs.Columns.{Columns, columns_of, unserved}
 use Rattle.core_data.specs.declared.seat.SeatCore.{SeatCore}
 use Rattle.core_data.specs.declared.words.TaskWords.{TaskWords}
 use Rattle.core_data.specs.declared.words.CpuWords.{CpuWords}
@@ -91,7 +91,7 @@ abbrev pub first_seat : SeatCore
 first_seat = record { mark = false; done = false; refs = 0; current = None; held = no_holding; pos = no_position; journal = [] }
 
 -- the opening core of a shape
-pub record IsStart (shape : Shape) (core : Table) : Type 0 where
+pub record IsStart (shape : Shape) (core : Columns) : Type 0 where
   pub mask : CpuMask
   pub all : (c : ℕ) → HasCpu mask c ↔ (c < shape.cpus)
-  pub rows : core ≡ table_of shape (replicate shape.tasks (first_task mask)) (replicate shape.cpus first_cpu) (replicate shape.conds first_cond) (replicate (shape.cpus + shape.agents) first_seat)
+  pub rows : core ≡ columns_of shape (replicate shape.tasks (first_task mask)) (replicate shape.cpus first_cpu) (replicate shape.conds first_cond) (replicate (shape.cpus + shape.agents) first_seat)

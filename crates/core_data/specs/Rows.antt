@@ -1,13 +1,13 @@
 -- The rows of the table, and the table with one row written.
 use Rattle.std.specs.Prelude.{ℕ}
-use Rattle.core_data.specs.Table.{Table, put, mark_of, done_of, refs_of, current_of, task_out_of, queue_out_of, list_out_of, works_out_of, wait_out_of, body_out_of, to_clear_of, seen_of, level_known_of, matched_of, unstored_of, saw_off_of, claimed_of, clear_of, stored_of, rest_state_of, rest_off_of, rest_idle_of, slept_of, requeued_of, idle_of, added_of, dropped_of, passed_of, own_stored_of, slept_in_of, owes_of, retaken_of, test_of, asleep_of, reads_of, hand_of, actives_of, counts_of, lowered_of, given_up_of, due_of, ticket_of, zeroed_of, joined_of, refs_zero_of, completing_of, posted_of, works_hand_of, phases_of, unmarked_of, alive_of, turns_of, served_of, journal_of}
+use Rattle.core_data.specs.Columns.{Columns, put, mark_of, done_of, refs_of, current_task_of, task_held_of, queue_held_of, list_held_of, works_held_of, wait_held_of, body_held_of, task_to_clear_of, seen_state_of, level_known_of, has_matched_of, is_unstored_of, saw_off_of, is_claimed_of, saw_clear_of, has_stored_of, saw_rest_of, saw_rest_off_of, saw_rest_idle_of, has_slept_of, is_requeued_of, saw_idle_of, has_added_of, has_dropped_of, has_passed_of, has_own_stored_of, has_slept_in_of, owes_walk_of, has_retaken_of, tested_of, is_asleep_of, last_reads_of, hand_of, actives_of, counts_of, lowered_of, given_up_of, due_of, ticket_of, zeroed_of, joined_of, refs_zero_of, completing_of, posted_of, works_hand_of, phases_of, unmarked_of, alive_of, turns_of, served_of, journal_of}
 use Rattle.core_data.specs.declared.seat.SeatCore.{SeatCore}
 use Rattle.core_data.specs.declared.words.TaskWords.{TaskWords}
 use Rattle.core_data.specs.declared.words.CpuWords.{CpuWords}
 use Rattle.core_data.specs.declared.words.CondWords.{CondWords}
 
 -- the words of a task
-abbrev pub task_words_of : Table → ℕ → TaskWords
+abbrev pub task_words_of : Columns → ℕ → TaskWords
 task_words_of core t =
     record {
       state = core.state t;
@@ -23,7 +23,7 @@ task_words_of core t =
       ended = core.ended t;
     }
 
-abbrev pub with_task : Table → ℕ → TaskWords → Table
+abbrev pub with_task : Columns → ℕ → TaskWords → Columns
 with_task core k w =
     record core {
       state = put core.state k w.state;
@@ -39,7 +39,7 @@ with_task core k w =
       ended = put core.ended k w.ended;
     }
 
-abbrev pub with_cpu : Table → ℕ → CpuWords → Table
+abbrev pub with_cpu : Columns → ℕ → CpuWords → Columns
 with_cpu core k w =
     record core {
       hint = put core.hint k w.hint;
@@ -55,7 +55,7 @@ with_cpu core k w =
       works = put core.works k w.works;
     }
 
-abbrev pub with_cond : Table → ℕ → CondWords → Table
+abbrev pub with_cond : Columns → ℕ → CondWords → Columns
 with_cond core k w =
     record core {
       cond = put core.cond k w.cond;
@@ -63,44 +63,44 @@ with_cond core k w =
       wait = put core.wait k w.wait;
     }
 
-abbrev pub with_seat : Table → ℕ → SeatCore → Table
+abbrev pub with_seat : Columns → ℕ → SeatCore → Columns
 with_seat core k w =
     record core {
       mark = put core.mark k (mark_of w);
       done = put core.done k (done_of w);
       refs = put core.refs k (refs_of w);
-      current = put core.current k (current_of w);
-      task_out = put core.task_out k (task_out_of w);
-      queue_out = put core.queue_out k (queue_out_of w);
-      list_out = put core.list_out k (list_out_of w);
-      works_out = put core.works_out k (works_out_of w);
-      wait_out = put core.wait_out k (wait_out_of w);
-      body_out = put core.body_out k (body_out_of w);
-      to_clear = put core.to_clear k (to_clear_of w);
-      seen = put core.seen k (seen_of w);
+      current_task = put core.current_task k (current_task_of w);
+      task_held = put core.task_held k (task_held_of w);
+      queue_held = put core.queue_held k (queue_held_of w);
+      list_held = put core.list_held k (list_held_of w);
+      works_held = put core.works_held k (works_held_of w);
+      wait_held = put core.wait_held k (wait_held_of w);
+      body_held = put core.body_held k (body_held_of w);
+      task_to_clear = put core.task_to_clear k (task_to_clear_of w);
+      seen_state = put core.seen_state k (seen_state_of w);
       level_known = put core.level_known k (level_known_of w);
-      matched = put core.matched k (matched_of w);
-      unstored = put core.unstored k (unstored_of w);
+      has_matched = put core.has_matched k (has_matched_of w);
+      is_unstored = put core.is_unstored k (is_unstored_of w);
       saw_off = put core.saw_off k (saw_off_of w);
-      claimed = put core.claimed k (claimed_of w);
-      clear = put core.clear k (clear_of w);
-      stored = put core.stored k (stored_of w);
-      rest_state = put core.rest_state k (rest_state_of w);
-      rest_off = put core.rest_off k (rest_off_of w);
-      rest_idle = put core.rest_idle k (rest_idle_of w);
-      slept = put core.slept k (slept_of w);
-      requeued = put core.requeued k (requeued_of w);
-      idle = put core.idle k (idle_of w);
-      added = put core.added k (added_of w);
-      dropped = put core.dropped k (dropped_of w);
-      passed = put core.passed k (passed_of w);
-      own_stored = put core.own_stored k (own_stored_of w);
-      slept_in = put core.slept_in k (slept_in_of w);
-      owes = put core.owes k (owes_of w);
-      retaken = put core.retaken k (retaken_of w);
-      test = put core.test k (test_of w);
-      asleep = put core.asleep k (asleep_of w);
-      reads = put core.reads k (reads_of w);
+      is_claimed = put core.is_claimed k (is_claimed_of w);
+      saw_clear = put core.saw_clear k (saw_clear_of w);
+      has_stored = put core.has_stored k (has_stored_of w);
+      saw_rest = put core.saw_rest k (saw_rest_of w);
+      saw_rest_off = put core.saw_rest_off k (saw_rest_off_of w);
+      saw_rest_idle = put core.saw_rest_idle k (saw_rest_idle_of w);
+      has_slept = put core.has_slept k (has_slept_of w);
+      is_requeued = put core.is_requeued k (is_requeued_of w);
+      saw_idle = put core.saw_idle k (saw_idle_of w);
+      has_added = put core.has_added k (has_added_of w);
+      has_dropped = put core.has_dropped k (has_dropped_of w);
+      has_passed = put core.has_passed k (has_passed_of w);
+      has_own_stored = put core.has_own_stored k (has_own_stored_of w);
+      has_slept_in = put core.has_slept_in k (has_slept_in_of w);
+      owes_walk = put core.owes_walk k (owes_walk_of w);
+      has_retaken = put core.has_retaken k (has_retaken_of w);
+      tested = put core.tested k (tested_of w);
+      is_asleep = put core.is_asleep k (is_asleep_of w);
+      last_reads = put core.last_reads k (last_reads_of w);
       hand = put core.hand k (hand_of w);
       actives = put core.actives k (actives_of w);
       counts = put core.counts k (counts_of w);

@@ -2,7 +2,7 @@
 //! seat has out and what it knows by its own steps. The values of locks have their functions here, since the shared
 //! table runs them; those that only make `step_core` run stand in `step_data`.
 //!
-//! Contracts see a core as a table of columns (`specs/Table.antt`): for each word its value at each number.
+//! Contracts see a core as a table of columns (`specs/Columns.antt`): for each word its value at each number.
 #![tactic(auto)]
 
 mod act;

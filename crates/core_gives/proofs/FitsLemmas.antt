@@ -7,7 +7,7 @@ use Rattle.std.proofs.lemmas.Bool.Decides.{nat_tests}
 use Rattle.std.proofs.lemmas.List.Sums.{sum_by-cons}
 use Rattle.core_data.proofs.QueueLemmas.{times_in-cons}
 use Rattle.core_data.specs.Queue.{Queue, IsOnce, times_in, runnable_count}
-use Rattle.core_data.specs.Table.{table, column}
+use Rattle.core_data.specs.Columns.{columns, column}
 use Rattle.core_data.specs.declared.machine.Core.{Core}
 use Rattle.core_data.specs.declared.words.TaskWords.{TaskWords}
 use Rattle.core_gives.specs.Fits.{IsHere, AreHere, IsCurHere}
@@ -107,8 +107,8 @@ count-rows c (w ∷ ws) =
     omega (arith, e, r)
 
 -- the number of rows that are queued on c is that of the tasks
-pub count-here : (core : Core) (c : ℕ) → count_by (is_row_at c) core.tasks.items ≡ sum_below (λ k. one_if (is_at (table core).on_rq (table core).cpu c k)) (table core).tasks
-unfolding table
+pub count-here : (core : Core) (c : ℕ) → count_by (is_row_at c) core.tasks.items ≡ sum_below (λ k. one_if (is_at (columns core).on_rq (columns core).cpu c k)) (columns core).tasks
+unfolding columns
 count-here core c = count-rows c core.tasks.items
 
 pub column-past : {A B : Type 0} (f : A → B) (d : B) (xs : List A) (k : ℕ) → length xs ≤ k → column f d xs k ≡ d
@@ -117,16 +117,16 @@ column-past f d (x ∷ xs) zero h = absurd (omega arith)
 column-past f d (x ∷ xs) (suc k) h = column-past f d xs k (omega arith)
 
 -- past the last task no word is set
-on-past : (core : Core) (k : ℕ) → (table core).tasks ≤ k → (table core).on_rq k ≡ 0
-unfolding table
+on-past : (core : Core) (k : ℕ) → (columns core).tasks ≤ k → (columns core).on_rq k ≡ 0
+unfolding columns
 on-past core k h = column-past (λ (w : TaskWords). w.on_rq) 0 core.tasks.items k h
 
-is_at-past : (core : Core) (c k : ℕ) → (table core).tasks ≤ k → is_at (table core).on_rq (table core).cpu c k ≡ false
+is_at-past : (core : Core) (c k : ℕ) → (columns core).tasks ≤ k → is_at (columns core).on_rq (columns core).cpu c k ≡ false
 is_at-past core c k h = let z = on-past core k h in grind (arith, nat_tests, z)
 
-is_at-below : (core : Core) (c k : ℕ) → is_at (table core).on_rq (table core).cpu c k ≡ true → k < (table core).tasks
+is_at-below : (core : Core) (c k : ℕ) → is_at (columns core).on_rq (columns core).cpu c k ≡ true → k < (columns core).tasks
 is_at-below core c k h =
-    elim (cases_lt k (table core).tasks) [
+    elim (cases_lt k (columns core).tasks) [
       | inl a ↦ a
       | inr b ↦ let z = is_at-past core c k b in absurd (grind (arith, z, h))
     ]
@@ -163,12 +163,12 @@ bool_cases true = inl refl
 bool_cases false = inr refl
 
 -- a task of such a queue stands there at most as often as its words say
-times-le : (core : Core) (c : ℕ) (queue : Queue) → IsOnce queue.waiting → AreHere (table core) c queue → IsCurHere (table core) c queue → (k : ℕ) → times queue k ≤ one_if (is_at (table core).on_rq (table core).cpu c k)
+times-le : (core : Core) (c : ℕ) (queue : Queue) → IsOnce queue.waiting → AreHere (columns core) c queue → IsCurHere (columns core) c queue → (k : ℕ) → times queue k ≤ one_if (is_at (columns core).on_rq (columns core).cpu c k)
 times-le core c queue once here cur k =
     elim (bool_cases (is_some_of queue.cur k)) [
       | inl runs ↦
           let h = cur k (is_some_of-same queue.cur k runs) in
-          let at : is_at (table core).on_rq (table core).cpu c k ≡ true = h.0.1 in
+          let at : is_at (columns core).on_rq (columns core).cpu c k ≡ true = h.0.1 in
           let none : times_in queue.waiting k ≡ 0 = h.1 in
           grind (arith, runs, at, none)
       | inr rests ↦
@@ -176,17 +176,17 @@ times-le core c queue once here cur k =
             | inl none ↦ grind (arith, rests, none)
             | inr some ↦
                 let p = place-of queue.waiting k (omega (arith, some)) in
-                let at : is_at (table core).on_rq (table core).cpu c k ≡ true = (here p.0 k p.1).1 in
+                let at : is_at (columns core).on_rq (columns core).cpu c k ≡ true = (here p.0 k p.1).1 in
                 let o = once.at_most k in
                 grind (arith, rests, at, o)
           ]
     ]
 
-pub fits : (core : Core) (c : ℕ) (queue : Queue) → IsOnce queue.waiting → AreHere (table core) c queue → IsCurHere (table core) c queue
-    → count_by (is_row_at c) core.tasks.items ≡ runnable_count queue → IsQueueOf (table core).on_rq (table core).cpu c queue
+pub fits : (core : Core) (c : ℕ) (queue : Queue) → IsOnce queue.waiting → AreHere (columns core) c queue → IsCurHere (columns core) c queue
+    → count_by (is_row_at c) core.tasks.items ≡ runnable_count queue → IsQueueOf (columns core).on_rq (columns core).cpu c queue
 fits core c queue once here cur count k =
-    let n = (table core).tasks in
-    let words : ℕ → ℕ = λ (j : ℕ). one_if (is_at (table core).on_rq (table core).cpu c j) in
+    let n = (columns core).tasks in
+    let words : ℕ → ℕ = λ (j : ℕ). one_if (is_at (columns core).on_rq (columns core).cpu c j) in
     let le = times-le core c queue once here cur in
     let all = sum-queue n queue (λ i t e. (here i t e).0) (λ t e. (cur t e).0.0) in
     let counted = count-here core c in
@@ -195,7 +195,7 @@ fits core c queue once here cur count k =
       | inr b ↦
           let none = is_at-past core c k b in
           let some = le k in
-          let zero_words : one_if (is_at (table core).on_rq (table core).cpu c k) ≡ 0 = ap one_if none in
+          let zero_words : one_if (is_at (columns core).on_rq (columns core).cpu c k) ≡ 0 = ap one_if none in
           omega (arith, zero_words, some)
     ]
 
@@ -203,24 +203,24 @@ at-of : (b : Bool) (n : ℕ) → 0 < n → n ≡ one_if b → b ≡ true
 at-of true n h e = refl
 at-of false n h e = absurd (omega (arith, h, e))
 
-pub fits-here : (core : Core) (c : ℕ) (queue : Queue) → IsQueueOf (table core).on_rq (table core).cpu c queue → AreHere (table core) c queue
+pub fits-here : (core : Core) (c : ℕ) (queue : Queue) → IsQueueOf (columns core).on_rq (columns core).cpu c queue → AreHere (columns core) c queue
 fits-here core c queue fit i t e =
     let some = times-at queue.waiting i t e in
-    let at : is_at (table core).on_rq (table core).cpu c t ≡ true = at-of _ (times queue t) (omega (arith, some)) (fit t) in
+    let at : is_at (columns core).on_rq (columns core).cpu c t ≡ true = at-of _ (times queue t) (omega (arith, some)) (fit t) in
     (is_at-below core c t at, at)
 
-pub fits-cur : (core : Core) (c : ℕ) (queue : Queue) → IsQueueOf (table core).on_rq (table core).cpu c queue → IsCurHere (table core) c queue
+pub fits-cur : (core : Core) (c : ℕ) (queue : Queue) → IsQueueOf (columns core).on_rq (columns core).cpu c queue → IsCurHere (columns core) c queue
 fits-cur core c queue fit t e =
     let runs = is_some_of-at queue.cur t e in
     let one : times queue t ≡ times_in queue.waiting t + 1 = ap (λ (b : Bool). times_in queue.waiting t + one_if b) runs in
-    let at : is_at (table core).on_rq (table core).cpu c t ≡ true = at-of _ (times queue t) (omega (arith, one)) (fit t) in
+    let at : is_at (columns core).on_rq (columns core).cpu c t ≡ true = at-of _ (times queue t) (omega (arith, one)) (fit t) in
     let exact : times queue t ≡ 1 = fit t ∙ ap one_if at in
     ((is_at-below core c t at, at), omega (arith, one, exact))
 
-pub fits-count : (core : Core) (c : ℕ) (queue : Queue) → IsQueueOf (table core).on_rq (table core).cpu c queue → count_by (is_row_at c) core.tasks.items ≡ runnable_count queue
+pub fits-count : (core : Core) (c : ℕ) (queue : Queue) → IsQueueOf (columns core).on_rq (columns core).cpu c queue → count_by (is_row_at c) core.tasks.items ≡ runnable_count queue
 fits-count core c queue fit =
-    let n = (table core).tasks in
-    let words : ℕ → ℕ = λ (j : ℕ). one_if (is_at (table core).on_rq (table core).cpu c j) in
+    let n = (columns core).tasks in
+    let words : ℕ → ℕ = λ (j : ℕ). one_if (is_at (columns core).on_rq (columns core).cpu c j) in
     let here = fits-here core c queue fit in
     let cur = fits-cur core c queue fit in
     let all = sum-queue n queue (λ i t e. (here i t e).0) (λ t e. (cur t e).0.0) in

@@ -3,7 +3,7 @@ use Rattle.std.specs.Prelude.{◌≡◌, ℕ, ◌<◌, ◌==◌, ◌&&◌, ◌�
 use mathlib.Core.Bool.{not}
 use Rattle.core_data.specs.Entries.{any_from, has_entry}
 use Rattle.core_data.specs.Noted.{noted, given_asleep}
-use Rattle.core_data.specs.Table.{Table, put, put_at}
+use Rattle.core_data.specs.Columns.{Columns, put, put_at}
 use Rattle.core_data.specs.declared.act.Act.TheVariants.{Walked}
 use Rattle.core_data.specs.declared.values.WaitEntry.{WaitEntry}
 
@@ -17,21 +17,21 @@ HasEachOnce [] = Unit {0}
 HasEachOnce (x ∷ xs) = (has_task xs x.t ≡ false) × HasEachOnce xs
 
 -- an entry was put in only for the current task, which has stored its state under this lock
-abbrev pub IsPutIn : Table → ℕ → ℕ → WaitEntry → Type 0
-IsPutIn core s k x = (core.current s ≡ Some x.t) × (core.own_stored s k x.t ≡ true)
+abbrev pub IsPutIn : Columns → ℕ → ℕ → WaitEntry → Type 0
+IsPutIn core s k x = (core.current_task s ≡ Some x.t) × (core.has_own_stored s k x.t ≡ true)
 
 -- an entry was taken out only for the current task, or for one that the seat has passed under this lock
-abbrev pub IsTakenOut : Table → ℕ → ℕ → WaitEntry → Type 0
-IsTakenOut core s k x = (core.current s ≡ Some x.t) ⊎ (core.passed s k x.t ≡ true)
+abbrev pub IsTakenOut : Columns → ℕ → ℕ → WaitEntry → Type 0
+IsTakenOut core s k x = (core.current_task s ≡ Some x.t) ⊎ (core.has_passed s k x.t ≡ true)
 
-pub record MayGiveWait (core : Table) (s k : ℕ) (given : List WaitEntry) : Type 0 where
+pub record MayGiveWait (core : Columns) (s k : ℕ) (given : List WaitEntry) : Type 0 where
   pub seat : s < core.seats
   pub condition : k < core.conds
   pub locked : core.wait_lock k ≡ Some s
-  pub out : IsSome (core.wait_out s k)
+  pub out : IsSome (core.wait_held s k)
   pub once : HasEachOnce given
-  pub put_in : (taken : List WaitEntry) (x : WaitEntry) → core.wait_out s k ≡ Some taken → has_entry given x ≡ true → has_entry taken x ≡ false → IsPutIn core s k x
-  pub taken_out : (taken : List WaitEntry) (x : WaitEntry) → core.wait_out s k ≡ Some taken → has_entry taken x ≡ true → has_entry given x ≡ false → IsTakenOut core s k x
+  pub put_in : (taken : List WaitEntry) (x : WaitEntry) → core.wait_held s k ≡ Some taken → has_entry given x ≡ true → has_entry taken x ≡ false → IsPutIn core s k x
+  pub taken_out : (taken : List WaitEntry) (x : WaitEntry) → core.wait_held s k ≡ Some taken → has_entry taken x ≡ true → has_entry given x ≡ false → IsTakenOut core s k x
   pub tasks : (x : WaitEntry) → has_entry given x ≡ true → x.t < core.tasks
 
 -- the current task, where it has an entry and has stored a sleep state under this lock
@@ -44,23 +44,23 @@ abbrev pub is_walk : (ℕ → Bool) → List WaitEntry → Bool
 is_walk passed [] = true
 is_walk passed (x ∷ xs) = passed x.t && is_walk passed xs
 
-abbrev pub walked_if : Bool → Table → ℕ → ℕ → Table
+abbrev pub walked_if : Bool → Columns → ℕ → ℕ → Columns
 walked_if true core s k = noted core s (Walked k)
 walked_if false core s k = core
 
 -- the give, where this was taken
-abbrev pub give_taken : Table → ℕ → ℕ → List WaitEntry → List WaitEntry → Table
+abbrev pub give_taken : Columns → ℕ → ℕ → List WaitEntry → List WaitEntry → Columns
 give_taken core s k given taken =
-    walked_if (core.owes s k && (core.retaken s k && is_walk (core.passed s k) taken)) (record core {
+    walked_if (core.owes_walk s k && (core.has_retaken s k && is_walk (core.has_passed s k) taken)) (record core {
       wait_lock = put core.wait_lock k None;
       wait = put core.wait k (Some given);
-      wait_out = put_at core.wait_out s k None;
-      asleep = put core.asleep s (given_asleep k taken given (sleeper_of (core.current s) (core.slept_in s k) given) (core.asleep s));
+      wait_held = put_at core.wait_held s k None;
+      is_asleep = put core.is_asleep s (given_asleep k taken given (sleeper_of (core.current_task s) (core.has_slept_in s k) given) (core.is_asleep s));
     }) s k
 
-abbrev pub give_by : Table → ℕ → ℕ → List WaitEntry → Option (List WaitEntry) → Table
+abbrev pub give_by : Columns → ℕ → ℕ → List WaitEntry → Option (List WaitEntry) → Columns
 give_by core s k given None = core
 give_by core s k given (Some taken) = give_taken core s k given taken
 
-abbrev pub give_wait : Table → ℕ → ℕ → List WaitEntry → Table
-give_wait core s k given = give_by core s k given (core.wait_out s k)
+abbrev pub give_wait : Columns → ℕ → ℕ → List WaitEntry → Columns
+give_wait core s k given = give_by core s k given (core.wait_held s k)

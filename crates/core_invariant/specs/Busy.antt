@@ -1,7 +1,7 @@
 -- One runner a task, busy words, and bodies.
 use Rattle.std.specs.Prelude.{◌≡◌, ◌≢◌, ℕ, ◌⊎◌, ◌<◌, Bool, true, false, Option, Some, None}
 use Rattle.core_data.specs.Queue.{Queue}
-use Rattle.core_data.specs.Table.{Table}
+use Rattle.core_data.specs.Columns.{Columns}
 use Rattle.core_kinds.specs.Steps.{dead}
 
 -- A task is busy exactly where the seat of its processor has it as current, or still has its busy word to clear.
@@ -27,9 +27,9 @@ pub record BodiesKept (tasks : ℕ) (body : ℕ → Bool) (body_out current : �
   pub out_away : (s t : ℕ) → body_out s ≡ Some t → body t ≡ false
   pub away_out : (t : ℕ) → t < tasks → body t ≡ false → (s : ℕ) × (body_out s ≡ Some t)
 
-pub record BusyHolds (core : Table) : Type 0 where
-  pub runner : OneRunner core.on_cpu core.cpu core.current core.to_clear
-  pub named : NamedByQueue core.current core.to_clear core.queue core.queue_out
-  pub bodies : BodiesKept core.tasks core.body core.body_out core.current
+pub record BusyHolds (core : Columns) : Type 0 where
+  pub runner : OneRunner core.on_cpu core.cpu core.current_task core.task_to_clear
+  pub named : NamedByQueue core.current_task core.task_to_clear core.queue core.queue_held
+  pub bodies : BodiesKept core.tasks core.body core.body_held core.current_task
   -- a task dies only once its body has ended
   pub ended : (t : ℕ) → core.state t ≡ dead → core.ended t ≡ true

@@ -1,5 +1,5 @@
 -- What holds of the core between any two steps.
-use Rattle.core_data.specs.Table.{Table}
+use Rattle.core_data.specs.Columns.{Columns}
 use Rattle.core_invariant.specs.Busy.{BusyHolds}
 use Rattle.core_invariant.specs.Journals.{JournalsHold}
 use Rattle.core_invariant.specs.Locks.{LocksHold}
@@ -9,7 +9,7 @@ use Rattle.core_invariant.specs.Queues.{QueuesHold}
 use Rattle.core_invariant.specs.Shapes.{ShapesHold}
 use Rattle.core_invariant.specs.Sleepers.{SleepersHold}
 
-pub record Holds (core : Table) : Type 0 where
+pub record Holds (core : Columns) : Type 0 where
   pub shapes : ShapesHold core
   pub locks : LocksHold core
   pub queues : QueuesHold core

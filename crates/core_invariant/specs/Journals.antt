@@ -1,6 +1,6 @@
 -- The journals keep the rules, and the words of tasks are those of their last entries.
 use Rattle.std.specs.Prelude.{◌≡◌, ◌≢◌, ℕ, ◌%◌, ◌^◌, ◌<◌, ◌≤◌, ◌⊎◌, Bool, true, false, Option, Some}
-use Rattle.core_data.specs.Table.{Table}
+use Rattle.core_data.specs.Columns.{Columns}
 use Rattle.core_invariant.specs.Histories.{history}
 use Rattle.core_kinds.specs.Steps.{waking, dead}
 use Rattle.handoff_data.specs.History.{History}
@@ -74,7 +74,7 @@ pub record LastRuns (j : History) (on_cpu : ℕ → Bool) (runs cpu : ℕ → �
   pub idle_even : (t : ℕ) → on_cpu t ≡ false → runs t % 2 ≡ 0
   pub idle : (t : ℕ) → on_cpu t ≡ false → runs t ≢ 0 → (c : ℕ) × IsSomewhere j (entry.Finish t (runs t) c)
 
-pub record JournalsHold (core : Table) : Type 0 where
+pub record JournalsHold (core : Columns) : Type 0 where
   pub plain : PlainEntries (history core.cpus core.tasks core.seats core.journal)
   pub rules : RulesKept (history core.cpus core.tasks core.seats core.journal)
   pub numbered : Numbered (history core.cpus core.tasks core.seats core.journal) core.changes core.runs

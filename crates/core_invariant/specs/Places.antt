@@ -1,6 +1,6 @@
 -- What a task's place says of its words.
 use Rattle.std.specs.Prelude.{◌≡◌, ◌≢◌, ℕ, ◌<◌, ◌≤◌, ◌⊎◌, ◌↔◌, Bool, true, false, Option, Some, None}
-use Rattle.core_data.specs.Table.{Table}
+use Rattle.core_data.specs.Columns.{Columns}
 use Rattle.core_data.specs.declared.values.TaskVal.{TaskVal}
 use Rattle.core_kinds.specs.Steps.{waking, dead, fresh, is_sleep, IsRunnable}
 use Rattle.handoff_data.specs.Mask.{HasCpu}
@@ -52,12 +52,12 @@ pub record MovingTasks (state : ℕ → State) (on_rq : ℕ → ℕ) (on_cpu : �
   pub idle : (t : ℕ) → on_rq t ≡ 2 → on_cpu t ≡ false
   pub locked : (t : ℕ) → on_rq t ≡ 2 → (s : ℕ) × (lock t ≡ Some s)
 
-pub record PlacesHold (core : Table) : Type 0 where
+pub record PlacesHold (core : Columns) : Type 0 where
   pub on_rq : (t : ℕ) → core.on_rq t ≤ 2
   pub new : NewTasks core.on_rq core.changes core.on_cpu core.count
-  pub new_states : NewStates core.tasks core.state core.changes core.lock core.stored
-  pub new_values : NewValues core.cpus core.changes core.val core.task_out
-  pub off : OffTasks core.state core.on_rq core.changes core.lock core.claimed
-  pub current : CurrentTasks core.state core.on_rq core.current
-  pub waiting : WaitingTasks core.state core.on_rq core.cpu core.current core.queue_lock core.added
+  pub new_states : NewStates core.tasks core.state core.changes core.lock core.has_stored
+  pub new_values : NewValues core.cpus core.changes core.val core.task_held
+  pub off : OffTasks core.state core.on_rq core.changes core.lock core.is_claimed
+  pub current : CurrentTasks core.state core.on_rq core.current_task
+  pub waiting : WaitingTasks core.state core.on_rq core.cpu core.current_task core.queue_lock core.has_added
   pub moving : MovingTasks core.state core.on_rq core.on_cpu core.lock

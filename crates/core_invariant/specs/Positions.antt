@@ -1,6 +1,6 @@
 -- What a seat may rely on, by what it has read and stored since it took the locks that it holds.
 use Rattle.std.specs.Prelude.{◌≡◌, ◌≢◌, ℕ, ◌≤◌, ◌⊎◌, Bool, true, false, Option, Some}
-use Rattle.core_data.specs.Table.{Table}
+use Rattle.core_data.specs.Columns.{Columns}
 use Rattle.core_data.specs.declared.pos.Rq.{Rq}
 use Rattle.core_data.specs.declared.pos.TaskReads.{TaskReads}
 use Rattle.core_invariant.specs.Histories.{history}
@@ -48,8 +48,8 @@ pub record IdleTasks (on_rq cpu : ℕ → ℕ) (on_cpu : ℕ → Bool) (queue_lo
 
 -- a state of t was matched under its lock, whatever was stored since: while t is queued, and isn't the current task of the
 -- seat that has the lock, it isn't dead
-abbrev pub ReleasedTasks : (ℕ → State) → (ℕ → ℕ) → (ℕ → Option ℕ) → (ℕ → Option ℕ) → (ℕ → ℕ → Bool) → Type 0
-ReleasedTasks state on_rq lock current matched =
+abbrev pub MadeRunnableTasks : (ℕ → State) → (ℕ → ℕ) → (ℕ → Option ℕ) → (ℕ → Option ℕ) → (ℕ → ℕ → Bool) → Type 0
+MadeRunnableTasks state on_rq lock current matched =
     (s t : ℕ) → lock t ≡ Some s → matched s t ≡ true → on_rq t ≡ 1 → current s ≢ Some t → state t ≢ dead
 
 -- What was read of `on_rq` under the lock of t, after its state and with no word of t stored since, is what an entry tells:
@@ -67,16 +67,16 @@ pub record ReadsTold (j : History) (cpu on_rq changes : ℕ → ℕ) (lock : ℕ
   pub number : (s t : ℕ) (rq : Rq) → (reads s t).rq ≡ Some rq → (reads s t).number ≡ Some rq.m
   pub past : (s t m : ℕ) → (reads s t).number ≡ Some m → m ≤ changes t
 
-pub record PositionsHold (core : Table) : Type 0 where
-  pub matched : MatchedTasks core.state core.on_rq core.changes core.lock core.unstored core.saw_off
-  pub released : ReleasedTasks core.state core.on_rq core.lock core.current core.matched
-  pub claimed : ClaimedTasks core.state core.on_rq core.on_cpu core.lock core.claimed core.clear
-  pub resting : RestingTasks core.state core.on_rq core.on_cpu core.lock core.rest_state core.rest_off core.rest_idle
-  pub seen : SeenStates core.cpus core.state core.on_rq core.queue_lock core.current core.seen
-  pub idle : IdleTasks core.on_rq core.cpu core.on_cpu core.queue_lock core.current core.idle core.added
+pub record PositionsHold (core : Columns) : Type 0 where
+  pub matched : MatchedTasks core.state core.on_rq core.changes core.lock core.is_unstored core.saw_off
+  pub made_runnable : MadeRunnableTasks core.state core.on_rq core.lock core.current_task core.has_matched
+  pub claimed : ClaimedTasks core.state core.on_rq core.on_cpu core.lock core.is_claimed core.saw_clear
+  pub resting : RestingTasks core.state core.on_rq core.on_cpu core.lock core.saw_rest core.saw_rest_off core.saw_rest_idle
+  pub seen : SeenStates core.cpus core.state core.on_rq core.queue_lock core.current_task core.seen_state
+  pub idle : IdleTasks core.on_rq core.cpu core.on_cpu core.queue_lock core.current_task core.saw_idle core.has_added
   -- the processor word last read or stored under the lock of t is that of t
-  pub cpu : (s t c : ℕ) → core.lock t ≡ Some s → (core.reads s t).cpu ≡ Some c → core.cpu t ≡ c
-  pub reads : ReadsTold (history core.cpus core.tasks core.seats core.journal) core.cpu core.on_rq core.changes core.lock core.reads
+  pub cpu : (s t c : ℕ) → core.lock t ≡ Some s → (core.last_reads s t).cpu ≡ Some c → core.cpu t ≡ c
+  pub reads : ReadsTold (history core.cpus core.tasks core.seats core.journal) core.cpu core.on_rq core.changes core.lock core.last_reads
   -- while t is on its way to a queue, the holder of its lock has stored a word of it
-  pub waking_stored : (s t : ℕ) → core.lock t ≡ Some s → core.on_rq t ≡ 0 → core.state t ≡ waking → core.stored s t ≡ true
-  pub moving_stored : (s t : ℕ) → core.lock t ≡ Some s → core.on_rq t ≡ 2 → core.stored s t ≡ true
+  pub waking_stored : (s t : ℕ) → core.lock t ≡ Some s → core.on_rq t ≡ 0 → core.state t ≡ waking → core.has_stored s t ≡ true
+  pub moving_stored : (s t : ℕ) → core.lock t ≡ Some s → core.on_rq t ≡ 2 → core.has_stored s t ≡ true

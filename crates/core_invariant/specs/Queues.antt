@@ -1,7 +1,7 @@
 -- A task that is queued on a processor stands once in the queue of that processor, or is its next; no other stands there.
 use Rattle.std.specs.Prelude.{◌≡◌, ◌≤◌, ℕ, true, false, Option, Some, Bool, if◌then◌else◌}
 use Rattle.core_data.specs.Queue.{Queue}
-use Rattle.core_data.specs.Table.{Table}
+use Rattle.core_data.specs.Columns.{Columns}
 use Rattle.core_gives.specs.Queues.{IsQueueOf, times, is_at}
 use Rattle.core_invariant.specs.Histories.{history}
 use Rattle.handoff_data.specs.History.{History}
@@ -47,8 +47,8 @@ abbrev pub AddedTasks : (ℕ → ℕ) → (ℕ → ℕ) → (ℕ → Option ℕ)
 AddedTasks on_rq cpu queue_lock requeued added j =
     (s c t : ℕ) → queue_lock c ≡ Some s → added s c t ≡ true → requeued s t ≡ true → WasPut j s t c → is_at on_rq cpu c t ≡ true
 
-pub record QueuesHold (core : Table) : Type 0 where
+pub record QueuesHold (core : Columns) : Type 0 where
   pub at_home : HomeQueues core.on_rq core.cpu core.queue
-  pub left : LeftQueues core.on_rq core.cpu core.queue_out core.added core.dropped
-  pub dropped : DroppedTasks core.on_rq core.cpu core.queue_lock core.requeued core.dropped
-  pub added : AddedTasks core.on_rq core.cpu core.queue_lock core.requeued core.added (history core.cpus core.tasks core.seats core.journal)
+  pub left : LeftQueues core.on_rq core.cpu core.queue_held core.has_added core.has_dropped
+  pub dropped : DroppedTasks core.on_rq core.cpu core.queue_lock core.is_requeued core.has_dropped
+  pub added : AddedTasks core.on_rq core.cpu core.queue_lock core.is_requeued core.has_added (history core.cpus core.tasks core.seats core.journal)

@@ -2,7 +2,7 @@
 use Rattle.std.specs.Prelude.{◌≡◌, ◌≢◌, ℕ, ◌<◌, ◌+◌, true, List, Option, Some}
 use Rattle.core_data.specs.Entries.{has_entry}
 use Rattle.core_data.specs.Queue.{Queue, times_in}
-use Rattle.core_data.specs.Table.{Table}
+use Rattle.core_data.specs.Columns.{Columns}
 use Rattle.core_data.specs.declared.values.TaskVal.{TaskVal}
 use Rattle.core_data.specs.declared.values.WaitEntry.{WaitEntry}
 use Rattle.handoff_data.specs.Mask.{HasCpu}
@@ -40,16 +40,16 @@ pub record HoldsOfValues (A : Type 0) (P : A → Type 0) (home : ℕ → Option 
   pub at_home : (k : ℕ) (val : A) → home k ≡ Some val → P val
   pub taken : (s k : ℕ) (val : A) → out s k ≡ Some val → P val
 
-pub record ShapesHold (core : Table) : Type 0 where
+pub record ShapesHold (core : Columns) : Type 0 where
   pub sized : IsSized core.shape core.tasks core.cpus core.conds core.seats
   pub queued : (t : ℕ) → core.on_rq t ≢ 0 → t < core.tasks
   pub busy : (t : ℕ) → core.on_cpu t ≡ true → t < core.tasks
   pub cpu : (t : ℕ) → t < core.tasks → core.cpu t < core.cpus
-  pub current_seat : (s t : ℕ) → core.current s ≡ Some t → s < core.cpus
-  pub current : (s t : ℕ) → core.current s ≡ Some t → t < core.tasks
-  pub to_clear : (s t : ℕ) → core.to_clear s ≡ Some t → t < core.tasks
-  pub task_values : HoldsOfValues _ (IsTaskVal core.cpus core.seats) core.val core.task_out
-  pub queue_values : HoldsOfValues _ (IsQueueVal core.tasks) core.queue core.queue_out
-  pub wait_values : HoldsOfValues _ (IsWaitVal core.tasks) core.wait core.wait_out
+  pub current_seat : (s t : ℕ) → core.current_task s ≡ Some t → s < core.cpus
+  pub current : (s t : ℕ) → core.current_task s ≡ Some t → t < core.tasks
+  pub to_clear : (s t : ℕ) → core.task_to_clear s ≡ Some t → t < core.tasks
+  pub task_values : HoldsOfValues _ (IsTaskVal core.cpus core.seats) core.val core.task_held
+  pub queue_values : HoldsOfValues _ (IsQueueVal core.tasks) core.queue core.queue_held
+  pub wait_values : HoldsOfValues _ (IsWaitVal core.tasks) core.wait core.wait_held
   -- who owes a walk is a seat, and what it owes is a condition
-  pub owes : (s k : ℕ) → core.owes s k ≡ true → (s < core.seats) × (k < core.conds)
+  pub owes : (s k : ℕ) → core.owes_walk s k ≡ true → (s < core.seats) × (k < core.conds)

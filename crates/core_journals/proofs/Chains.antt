@@ -1,7 +1,7 @@
 -- The changes of a task are numbered 1, 2, 3 and so on to the number of its word, each once; and none follows a death.
 use Rattle.std.proofs.Common.{◌≡◌, ◌≢◌, ℕ, zero, suc, ◌+◌, ◌-◌, ◌<◌, ◌≤◌, inl, inr, Option, Some, None, refl, sym, subst, ap, ◌∙◌, arith}
 use Rattle.std.proofs.lemmas.Bool.{cases_eq, cases_order}
-use Rattle.core_data.specs.Table.{Table}
+use Rattle.core_data.specs.Columns.{Columns}
 use Rattle.core_invariant.specs.Invariant.{Holds}
 use Rattle.core_invariant.specs.Journals.{EachKeeps}
 use Rattle.core_journals.proofs.NewEntries.{same-first, same-second}
@@ -131,7 +131,7 @@ dead-is : (x : State) → x.0 ≡ 0x80 → x ≡ dead
 dead-is x h = ap (λ n. record { 0 = n }) h
 
 -- the last change of a task that isn't dead
-last-alive : (core : Table) (t : ℕ) → Holds core → core.changes t ≢ 0 → core.state t ≢ dead → HasChange LeavesAlive (past core) t (core.changes t)
+last-alive : (core : Columns) (t : ℕ) → Holds core → core.changes t ≢ 0 → core.state t ≢ dead → HasChange LeavesAlive (past core) t (core.changes t)
 last-alive core t holds some alive =
     let p = holds.journals.last_changes in
     elim (cases_eq (core.on_rq t) 1) [
@@ -146,7 +146,7 @@ last-alive core t holds some alive =
     ]
 
 -- and that of any
-last-any : (core : Table) (t : ℕ) → Holds core → core.changes t ≢ 0 → HasChange IsAny (past core) t (core.changes t)
+last-any : (core : Columns) (t : ℕ) → Holds core → core.changes t ≢ 0 → HasChange IsAny (past core) t (core.changes t)
 last-any core t holds some = elim (cases_eq (core.state t).0 0x80) [
   | inr alive ↦ any-change LeavesAlive (past core) t (core.changes t) (last-alive core t holds some (λ d. alive (ap (λ (x : State). x.0) d)))
   | inl d ↦ elim (cases_eq (core.on_rq t) 0) [
@@ -166,7 +166,7 @@ last-any core t holds some = elim (cases_eq (core.state t).0 0x80) [
 ]
 
 -- Each number up to that of the word is that of a change.
-each-down : (core : Table) (t : ℕ) → Holds core → (d m : ℕ) → m ≢ 0 → m + d ≡ core.changes t → HasChange IsAny (past core) t m
+each-down : (core : Columns) (t : ℕ) → Holds core → (d m : ℕ) → m ≢ 0 → m + d ≡ core.changes t → HasChange IsAny (past core) t m
 each-down core t holds zero m some is =
     let same : core.changes t ≡ m = omega (arith, is) in
     subst (λ z. HasChange IsAny (past core) t z) same (last-any core t holds (λ z. some (omega (arith, z, same))))
@@ -174,7 +174,7 @@ each-down core t holds (suc d) m some is =
     let next = each-down core t holds d (m + 1) (λ z. omega (arith, z)) (omega (arith, is)) in
     any-change LeavesAlive (past core) t m (chain-before (past core) next.seat next.index next.entry t m (holds.journals.rules.chained next.seat next.index next.entry next.stands) next.is some)
 
-pub each-change : (core : Table) (t m : ℕ) → Holds core → m ≢ 0 → m ≤ core.changes t → HasChange IsAny (past core) t m
+pub each-change : (core : Columns) (t m : ℕ) → Holds core → m ≢ 0 → m ≤ core.changes t → HasChange IsAny (past core) t m
 each-change core t m holds some below = each-down core t holds (core.changes t - m) m some (omega (arith, below))
 
 -- a change with the number of a death is that death
@@ -182,7 +182,7 @@ dies-there : (j : History) (s i t m c : ℕ) → EachKeeps NotRepeated j → Sta
 dies-there j s i t m c p h old = subst LeavesAlive (once-change j old.seat old.index s i old.entry (entry.Die t m c) t m p old.stands h old.is refl) old.holds
 
 -- so no change follows a death
-die-last : (core : Table) (s i t m c : ℕ) → Holds core → Stands (past core) s i (entry.Die t m c) → m ≢ 0 → core.changes t ≡ m
+die-last : (core : Columns) (s i t m c : ℕ) → Holds core → Stands (past core) s i (entry.Die t m c) → m ≢ 0 → core.changes t ≡ m
 die-last core s i t m c holds h some =
     let p = holds.journals in
     let below = p.numbered.change s i (entry.Die t m c) t m h refl in
@@ -194,7 +194,7 @@ die-last core s i t m c holds h some =
     ]
 
 -- A task with a death in some journal is dead.
-pub dead-of_die : (core : Table) (s i t m c : ℕ) → Holds core → Stands (past core) s i (entry.Die t m c) → core.state t ≡ dead
+pub dead-of_die : (core : Columns) (s i t m c : ℕ) → Holds core → Stands (past core) s i (entry.Die t m c) → core.state t ≡ dead
 dead-of_die core s i t m c holds h =
     let above : 1 < m = (holds.journals.rules.chained s i (entry.Die t m c) h).0 in
     let last = die-last core s i t m c holds h (λ z. omega (arith, z, above)) in

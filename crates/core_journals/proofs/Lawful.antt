@@ -1,7 +1,7 @@
 -- The journals of a core keep all eleven rules.
 use Rattle.std.proofs.Common.{ℕ}
 use Rattle.std.specs.Prelude.{true, false}
-use Rattle.core_data.specs.Table.{Table}
+use Rattle.core_data.specs.Columns.{Columns}
 use Rattle.core_invariant.specs.Histories.{history}
 use Rattle.core_invariant.specs.Journals.{JournalsHold, IsPlain, PlainEntries}
 use Rattle.handoff_data.specs.History.{History}
@@ -92,7 +92,7 @@ done-plain j s i (entry.Offline c x) h = absurd h
 done-plain j s i (entry.Up c x) h = absurd h
 done-plain j s i (entry.Refused t state) h = tt
 
-pub HasNoBad-journals : (core : Table) → JournalsHold core → HasNoBad (history core.cpus core.tasks core.seats core.journal)
+pub HasNoBad-journals : (core : Columns) → JournalsHold core → HasNoBad (history core.cpus core.tasks core.seats core.journal)
 HasNoBad-journals core p s i e h rule =
     let j = history core.cpus core.tasks core.seats core.journal in
     let plain = p.plain s i e h in

@@ -2,7 +2,7 @@
 use Rattle.std.proofs.Common.{◌≡◌, ◌≢◌, ℕ, ◌<◌, inl, inr, Some, None, refl, subst, ap, arith}
 use Rattle.std.specs.Prelude.{false}
 use Rattle.std.proofs.lemmas.Bool.{cases_Bool}
-use Rattle.core_data.specs.Table.{Table}
+use Rattle.core_data.specs.Columns.{Columns}
 use Rattle.core_invariant.proofs.Logs.{history-tasks}
 use Rattle.core_invariant.specs.Invariant.{Holds}
 use Rattle.core_journals.proofs.Lawful.{HasNoBad-journals}
@@ -18,16 +18,16 @@ dead-runnable : (x : State) → x ≡ dead → IsRunnable x → ⊥
 dead-runnable x h r = let q = ap (λ (y : State). y.0) h in grind (arith, q, r)
 
 -- a dead task that isn't busy is off its queue
-dead-off : (core : Table) (t : ℕ) → Holds core → core.state t ≡ dead → core.on_cpu t ≡ false → core.on_rq t ≡ 0
+dead-off : (core : Columns) (t : ℕ) → Holds core → core.state t ≡ dead → core.on_cpu t ≡ false → core.on_rq t ≡ 0
 dead-off core t holds d idle =
-    let none : ((s : ℕ) → core.current s ≢ Some t) = λ s q. let r = holds.busy.runner.current_busy s t q in grind (arith, idle, r) in
+    let none : ((s : ℕ) → core.current_task s ≢ Some t) = λ s q. let r = holds.busy.runner.current_busy s t q in grind (arith, idle, r) in
     let few = holds.places.on_rq t in
     let unqueued : core.on_rq t ≢ 1 = λ one. elim (holds.places.waiting t one none) [ inl a ↦ dead-runnable (core.state t) d a | inr b ↦ waking-dead (core.state t) b.0 d ] in
     let unmoved : core.on_rq t ≢ 2 = λ two. dead-runnable (core.state t) d (holds.places.moving.runnable t two) in
     omega (arith, few, unqueued, unmoved)
 
 -- such a task has ended
-pub HasEnded-dead : (core : Table) (t : ℕ) → Holds core → core.state t ≡ dead → core.on_cpu t ≡ false → HasEnded (past core) t
+pub HasEnded-dead : (core : Columns) (t : ℕ) → Holds core → core.state t ≡ dead → core.on_cpu t ≡ false → HasEnded (past core) t
 HasEnded-dead core t holds d idle =
     let p = holds.journals in
     let some : core.changes t ≢ 0 = λ z. dead-runnable (core.state t) d (holds.places.new_states.runnable t z) in
@@ -43,7 +43,7 @@ HasEnded-dead core t holds d idle =
     }
 
 -- no seat has a task, so none is busy
-closed-idle : (core : Table) (t : ℕ) → Holds core → ((s : ℕ) → core.current s ≡ None) → ((s : ℕ) → core.to_clear s ≡ None) → core.on_cpu t ≡ false
+closed-idle : (core : Columns) (t : ℕ) → Holds core → ((s : ℕ) → core.current_task s ≡ None) → ((s : ℕ) → core.task_to_clear s ≡ None) → core.on_cpu t ≡ false
 closed-idle core t holds none clear = elim (cases_Bool (core.on_cpu t)) [
   | inr idle ↦ idle
   | inl busy ↦ elim (holds.busy.runner.busy_is t busy) [
@@ -52,7 +52,7 @@ closed-idle core t holds none clear = elim (cases_Bool (core.on_cpu t)) [
   ]
 ]
 
-pub IsLegal-closed : (core : Table) → Holds core → ((s : ℕ) → core.current s ≡ None) → ((s : ℕ) → core.to_clear s ≡ None) → ((t : ℕ) → t < core.tasks → core.state t ≡ dead) → IsLegal (past core)
+pub IsLegal-closed : (core : Columns) → Holds core → ((s : ℕ) → core.current_task s ≡ None) → ((s : ℕ) → core.task_to_clear s ≡ None) → ((t : ℕ) → t < core.tasks → core.state t ≡ dead) → IsLegal (past core)
 IsLegal-closed core holds none clear all =
     record {
       no_bad = HasNoBad-journals core holds.journals;

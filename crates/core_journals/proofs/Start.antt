@@ -2,7 +2,7 @@
 use Rattle.std.proofs.Common.{◌≡◌, ℕ, zero, suc, [], None, refl, sym, subst, ap, ◌∙◌, arith}
 use Rattle.std.specs.Prelude.{◌+◌, false, replicate, slice_get}
 use Rattle.core_data.specs.Opening.{IsStart, first_task, first_cpu, first_cond, first_seat}
-use Rattle.core_data.specs.Table.{Table, column, table_of, journal_of}
+use Rattle.core_data.specs.Columns.{Columns, column, columns_of, journal_of}
 use Rattle.core_data.specs.declared.words.TaskWords.{TaskWords}
 use Rattle.core_invariant.proofs.Logs.{of_stands}
 use Rattle.core_invariant.specs.Journals.{JournalsHold}
@@ -14,7 +14,7 @@ use Rattle.handoff_data.specs.declared.mask.CpuMask.{CpuMask}
 use Rattle.handoff_data.specs.declared.shape.Shape.{Shape}
 
 -- a core in which nothing has happened
-record Unmoved (core : Table) : Type 0 where
+record Unmoved (core : Columns) : Type 0 where
   journal : (s : ℕ) → core.journal s ≡ []
   on_rq : (t : ℕ) → core.on_rq t ≡ 0
   changes : (t : ℕ) → core.changes t ≡ 0
@@ -22,13 +22,13 @@ record Unmoved (core : Table) : Type 0 where
   runs : (t : ℕ) → core.runs t ≡ 0
   lock : (t : ℕ) → core.lock t ≡ None
 
-nothing : (core : Table) → Unmoved core → (s i : ℕ) (e : Entry) → Stands (past core) s i e → ⊥
+nothing : (core : Columns) → Unmoved core → (s i : ℕ) (e : Entry) → Stands (past core) s i e → ⊥
 nothing core u s i e h =
     let r = (of_stands core.cpus core.tasks core.seats core.journal s i e h).1 in
     let q = ap (λ xs. slice_get xs i) (sym (u.journal s)) ∙ r in
     grind (arith, q)
 
-unmoved-holds : (core : Table) → Unmoved core → JournalsHold core
+unmoved-holds : (core : Columns) → Unmoved core → JournalsHold core
 unmoved-holds core u =
     record {
       plain = λ s i e h. absurd (nothing core u s i e h);
@@ -74,7 +74,7 @@ blank f d x zero h k = refl
 blank f d x (suc n) h zero = h
 blank f d x (suc n) h (suc k) = blank f d x n h k
 
-rows-unmoved : (shape : Shape) (mask : CpuMask) → Unmoved (table_of shape (replicate shape.tasks (first_task mask)) (replicate shape.cpus first_cpu) (replicate shape.conds first_cond) (replicate (shape.cpus + shape.agents) first_seat))
+rows-unmoved : (shape : Shape) (mask : CpuMask) → Unmoved (columns_of shape (replicate shape.tasks (first_task mask)) (replicate shape.cpus first_cpu) (replicate shape.conds first_cond) (replicate (shape.cpus + shape.agents) first_seat))
 rows-unmoved shape mask =
     record {
       journal = blank journal_of [] first_seat (shape.cpus + shape.agents) refl;
@@ -85,5 +85,5 @@ rows-unmoved shape mask =
       lock = blank (λ (w : TaskWords). w.lock) None (first_task mask) shape.tasks refl;
     }
 
-pub JournalsHold-start : (shape : Shape) (core : Table) → IsShape shape → IsStart shape core → JournalsHold core
+pub JournalsHold-start : (shape : Shape) (core : Columns) → IsShape shape → IsStart shape core → JournalsHold core
 JournalsHold-start shape core is start = unmoved-holds core (subst Unmoved (sym start.rows) (rows-unmoved shape start.mask))

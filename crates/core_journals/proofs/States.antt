@@ -3,7 +3,7 @@ use Rattle.std.proofs.Common.{◌≡◌, ◌≢◌, ℕ, inl, inr, None, ap, ari
 use Rattle.std.specs.Prelude.{true}
 use Rattle.std.proofs.lemmas.Bool.{cases_eq}
 use Rattle.std.proofs.lemmas.Bool.Decides.{nat_tests}
-use Rattle.core_data.specs.Table.{Table}
+use Rattle.core_data.specs.Columns.{Columns}
 use Rattle.core_invariant.specs.Invariant.{Holds}
 use Rattle.core_kinds.specs.Steps.{waking, dead, is_sleep, IsRunnable}
 use Rattle.handoff_data.specs.declared.state.State.{State}
@@ -21,7 +21,7 @@ pub sleep-dead : (x : State) → is_sleep x ≡ true → x ≡ dead → ⊥
 sleep-dead x r h = let q = ap (λ (y : State). y.0) h in grind (arith, nat_tests, q, r)
 
 -- a task that no seat has locked isn't on its way to a queue
-pub unlocked-still : (core : Table) (t : ℕ) → Holds core → core.lock t ≡ None → core.on_rq t ≡ 0 → core.state t ≢ waking
+pub unlocked-still : (core : Columns) (t : ℕ) → Holds core → core.lock t ≡ None → core.on_rq t ≡ 0 → core.state t ≢ waking
 unlocked-still core t holds free off w = elim (cases_eq (core.changes t) 0) [
   | inl z ↦ waking-runnable (core.state t) w (holds.places.new_states.runnable t z)
   | inr m ↦ elim (holds.places.off t m off) [
@@ -31,5 +31,5 @@ unlocked-still core t holds free off w = elim (cases_eq (core.changes t) 0) [
 ]
 
 -- nor is one at 2, which its mover has locked
-pub unlocked-settled : (core : Table) (t : ℕ) → Holds core → core.lock t ≡ None → core.on_rq t ≢ 2
+pub unlocked-settled : (core : Columns) (t : ℕ) → Holds core → core.lock t ≡ None → core.on_rq t ≢ 2
 unlocked-settled core t holds free h = let r = (holds.places.moving.locked t h).1 in grind (arith, free, r)

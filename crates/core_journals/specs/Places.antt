@@ -1,6 +1,6 @@
 -- Where a task is, by the words of the core, and how a step may change it.
 use Rattle.std.specs.Prelude.{◌≡◌, ◌≢◌, ℕ, ◌==◌, ◌⊎◌, ◌++◌, ◌∷◌, [], Bool, true, false, Option, Some, None, if◌then◌else◌}
-use Rattle.core_data.specs.Table.{Table}
+use Rattle.core_data.specs.Columns.{Columns}
 use Rattle.core_kinds.specs.Steps.{dead, waking}
 use Rattle.handoff_data.specs.Moves.{task_of, Moves}
 use Rattle.handoff_data.specs.declared.entry.Entry.{Entry}
@@ -33,7 +33,7 @@ busy_at false cpu = None
 abbrev pub place : ℕ → ℕ → State → ℕ → Option ℕ → Bool → Place
 place changes on_rq state cpu lock on_cpu = record { q = q_of changes on_rq state cpu lock; b = busy_at on_cpu cpu }
 
-abbrev pub place_of : Table → ℕ → Place
+abbrev pub place_of : Columns → ℕ → Place
 place_of core t = place (core.changes t) (core.on_rq t) (core.state t) (core.cpu t) (core.lock t) (core.on_cpu t)
 
 -- an entry that moves no task
@@ -47,13 +47,13 @@ MovesNone (entry.Refused t state) = Unit {0}
 MovesNone _ = ⊥
 
 -- each task is where it was, and the journals tell of no move
-pub record AllStay (s : ℕ) (core next : Table) : Type 0 where
+pub record AllStay (s : ℕ) (core next : Columns) : Type 0 where
   pub places : (t : ℕ) → place_of next t ≡ place_of core t
   pub own_journal : (next.journal s ≡ core.journal s) ⊎ ((e : Entry) × MovesNone e × (next.journal s ≡ core.journal s ++ e ∷ []))
   pub other_journals : (k : ℕ) → k ≢ s → next.journal k ≡ core.journal k
 
 -- one move of one task, with its entry in the journal of the seat
-pub record IsMoved (s : ℕ) (core next : Table) : Type 0 where
+pub record IsMoved (s : ℕ) (core next : Columns) : Type 0 where
   pub task : ℕ
   pub entry : Entry
   pub of_task : task_of entry ≡ Some task
@@ -63,5 +63,5 @@ pub record IsMoved (s : ℕ) (core next : Table) : Type 0 where
   pub other_journals : (k : ℕ) → k ≢ s → next.journal k ≡ core.journal k
 
 -- a step of seat s is one move of one task, or none
-abbrev pub OneMoveOrNone : ℕ → Table → Table → Type 0
+abbrev pub OneMoveOrNone : ℕ → Columns → Columns → Type 0
 OneMoveOrNone s core next = AllStay s core next ⊎ IsMoved s core next

@@ -2,7 +2,7 @@
 use Rattle.std.specs.Prelude.{◌≡◌, ℕ, ◌<◌, ◌^◌, ◌==◌, ◌||◌, ◌⊎◌, Bool, true, false, Some, None, bit_and}
 use mathlib.Core.Bool.{not}
 use Rattle.core_data.specs.Noted.{noted}
-use Rattle.core_data.specs.Table.{Table, put_at}
+use Rattle.core_data.specs.Columns.{Columns, put_at}
 use Rattle.core_data.specs.declared.act.Act.TheVariants.{Renewed, StoredWord, Passed}
 use Rattle.core_data.specs.declared.pos.TaskReads.{TaskReads}
 use Rattle.handoff_data.specs.declared.state.State.{State}
@@ -45,15 +45,15 @@ abbrev pub kept_reads : ℕ → TaskReads → TaskReads
 kept_reads t reads = record { t = t; state = None; rq = None; busy = None; number = reads.number; cpu = reads.cpu }
 
 -- a seat has stored a word of task t
-abbrev pub stored_word : Table → ℕ → ℕ → Table
+abbrev pub stored_word : Columns → ℕ → ℕ → Columns
 stored_word core s t =
-    noted (noted (record core { reads = put_at core.reads s t (kept_reads t (core.reads s t)) }) s (Renewed t)) s (StoredWord t)
+    noted (noted (record core { last_reads = put_at core.last_reads s t (kept_reads t (core.last_reads s t)) }) s (Renewed t)) s (StoredWord t)
 
 -- it has changed the number of t's changes to m
 abbrev pub numbered_reads : ℕ → ℕ → TaskReads → TaskReads
 numbered_reads t m reads = record { t = t; state = None; rq = None; busy = None; number = Some m; cpu = reads.cpu }
 
 -- a seat passes t where it reads a state that TASK_NORMAL doesn't match
-abbrev pub passed_if : Bool → Table → ℕ → ℕ → Table
+abbrev pub passed_if : Bool → Columns → ℕ → ℕ → Columns
 passed_if true core s t = noted core s (Passed t)
 passed_if false core s t = core

@@ -5,33 +5,33 @@ use Rattle.core_journals.proofs.Locks.{JournalsHold-body_home, JournalsHold-body
 use Rattle.core_journals.proofs.Locks.{JournalsHold-take_queue, JournalsHold-take_task, JournalsHold-take_wait, JournalsHold-take_works}
 use Rattle.core_journals.proofs.Running.{JournalsHold-clear_busy, JournalsHold-dequeue_task, JournalsHold-move_task, JournalsHold-queue_task, JournalsHold-set_busy}
 use Rattle.core_journals.proofs.Start.{JournalsHold-start}
-use Rattle.core_journals.proofs.Waking.{JournalsHold-claim, JournalsHold-own_state, JournalsHold-release, JournalsHold-store_cpu}
+use Rattle.core_journals.proofs.Waking.{JournalsHold-claim, JournalsHold-set_state, JournalsHold-make_runnable, JournalsHold-store_cpu}
 use Rattle.core_locks.proofs.BusyKept.{BusyHolds-body_home, BusyHolds-body_out, BusyHolds-bump, BusyHolds-claim, BusyHolds-clear_busy, BusyHolds-dequeue_task, BusyHolds-give_queue, BusyHolds-give_task}
 use Rattle.core_locks.proofs.BusyKept.{BusyHolds-give_wait, BusyHolds-give_works, BusyHolds-load_busy, BusyHolds-load_cond, BusyHolds-load_count, BusyHolds-load_cpu, BusyHolds-load_rq, BusyHolds-load_state}
-use Rattle.core_locks.proofs.BusyKept.{BusyHolds-move_task, BusyHolds-own_state, BusyHolds-queue_task, BusyHolds-release, BusyHolds-set_busy, BusyHolds-store_cpu, BusyHolds-take_queue}
+use Rattle.core_locks.proofs.BusyKept.{BusyHolds-move_task, BusyHolds-set_state, BusyHolds-queue_task, BusyHolds-make_runnable, BusyHolds-set_busy, BusyHolds-store_cpu, BusyHolds-take_queue}
 use Rattle.core_locks.proofs.BusyKept.{BusyHolds-take_task, BusyHolds-take_wait, BusyHolds-take_works}
 use Rattle.core_locks.proofs.LocksKept.{LocksHold-body_home, LocksHold-body_out, LocksHold-bump, LocksHold-claim, LocksHold-clear_busy, LocksHold-dequeue_task, LocksHold-give_queue}
 use Rattle.core_locks.proofs.LocksKept.{LocksHold-give_task, LocksHold-give_wait, LocksHold-give_works, LocksHold-load_busy, LocksHold-load_cond, LocksHold-load_count, LocksHold-load_cpu, LocksHold-load_rq}
-use Rattle.core_locks.proofs.LocksKept.{LocksHold-load_state, LocksHold-move_task, LocksHold-own_state, LocksHold-queue_task, LocksHold-release, LocksHold-set_busy, LocksHold-store_cpu}
+use Rattle.core_locks.proofs.LocksKept.{LocksHold-load_state, LocksHold-move_task, LocksHold-set_state, LocksHold-queue_task, LocksHold-make_runnable, LocksHold-set_busy, LocksHold-store_cpu}
 use Rattle.core_locks.proofs.LocksKept.{LocksHold-take_queue, LocksHold-take_task, LocksHold-take_wait, LocksHold-take_works}
 use Rattle.core_locks.proofs.Opening.{BusyHolds-start, LocksHold-start, QueuesHold-start, ShapesHold-start}
 use Rattle.core_locks.proofs.QueuesKept.{QueuesHold-body_home, QueuesHold-body_out, QueuesHold-bump, QueuesHold-claim, QueuesHold-clear_busy, QueuesHold-dequeue_task, QueuesHold-give_queue}
 use Rattle.core_locks.proofs.QueuesKept.{QueuesHold-give_task, QueuesHold-give_wait, QueuesHold-give_works, QueuesHold-load_busy, QueuesHold-load_cond, QueuesHold-load_count, QueuesHold-load_cpu, QueuesHold-load_rq}
-use Rattle.core_locks.proofs.QueuesKept.{QueuesHold-load_state, QueuesHold-move_task, QueuesHold-own_state, QueuesHold-queue_task, QueuesHold-release, QueuesHold-set_busy, QueuesHold-store_cpu}
+use Rattle.core_locks.proofs.QueuesKept.{QueuesHold-load_state, QueuesHold-move_task, QueuesHold-set_state, QueuesHold-queue_task, QueuesHold-make_runnable, QueuesHold-set_busy, QueuesHold-store_cpu}
 use Rattle.core_locks.proofs.QueuesKept.{QueuesHold-take_queue, QueuesHold-take_task, QueuesHold-take_wait, QueuesHold-take_works}
 use Rattle.core_locks.proofs.ShapesKept.{ShapesHold-body_home, ShapesHold-body_out, ShapesHold-bump, ShapesHold-claim, ShapesHold-clear_busy, ShapesHold-dequeue_task, ShapesHold-give_queue}
 use Rattle.core_locks.proofs.ShapesKept.{ShapesHold-give_task, ShapesHold-give_wait, ShapesHold-give_works, ShapesHold-load_busy, ShapesHold-load_cond, ShapesHold-load_count, ShapesHold-load_cpu, ShapesHold-load_rq}
-use Rattle.core_locks.proofs.ShapesKept.{ShapesHold-load_state, ShapesHold-move_task, ShapesHold-own_state, ShapesHold-queue_task, ShapesHold-release, ShapesHold-set_busy, ShapesHold-store_cpu}
+use Rattle.core_locks.proofs.ShapesKept.{ShapesHold-load_state, ShapesHold-move_task, ShapesHold-set_state, ShapesHold-queue_task, ShapesHold-make_runnable, ShapesHold-set_busy, ShapesHold-store_cpu}
 use Rattle.core_locks.proofs.ShapesKept.{ShapesHold-take_queue, ShapesHold-take_task, ShapesHold-take_wait, ShapesHold-take_works}
 use Rattle.core_places.proofs.Loads.{PositionsHold-load_busy, PositionsHold-load_rq, PositionsHold-load_state}
 use Rattle.core_places.proofs.Places.{PlacesHold-body_home, PlacesHold-body_out, PlacesHold-bump, PlacesHold-claim, PlacesHold-clear_busy, PlacesHold-dequeue_task, PlacesHold-give_task}
-use Rattle.core_places.proofs.Places.{PlacesHold-give_works, PlacesHold-load_count, PlacesHold-load_cpu, PlacesHold-move_task, PlacesHold-queue_task, PlacesHold-release, PlacesHold-set_busy, PlacesHold-store_cpu}
+use Rattle.core_places.proofs.Places.{PlacesHold-give_works, PlacesHold-load_count, PlacesHold-load_cpu, PlacesHold-move_task, PlacesHold-queue_task, PlacesHold-make_runnable, PlacesHold-set_busy, PlacesHold-store_cpu}
 use Rattle.core_places.proofs.Places.{PlacesHold-take_queue, PlacesHold-take_task, PlacesHold-take_wait, PlacesHold-take_works}
-use Rattle.core_places.proofs.PlacesByTests.{PlacesHold-give_queue, PlacesHold-give_wait, PlacesHold-load_busy, PlacesHold-load_cond, PlacesHold-load_rq, PlacesHold-load_state, PlacesHold-own_state}
+use Rattle.core_places.proofs.PlacesByTests.{PlacesHold-give_queue, PlacesHold-give_wait, PlacesHold-load_busy, PlacesHold-load_cond, PlacesHold-load_rq, PlacesHold-load_state, PlacesHold-set_state}
 use Rattle.core_places.proofs.Positions.{PositionsHold-body_home, PositionsHold-body_out, PositionsHold-bump, PositionsHold-claim, PositionsHold-clear_busy, PositionsHold-dequeue_task}
-use Rattle.core_places.proofs.Positions.{PositionsHold-give_task, PositionsHold-give_works, PositionsHold-load_count, PositionsHold-load_cpu, PositionsHold-move_task, PositionsHold-queue_task, PositionsHold-release}
+use Rattle.core_places.proofs.Positions.{PositionsHold-give_task, PositionsHold-give_works, PositionsHold-load_count, PositionsHold-load_cpu, PositionsHold-move_task, PositionsHold-queue_task, PositionsHold-make_runnable}
 use Rattle.core_places.proofs.Positions.{PositionsHold-set_busy, PositionsHold-store_cpu, PositionsHold-take_queue, PositionsHold-take_task, PositionsHold-take_wait, PositionsHold-take_works}
-use Rattle.core_places.proofs.PositionsByTests.{PositionsHold-give_queue, PositionsHold-give_wait, PositionsHold-load_cond, PositionsHold-own_state}
+use Rattle.core_places.proofs.PositionsByTests.{PositionsHold-give_queue, PositionsHold-give_wait, PositionsHold-load_cond, PositionsHold-set_state}
 use Rattle.core_places.proofs.StartOfPlaces.{PlacesHold-start, PositionsHold-start}
 use Rattle.core_sleepers.proofs.Conditions.{SleepersHold-bump, SleepersHold-load_cond, SleepersHold-store_cpu}
 use Rattle.core_sleepers.proofs.Gives.{SleepersHold-give_wait}
@@ -40,11 +40,11 @@ use Rattle.core_sleepers.proofs.Passes.{SleepersHold-load_state}
 use Rattle.core_sleepers.proofs.Still.{SleepersHold-body_home, SleepersHold-body_out, SleepersHold-clear_busy, SleepersHold-dequeue_task, SleepersHold-give_task, SleepersHold-give_works}
 use Rattle.core_sleepers.proofs.Still.{SleepersHold-load_busy, SleepersHold-load_count, SleepersHold-load_cpu, SleepersHold-load_rq, SleepersHold-move_task, SleepersHold-queue_task, SleepersHold-take_queue}
 use Rattle.core_sleepers.proofs.Still.{SleepersHold-take_task, SleepersHold-take_works}
-use Rattle.core_sleepers.proofs.Stores.{SleepersHold-claim, SleepersHold-give_queue, SleepersHold-own_state, SleepersHold-release, SleepersHold-set_busy}
+use Rattle.core_sleepers.proofs.Stores.{SleepersHold-claim, SleepersHold-give_queue, SleepersHold-set_state, SleepersHold-make_runnable, SleepersHold-set_busy}
 use Rattle.core_sleepers.proofs.Takes.{SleepersHold-take_wait}
 use Rattle.core_data.specs.Opening.{IsStart}
 use Rattle.core_data.specs.Queue.{Queue}
-use Rattle.core_data.specs.Table.{Table}
+use Rattle.core_data.specs.Columns.{Columns}
 use Rattle.core_data.specs.declared.values.TaskVal.{TaskVal}
 use Rattle.core_data.specs.declared.values.WaitEntry.{WaitEntry}
 use Rattle.core_data.specs.declared.values.WorkItem.{WorkItem}
@@ -53,12 +53,12 @@ use Rattle.core_gives.specs.Waits.{MayGiveWait, give_wait}
 use Rattle.core_invariant.specs.Invariant.{Holds}
 use Rattle.core_kinds.specs.Locks.{MayTakeTask, take_task, MayGiveTask, give_task, MayTakeQueue, take_queue, MayTakeWait, take_wait, MayTakeWorks, take_works, MayGiveWorks, give_works}
 use Rattle.core_kinds.specs.Running.{MayQueue, queue_task, MayDequeue, dequeue_task, MayMove, move_task, MaySetBusy, set_busy, MayClearBusy, clear_busy, MayBodyOut, body_out, MayBodyHome, body_home}
-use Rattle.core_kinds.specs.Waking.{MayOwnState, own_state, MayClaim, claim, MayRelease, release, MayLoad, MayLoadState, load_state, load_rq, load_busy, load_cpu, load_count, MayStoreCpu, store_cpu, MayBump, bump, load_cond}
+use Rattle.core_kinds.specs.Waking.{MaySetState, set_state, MayClaim, claim, MayMakeRunnable, make_runnable, MayLoad, MayLoadState, load_state, load_rq, load_busy, load_cpu, load_count, MayStoreCpu, store_cpu, MayBump, bump, load_cond}
 use Rattle.handoff_data.specs.Shape.{IsShape}
 use Rattle.handoff_data.specs.declared.shape.Shape.{Shape}
 use Rattle.handoff_data.specs.declared.state.State.{State}
 
-pub Holds-take_task : (core : Table) (s t : ℕ) → Holds core → MayTakeTask core s t → Holds (take_task core s t)
+pub Holds-take_task : (core : Columns) (s t : ℕ) → Holds core → MayTakeTask core s t → Holds (take_task core s t)
 Holds-take_task core s t holds may =
     record {
       shapes = ShapesHold-take_task core s t holds may;
@@ -71,7 +71,7 @@ Holds-take_task core s t holds may =
       sleepers = SleepersHold-take_task core s t holds may;
     }
 
-pub Holds-give_task : (core : Table) (s t : ℕ) (val : TaskVal) (stood done : Bool) → Holds core → MayGiveTask core s t val stood done → Holds (give_task core s t val)
+pub Holds-give_task : (core : Columns) (s t : ℕ) (val : TaskVal) (stood done : Bool) → Holds core → MayGiveTask core s t val stood done → Holds (give_task core s t val)
 Holds-give_task core s t val stood done holds may =
     record {
       shapes = ShapesHold-give_task core s t val stood done holds may;
@@ -84,7 +84,7 @@ Holds-give_task core s t val stood done holds may =
       sleepers = SleepersHold-give_task core s t val stood done holds may;
     }
 
-pub Holds-take_queue : (core : Table) (s c : ℕ) → Holds core → MayTakeQueue core s c → Holds (take_queue core s c)
+pub Holds-take_queue : (core : Columns) (s c : ℕ) → Holds core → MayTakeQueue core s c → Holds (take_queue core s c)
 Holds-take_queue core s c holds may =
     record {
       shapes = ShapesHold-take_queue core s c holds may;
@@ -97,7 +97,7 @@ Holds-take_queue core s c holds may =
       sleepers = SleepersHold-take_queue core s c holds may;
     }
 
-pub Holds-give_queue : (core : Table) (s c : ℕ) (queue : Queue) → Holds core → MayGiveQueue core s c queue → Holds (give_queue core s c queue)
+pub Holds-give_queue : (core : Columns) (s c : ℕ) (queue : Queue) → Holds core → MayGiveQueue core s c queue → Holds (give_queue core s c queue)
 Holds-give_queue core s c queue holds may =
     record {
       shapes = ShapesHold-give_queue core s c queue holds may;
@@ -110,7 +110,7 @@ Holds-give_queue core s c queue holds may =
       sleepers = SleepersHold-give_queue core s c queue holds may;
     }
 
-pub Holds-take_wait : (core : Table) (s k : ℕ) → Holds core → MayTakeWait core s k → Holds (take_wait core s k)
+pub Holds-take_wait : (core : Columns) (s k : ℕ) → Holds core → MayTakeWait core s k → Holds (take_wait core s k)
 Holds-take_wait core s k holds may =
     record {
       shapes = ShapesHold-take_wait core s k holds may;
@@ -123,7 +123,7 @@ Holds-take_wait core s k holds may =
       sleepers = SleepersHold-take_wait core s k holds may;
     }
 
-pub Holds-give_wait : (core : Table) (s k : ℕ) (given : List WaitEntry) → Holds core → MayGiveWait core s k given → Holds (give_wait core s k given)
+pub Holds-give_wait : (core : Columns) (s k : ℕ) (given : List WaitEntry) → Holds core → MayGiveWait core s k given → Holds (give_wait core s k given)
 Holds-give_wait core s k given holds may =
     record {
       shapes = ShapesHold-give_wait core s k given holds may;
@@ -136,7 +136,7 @@ Holds-give_wait core s k given holds may =
       sleepers = SleepersHold-give_wait core s k given holds may;
     }
 
-pub Holds-take_works : (core : Table) (s c : ℕ) → Holds core → MayTakeWorks core s c → Holds (take_works core s c)
+pub Holds-take_works : (core : Columns) (s c : ℕ) → Holds core → MayTakeWorks core s c → Holds (take_works core s c)
 Holds-take_works core s c holds may =
     record {
       shapes = ShapesHold-take_works core s c holds may;
@@ -149,7 +149,7 @@ Holds-take_works core s c holds may =
       sleepers = SleepersHold-take_works core s c holds may;
     }
 
-pub Holds-give_works : (core : Table) (s c : ℕ) (val : List WorkItem) → Holds core → MayGiveWorks core s c val → Holds (give_works core s c val)
+pub Holds-give_works : (core : Columns) (s c : ℕ) (val : List WorkItem) → Holds core → MayGiveWorks core s c val → Holds (give_works core s c val)
 Holds-give_works core s c val holds may =
     record {
       shapes = ShapesHold-give_works core s c val holds may;
@@ -162,7 +162,7 @@ Holds-give_works core s c val holds may =
       sleepers = SleepersHold-give_works core s c val holds may;
     }
 
-pub Holds-body_out : (core : Table) (s t : ℕ) → Holds core → MayBodyOut core s t → Holds (body_out core s t)
+pub Holds-body_out : (core : Columns) (s t : ℕ) → Holds core → MayBodyOut core s t → Holds (body_out core s t)
 Holds-body_out core s t holds may =
     record {
       shapes = ShapesHold-body_out core s t holds may;
@@ -175,7 +175,7 @@ Holds-body_out core s t holds may =
       sleepers = SleepersHold-body_out core s t holds may;
     }
 
-pub Holds-body_home : (core : Table) (s t : ℕ) (ended : Bool) → Holds core → MayBodyHome core s t ended → Holds (body_home core s t ended)
+pub Holds-body_home : (core : Columns) (s t : ℕ) (ended : Bool) → Holds core → MayBodyHome core s t ended → Holds (body_home core s t ended)
 Holds-body_home core s t ended holds may =
     record {
       shapes = ShapesHold-body_home core s t ended holds may;
@@ -188,7 +188,7 @@ Holds-body_home core s t ended holds may =
       sleepers = SleepersHold-body_home core s t ended holds may;
     }
 
-pub Holds-queue_task : (core : Table) (s c t : ℕ) → Holds core → MayQueue core s c t → Holds (queue_task core s c t)
+pub Holds-queue_task : (core : Columns) (s c t : ℕ) → Holds core → MayQueue core s c t → Holds (queue_task core s c t)
 Holds-queue_task core s c t holds may =
     record {
       shapes = ShapesHold-queue_task core s c t holds may;
@@ -201,7 +201,7 @@ Holds-queue_task core s c t holds may =
       sleepers = SleepersHold-queue_task core s c t holds may;
     }
 
-pub Holds-dequeue_task : (core : Table) (s c t : ℕ) → Holds core → MayDequeue core s c t → Holds (dequeue_task core s c t)
+pub Holds-dequeue_task : (core : Columns) (s c t : ℕ) → Holds core → MayDequeue core s c t → Holds (dequeue_task core s c t)
 Holds-dequeue_task core s c t holds may =
     record {
       shapes = ShapesHold-dequeue_task core s c t holds may;
@@ -214,7 +214,7 @@ Holds-dequeue_task core s c t holds may =
       sleepers = SleepersHold-dequeue_task core s c t holds may;
     }
 
-pub Holds-move_task : (core : Table) (s c t : ℕ) (val : Queue) → Holds core → MayMove core s c t val → Holds (move_task core s c t)
+pub Holds-move_task : (core : Columns) (s c t : ℕ) (val : Queue) → Holds core → MayMove core s c t val → Holds (move_task core s c t)
 Holds-move_task core s c t val holds may =
     record {
       shapes = ShapesHold-move_task core s c t val holds may;
@@ -227,7 +227,7 @@ Holds-move_task core s c t val holds may =
       sleepers = SleepersHold-move_task core s c t val holds may;
     }
 
-pub Holds-set_busy : (core : Table) (s c t : ℕ) (val : Queue) → Holds core → MaySetBusy core s c t val → Holds (set_busy core s c t)
+pub Holds-set_busy : (core : Columns) (s c t : ℕ) (val : Queue) → Holds core → MaySetBusy core s c t val → Holds (set_busy core s c t)
 Holds-set_busy core s c t val holds may =
     record {
       shapes = ShapesHold-set_busy core s c t val holds may;
@@ -240,7 +240,7 @@ Holds-set_busy core s c t val holds may =
       sleepers = SleepersHold-set_busy core s c t val holds may;
     }
 
-pub Holds-clear_busy : (core : Table) (s t : ℕ) → Holds core → MayClearBusy core s t → Holds (clear_busy core s t)
+pub Holds-clear_busy : (core : Columns) (s t : ℕ) → Holds core → MayClearBusy core s t → Holds (clear_busy core s t)
 Holds-clear_busy core s t holds may =
     record {
       shapes = ShapesHold-clear_busy core s t holds may;
@@ -253,20 +253,20 @@ Holds-clear_busy core s t holds may =
       sleepers = SleepersHold-clear_busy core s t holds may;
     }
 
-pub Holds-own_state : (core : Table) (s t : ℕ) (state : State) → Holds core → MayOwnState core s t state → Holds (own_state core s t state)
-Holds-own_state core s t state holds may =
+pub Holds-set_state : (core : Columns) (s t : ℕ) (state : State) → Holds core → MaySetState core s t state → Holds (set_state core s t state)
+Holds-set_state core s t state holds may =
     record {
-      shapes = ShapesHold-own_state core s t state holds may;
-      locks = LocksHold-own_state core s t state holds may;
-      queues = QueuesHold-own_state core s t state holds may;
-      busy = BusyHolds-own_state core s t state holds may;
-      places = PlacesHold-own_state core s t state holds may;
-      positions = PositionsHold-own_state core s t state holds may;
-      journals = JournalsHold-own_state core s t state holds may;
-      sleepers = SleepersHold-own_state core s t state holds may;
+      shapes = ShapesHold-set_state core s t state holds may;
+      locks = LocksHold-set_state core s t state holds may;
+      queues = QueuesHold-set_state core s t state holds may;
+      busy = BusyHolds-set_state core s t state holds may;
+      places = PlacesHold-set_state core s t state holds may;
+      positions = PositionsHold-set_state core s t state holds may;
+      journals = JournalsHold-set_state core s t state holds may;
+      sleepers = SleepersHold-set_state core s t state holds may;
     }
 
-pub Holds-claim : (core : Table) (s t : ℕ) → Holds core → MayClaim core s t → Holds (claim core s t)
+pub Holds-claim : (core : Columns) (s t : ℕ) → Holds core → MayClaim core s t → Holds (claim core s t)
 Holds-claim core s t holds may =
     record {
       shapes = ShapesHold-claim core s t holds may;
@@ -279,20 +279,20 @@ Holds-claim core s t holds may =
       sleepers = SleepersHold-claim core s t holds may;
     }
 
-pub Holds-release : (core : Table) (s t : ℕ) → Holds core → MayRelease core s t → Holds (release core s t)
-Holds-release core s t holds may =
+pub Holds-make_runnable : (core : Columns) (s t : ℕ) → Holds core → MayMakeRunnable core s t → Holds (make_runnable core s t)
+Holds-make_runnable core s t holds may =
     record {
-      shapes = ShapesHold-release core s t holds may;
-      locks = LocksHold-release core s t holds may;
-      queues = QueuesHold-release core s t holds may;
-      busy = BusyHolds-release core s t holds may;
-      places = PlacesHold-release core s t holds may;
-      positions = PositionsHold-release core s t holds may;
-      journals = JournalsHold-release core s t holds may;
-      sleepers = SleepersHold-release core s t holds may;
+      shapes = ShapesHold-make_runnable core s t holds may;
+      locks = LocksHold-make_runnable core s t holds may;
+      queues = QueuesHold-make_runnable core s t holds may;
+      busy = BusyHolds-make_runnable core s t holds may;
+      places = PlacesHold-make_runnable core s t holds may;
+      positions = PositionsHold-make_runnable core s t holds may;
+      journals = JournalsHold-make_runnable core s t holds may;
+      sleepers = SleepersHold-make_runnable core s t holds may;
     }
 
-pub Holds-load_state : (core : Table) (s t : ℕ) (mask : Option State) → Holds core → MayLoadState core s t mask → Holds (load_state core s t mask)
+pub Holds-load_state : (core : Columns) (s t : ℕ) (mask : Option State) → Holds core → MayLoadState core s t mask → Holds (load_state core s t mask)
 Holds-load_state core s t mask holds may =
     record {
       shapes = ShapesHold-load_state core s t mask holds may;
@@ -305,7 +305,7 @@ Holds-load_state core s t mask holds may =
       sleepers = SleepersHold-load_state core s t mask holds may;
     }
 
-pub Holds-load_rq : (core : Table) (s t : ℕ) → Holds core → MayLoad core s t → Holds (load_rq core s t)
+pub Holds-load_rq : (core : Columns) (s t : ℕ) → Holds core → MayLoad core s t → Holds (load_rq core s t)
 Holds-load_rq core s t holds may =
     record {
       shapes = ShapesHold-load_rq core s t holds may;
@@ -318,7 +318,7 @@ Holds-load_rq core s t holds may =
       sleepers = SleepersHold-load_rq core s t holds may;
     }
 
-pub Holds-load_busy : (core : Table) (s t : ℕ) → Holds core → MayLoad core s t → Holds (load_busy core s t)
+pub Holds-load_busy : (core : Columns) (s t : ℕ) → Holds core → MayLoad core s t → Holds (load_busy core s t)
 Holds-load_busy core s t holds may =
     record {
       shapes = ShapesHold-load_busy core s t holds may;
@@ -331,7 +331,7 @@ Holds-load_busy core s t holds may =
       sleepers = SleepersHold-load_busy core s t holds may;
     }
 
-pub Holds-load_cpu : (core : Table) (s t : ℕ) → Holds core → MayLoad core s t → Holds (load_cpu core s t)
+pub Holds-load_cpu : (core : Columns) (s t : ℕ) → Holds core → MayLoad core s t → Holds (load_cpu core s t)
 Holds-load_cpu core s t holds may =
     record {
       shapes = ShapesHold-load_cpu core s t holds may;
@@ -344,7 +344,7 @@ Holds-load_cpu core s t holds may =
       sleepers = SleepersHold-load_cpu core s t holds may;
     }
 
-pub Holds-load_count : (core : Table) (s t : ℕ) → Holds core → MayLoad core s t → Holds (load_count core s t)
+pub Holds-load_count : (core : Columns) (s t : ℕ) → Holds core → MayLoad core s t → Holds (load_count core s t)
 Holds-load_count core s t holds may =
     record {
       shapes = ShapesHold-load_count core s t holds may;
@@ -357,7 +357,7 @@ Holds-load_count core s t holds may =
       sleepers = SleepersHold-load_count core s t holds may;
     }
 
-pub Holds-store_cpu : (core : Table) (s t c : ℕ) → Holds core → MayStoreCpu core s t c → Holds (store_cpu core s t c)
+pub Holds-store_cpu : (core : Columns) (s t c : ℕ) → Holds core → MayStoreCpu core s t c → Holds (store_cpu core s t c)
 Holds-store_cpu core s t c holds may =
     record {
       shapes = ShapesHold-store_cpu core s t c holds may;
@@ -370,7 +370,7 @@ Holds-store_cpu core s t c holds may =
       sleepers = SleepersHold-store_cpu core s t c holds may;
     }
 
-pub Holds-bump : (core : Table) (s k : ℕ) → Holds core → MayBump core s k → Holds (bump core s k)
+pub Holds-bump : (core : Columns) (s k : ℕ) → Holds core → MayBump core s k → Holds (bump core s k)
 Holds-bump core s k holds may =
     record {
       shapes = ShapesHold-bump core s k holds may;
@@ -383,7 +383,7 @@ Holds-bump core s k holds may =
       sleepers = SleepersHold-bump core s k holds may;
     }
 
-pub Holds-load_cond : (core : Table) (s k : ℕ) → Holds core → MayBump core s k → Holds (load_cond core s k)
+pub Holds-load_cond : (core : Columns) (s k : ℕ) → Holds core → MayBump core s k → Holds (load_cond core s k)
 Holds-load_cond core s k holds may =
     record {
       shapes = ShapesHold-load_cond core s k holds may;
@@ -396,7 +396,7 @@ Holds-load_cond core s k holds may =
       sleepers = SleepersHold-load_cond core s k holds may;
     }
 
-pub Holds-start : (shape : Shape) (core : Table) → IsShape shape → IsStart shape core → Holds core
+pub Holds-start : (shape : Shape) (core : Columns) → IsShape shape → IsStart shape core → Holds core
 Holds-start shape core is_shape is_start =
     record {
       shapes = ShapesHold-start shape core is_shape is_start;

@@ -2,7 +2,7 @@
 use Rattle.std.proofs.Common.{◌≡◌, ◌≢◌, ℕ, ◌+◌, ◌*◌, ◌⊎◌, inl, inr, Bool, true, false, Option, Some, None, refl, sym, subst, ◌∙◌, if◌then◌else◌, arith}
 use Rattle.std.proofs.lemmas.Bool.{cases_eq}
 use Rattle.std.proofs.lemmas.Bool.Decides.{nat_tests}
-use Rattle.core_data.specs.Table.{Table}
+use Rattle.core_data.specs.Columns.{Columns}
 use Rattle.core_gives.specs.Queues.{is_at}
 use Rattle.core_invariant.specs.Invariant.{Holds}
 use Rattle.core_invariant.specs.Journals.{RulesKept}
@@ -34,7 +34,7 @@ order-of j rules =
 
 -- ---- wakes
 
-pub wakes-queue_at_most_once : (core : Table) → Holds core → WakesQueueAtMostOnce (journals_of core)
+pub wakes-queue_at_most_once : (core : Columns) → Holds core → WakesQueueAtMostOnce (journals_of core)
 wakes-queue_at_most_once core holds =
     let j = journals_of core in
     let rules = order-of j holds.journals.rules in
@@ -48,10 +48,10 @@ wakes-queue_at_most_once core holds =
 -- ---- sleepers
 
 -- who owes a walk is a seat of the shape
-owed_by : (core : Table) (k t : ℕ) → Holds core → IsOwed core.owes core.retaken core.passed k t → IsOwedByASeat core k t
+owed_by : (core : Columns) (k t : ℕ) → Holds core → IsOwed core.owes_walk core.has_retaken core.has_passed k t → IsOwedByASeat core k t
 owed_by core k t holds owed = (owed.0, (holds.shapes.owes owed.0 k owed.1).0, owed.1, owed.2)
 
-owed : (core : Table) (k t tested : ℕ) → Holds core → IsSafeSleeper core k t → (IsAwake (core.state t) → ⊥) → core.test (core.cpu t) t k ≡ Some tested → tested ≢ core.cond k
+owed : (core : Columns) (k t tested : ℕ) → Holds core → IsSafeSleeper core k t → (IsAwake (core.state t) → ⊥) → core.tested (core.cpu t) t k ≡ Some tested → tested ≢ core.cond k
     → IsOwedByASeat core k t
 owed core k t tested holds safe asleep test other =
     elim safe [
@@ -60,7 +60,7 @@ owed core k t tested holds safe asleep test other =
       | inr (inr is) ↦ owed_by core k t holds is
     ]
 
-pub no-lost_wake : (core : Table) → Holds core → NoLostWake core
+pub no-lost_wake : (core : Columns) → Holds core → NoLostWake core
 no-lost_wake core holds =
     λ k t tested waits asleep test other.
     elim waits [
@@ -68,14 +68,14 @@ no-lost_wake core holds =
       | inr out ↦ owed core k t tested holds (holds.sleepers.safe_out out.0 k t out.1 out.2 out.3) asleep test other
     ]
 
-pub sleepers-wait : (core : Table) → Holds core → SleepersWait core
+pub sleepers-wait : (core : Columns) → Holds core → SleepersWait core
 sleepers-wait core holds =
     record {
       home = λ k t entries asleep state is. holds.sleepers.entry_home k t entries asleep state is;
       out = λ s k t taken asleep state is. holds.sleepers.entry_out s k t taken asleep state is;
     }
 
-pub sleeps-on_its_processor : (core : Table) → Holds core → SleepsOnItsProcessor core
+pub sleeps-on_its_processor : (core : Columns) → Holds core → SleepsOnItsProcessor core
 sleeps-on_its_processor core holds =
     λ t off asleep.
     holds.journals.last_changes.asleep t (λ new. grind (arith, nat_tests, holds.places.new_states.runnable t new, asleep)) off
@@ -87,12 +87,12 @@ on-words : (changes on_rq cpu c : ℕ) (state : State) (lock : Option ℕ) → q
 on-words changes on_rq cpu c state None on = grind (arith, nat_tests, on)
 on-words changes on_rq cpu c state (Some s) on = grind (arith, nat_tests, on)
 
-on-at : (core : Table) (t c : ℕ) → (place_of core t).q ≡ q.On c → is_at core.on_rq core.cpu c t ≡ true
+on-at : (core : Columns) (t c : ℕ) → (place_of core t).q ≡ q.On c → is_at core.on_rq core.cpu c t ≡ true
 on-at core t c on =
     let words = on-words (core.changes t) (core.on_rq t) (core.cpu t) c (core.state t) (core.lock t) on in
     grind (arith, nat_tests, words)
 
-at-on : (core : Table) → Holds core → (t c : ℕ) → is_at core.on_rq core.cpu c t ≡ true → (place_of core t).q ≡ q.On c
+at-on : (core : Columns) → Holds core → (t c : ℕ) → is_at core.on_rq core.cpu c t ≡ true → (place_of core t).q ≡ q.On c
 at-on core holds t c is =
     let started : core.changes t ≢ 0 = λ new. grind (arith, nat_tests, is, holds.places.new.off t new) in
     grind (arith, nat_tests, is, started)
@@ -105,7 +105,7 @@ none-if : (b : Bool) → (b ≡ true → ⊥) → ◌≡◌ {A = ℕ} (if b then
 none-if true h = absurd (h refl)
 none-if false h = refl
 
-pub stands-once : (core : Table) → Holds core → StandsOnce core
+pub stands-once : (core : Columns) → Holds core → StandsOnce core
 stands-once core holds =
     record {
       here = λ t c val on home. holds.queues.at_home c val home t ∙ one-if _ (on-at core t c on);
@@ -117,7 +117,7 @@ stands-once core holds =
 -- ---- runs
 
 -- the last run entry of t stands in some journal
-has-last : (core : Table) → Holds core → (t : ℕ) → core.runs t ≢ 0 → Has run_of (journals_of core) t (core.runs t)
+has-last : (core : Columns) → Holds core → (t : ℕ) → core.runs t ≢ 0 → Has run_of (journals_of core) t (core.runs t)
 has-last core holds t some =
     let runs = holds.journals.last_runs in
     elim (cases_bool (core.on_cpu t)) [
@@ -130,7 +130,7 @@ has-last core holds t some =
     cases_bool false = inr refl
 
 -- where a task never ran there is no number
-none-numbered : (core : Table) → Holds core → (t : ℕ) → core.runs t ≡ 0 → AreNumbered run_of (journals_of core) t (core.runs t)
+none-numbered : (core : Columns) → Holds core → (t : ℕ) → core.runs t ≡ 0 → AreNumbered run_of (journals_of core) t (core.runs t)
 none-numbered core holds t none =
     let j = journals_of core in
     let rules = order-of j holds.journals.rules in
@@ -144,7 +144,7 @@ none-numbered core holds t none =
       once = λ n s i s' i' e e' at at' is is'. absurd (no_run e n (s, (i, at)) is);
     }
 
-all-numbered : (core : Table) → Holds core → (t : ℕ) → AreNumbered run_of (journals_of core) t (core.runs t)
+all-numbered : (core : Columns) → Holds core → (t : ℕ) → AreNumbered run_of (journals_of core) t (core.runs t)
 all-numbered core holds t =
     let j = journals_of core in
     let rules = order-of j holds.journals.rules in
@@ -163,7 +163,7 @@ begins-with j rules t k (entry.Finish t' n c) at is =
     absurd (omega (arith, even.0, same))
 begins-with j rules t k _ at is = absurd cc
 
-pub one-run_at_a_time : (core : Table) → Holds core → OneRunAtATime core
+pub one-run_at_a_time : (core : Columns) → Holds core → OneRunAtATime core
 one-run_at_a_time core holds =
     let j = journals_of core in
     let rules = order-of j holds.journals.rules in

@@ -6,16 +6,16 @@ use Rattle.std.proofs.lemmas.Bool.Decides.{nat_tests}
 use Rattle.core_data.specs.Entries.{has_entry}
 use Rattle.core_data.specs.Opening.{IsStart, first_task, first_cpu, first_cond, first_seat}
 use Rattle.core_data.specs.Queue.{Queue}
-use Rattle.core_data.specs.Table.{Table, table_of}
+use Rattle.core_data.specs.Columns.{Columns, columns_of}
 use Rattle.core_data.specs.declared.values.WaitEntry.{WaitEntry}
 use Rattle.core_gives.specs.Waits.{MayGiveWait, IsPutIn, give_wait}
 use Rattle.core_kinds.specs.Locks.{MayTakeTask, take_task, MayTakeQueue, take_queue, MayTakeWait, take_wait}
 use Rattle.core_kinds.specs.Running.{MayQueue, queue_task, MayDequeue, dequeue_task, MaySetBusy, set_busy}
-use Rattle.core_kinds.specs.Waking.{MayOwnState, own_state, MayLoadState, load_state, MayBump, bump, load_cond}
+use Rattle.core_kinds.specs.Waking.{MaySetState, set_state, MayLoadState, load_state, MayBump, bump, load_cond}
 use Rattle.core_law.specs.Laws.{HasSleeperToWake}
 use Rattle.core_law.specs.Reached.{IsReached}
 use Rattle.core_law.specs.declared.event.Event.{Event}
-use Rattle.core_law.specs.declared.step.StepKind.TheVariants.{TakeTask, TakeQueue, StoreRqOn, SetBusy, TakeWait, OwnState, GiveWait, LoadCond, LoadState, StoreRqOff, Bump}
+use Rattle.core_law.specs.declared.step.StepKind.TheVariants.{TakeTask, TakeQueue, QueueTask, SetBusy, TakeWait, SetState, GiveWait, LoadCond, LoadState, DequeueTask, Bump}
 use Rattle.handoff_data.proofs.Bits.{bits_all}
 use Rattle.handoff_data.specs.declared.mask.CpuMask.{CpuMask}
 use Rattle.handoff_data.specs.declared.shape.Shape.{Shape}
@@ -27,8 +27,8 @@ shape = record { cpus = 1; caches = 1; tasks = 1; conds = 1; agents = 0 }
 abbrev mask : CpuMask
 mask = record { bits = 1 }
 
-abbrev start : Table
-start = table_of shape (replicate 1 (first_task mask)) (replicate 1 first_cpu) (replicate 1 first_cond) (replicate 1 first_seat)
+abbrev start : Columns
+start = columns_of shape (replicate 1 (first_task mask)) (replicate 1 first_cpu) (replicate 1 first_cond) (replicate 1 first_seat)
 
 -- the task is picked with the queue that its seat has out, and sleeps in TASK_INTERRUPTIBLE
 abbrev chosen : Queue
@@ -40,37 +40,37 @@ asleep = record { 0 = 1 }
 abbrev entry : WaitEntry
 entry = record { t = 0; exclusive = false }
 
-abbrev taken : Table
+abbrev taken : Columns
 taken = take_task start 0 0
 
-abbrev locked : Table
+abbrev locked : Columns
 locked = take_queue taken 0 0
 
-abbrev queued : Table
+abbrev queued : Columns
 queued = queue_task locked 0 0 0
 
-abbrev picked : Table
+abbrev picked : Columns
 picked = set_busy queued 0 0 0
 
-abbrev held : Table
+abbrev held : Columns
 held = take_wait picked 0 0
 
-abbrev stored : Table
-stored = own_state held 0 0 asleep
+abbrev stored : Columns
+stored = set_state held 0 0 asleep
 
-abbrev given : Table
+abbrev given : Columns
 given = give_wait stored 0 0 (entry ∷ [])
 
-abbrev tested : Table
+abbrev tested : Columns
 tested = load_cond given 0 0
 
-abbrev seen : Table
+abbrev seen : Columns
 seen = load_state tested 0 0 None
 
-abbrev left : Table
+abbrev left : Columns
 left = dequeue_task seen 0 0 0
 
-abbrev raised : Table
+abbrev raised : Columns
 raised = bump left 0 0
 
 one : 0 < 1
@@ -112,7 +112,7 @@ may_pick =
 may_hold : MayTakeWait picked 0 0
 may_hold = record { seat = one; condition = one; free = refl; home = refl }
 
-may_store : MayOwnState held 0 0 asleep
+may_store : MaySetState held 0 0 asleep
 may_store = record { seat = one; task = one; current = refl; queued = refl; allowed = inr (inl refl) }
 
 only : (x : WaitEntry) → has_entry (entry ∷ []) x ≡ true → 0 ≡ x.t
@@ -134,7 +134,7 @@ may_give =
       tasks = λ x has. subst (λ z. z < 1) (only x has) one;
     }
 
-may_raise : (core : Table) → core.seats ≡ 1 → core.conds ≡ 1 → MayBump core 0 0
+may_raise : (core : Columns) → core.seats ≡ 1 → core.conds ≡ 1 → MayBump core 0 0
 may_raise core seats conds = record { seat = omega (arith, seats); condition = omega (arith, conds) }
 
 may_see : MayLoadState tested 0 0 None
@@ -159,14 +159,14 @@ abbrev events : List Event
 events =
     record { seat = 0; step = TakeTask 0 }
     ∷ record { seat = 0; step = TakeQueue 0 }
-    ∷ record { seat = 0; step = StoreRqOn 0 0 }
+    ∷ record { seat = 0; step = QueueTask 0 0 }
     ∷ record { seat = 0; step = SetBusy 0 0 chosen }
     ∷ record { seat = 0; step = TakeWait 0 }
-    ∷ record { seat = 0; step = OwnState 0 asleep }
+    ∷ record { seat = 0; step = SetState 0 asleep }
     ∷ record { seat = 0; step = GiveWait 0 (entry ∷ []) }
     ∷ record { seat = 0; step = LoadCond 0 }
     ∷ record { seat = 0; step = LoadState 0 None }
-    ∷ record { seat = 0; step = StoreRqOff 0 0 }
+    ∷ record { seat = 0; step = DequeueTask 0 0 }
     ∷ record { seat = 0; step = Bump 0 }
     ∷ []
 
@@ -197,5 +197,5 @@ to_wake =
       other = λ h. omega arith;
     }
 
-pub has-sleeper_to_wake : (core : Table) × IsReached core × HasSleeperToWake core
+pub has-sleeper_to_wake : (core : Columns) × IsReached core × HasSleeperToWake core
 has-sleeper_to_wake = (raised, reached, to_wake)

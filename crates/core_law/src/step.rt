@@ -55,17 +55,17 @@ pub enum StepKind {
         ended: bool,
     },
     /// Stores 1 in `on_rq`: a new task, one that was woken, or one that was moved is put on a queue.
-    StoreRqOn {
+    QueueTask {
         c: CpuNo,
         t: TaskNo,
     },
     /// Stores 0 in `on_rq`: the current task sleeps or dies.
-    StoreRqOff {
+    DequeueTask {
         c: CpuNo,
         t: TaskNo,
     },
     /// Stores 2 in `on_rq`: a waiting task of this queue is taken out, to be moved.
-    StoreRqMoving {
+    MoveTask {
         c: CpuNo,
         t: TaskNo,
         val: QueueVal,
@@ -81,16 +81,16 @@ pub enum StepKind {
         t: TaskNo,
     },
     /// Stores the state of the current task.
-    OwnState {
+    SetState {
         t: TaskNo,
         state: State,
     },
     /// Stores TASK_WAKING as the state of a task that is off its queue.
-    StoreWaking {
+    ClaimTask {
         t: TaskNo,
     },
     /// Stores TASK_RUNNING as the state of a task.
-    StoreRunning {
+    MakeRunnable {
         t: TaskNo,
     },
     /// Loads the state of a task, with the mask of a wake-up or with none.

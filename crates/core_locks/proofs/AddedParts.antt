@@ -3,7 +3,7 @@ use Rattle.std.proofs.Common.{◌≡◌, ◌≢◌, ℕ, ◌+◌, ◌≤◌, inl
 use Rattle.std.specs.Prelude.{if◌then◌else◌, ◌==◌}
 use Rattle.std.proofs.lemmas.Bool.{cases_eq}
 use Rattle.std.proofs.lemmas.Bool.Decides.{nat_tests}
-use Rattle.core_data.specs.Table.{put}
+use Rattle.core_data.specs.Columns.{put}
 use Rattle.core_invariant.proofs.Logs.{Logged}
 use Rattle.core_invariant.specs.Queues.{PutsOn, WasPut, AddedTasks}
 use Rattle.core_kinds.specs.Running.{queue_entry, dequeue_entry, is_dead}

@@ -5,7 +5,7 @@ use Rattle.std.proofs.lemmas.List.{length-replicate}
 use Rattle.std.proofs.lemmas.Bool.Decides.{nat_tests}
 use Rattle.core_data.specs.Opening.{IsStart, first_task, first_cpu, first_cond, first_seat, no_tasks}
 use Rattle.core_data.specs.Queue.{Queue}
-use Rattle.core_data.specs.Table.{Table, column, table_of, current_of, to_clear_of, task_out_of, queue_out_of, list_out_of, works_out_of, wait_out_of, body_out_of, added_of, dropped_of, owes_of}
+use Rattle.core_data.specs.Columns.{Columns, column, columns_of, current_task_of, task_to_clear_of, task_held_of, queue_held_of, list_held_of, works_held_of, wait_held_of, body_held_of, has_added_of, has_dropped_of, owes_walk_of}
 use Rattle.core_data.specs.declared.values.TaskVal.{TaskVal}
 use Rattle.core_data.specs.declared.values.WaitEntry.{WaitEntry}
 use Rattle.core_data.specs.declared.words.CondWords.{CondWords}
@@ -24,8 +24,8 @@ use Rattle.handoff_data.specs.declared.mask.CpuMask.{CpuMask}
 use Rattle.handoff_data.specs.declared.shape.Shape.{Shape}
 
 -- the opening core of a shape, where `mask` has all its processors
-abbrev opening : Shape → CpuMask → Table
-opening shape mask = table_of shape (replicate shape.tasks (first_task mask)) (replicate shape.cpus first_cpu) (replicate shape.conds first_cond) (replicate (shape.cpus + shape.agents) first_seat)
+abbrev opening : Shape → CpuMask → Columns
+opening shape mask = columns_of shape (replicate shape.tasks (first_task mask)) (replicate shape.cpus first_cpu) (replicate shape.conds first_cond) (replicate (shape.cpus + shape.agents) first_seat)
 
 -- locks that are all free, with what they guard at home
 all_free : (A : Type 0) (count seats : ℕ) (lock : ℕ → Option ℕ) (home : ℕ → Option A) (out : ℕ → ℕ → Option A) → ((k : ℕ) → lock k ≡ None) → ((k : ℕ) → k < count → IsSome (home k)) → ((s k : ℕ) → out s k ≡ None)
@@ -50,26 +50,26 @@ opening-locks shape mask =
       tasks = all_free _ _ _ _ _ _
           (λ t. each_word (λ o. o ≡ None) (λ (w : TaskWords). w.lock) None shape.tasks (first_task mask) t refl refl)
           (there (λ (w : TaskWords). w.val) shape.tasks (first_task mask) refl)
-          (λ s t. each_word (λ (g : ℕ → Option TaskVal). g t ≡ None) task_out_of (λ k. None) seats first_seat s refl refl);
+          (λ s t. each_word (λ (g : ℕ → Option TaskVal). g t ≡ None) task_held_of (λ k. None) seats first_seat s refl refl);
       queues = all_free _ _ _ _ _ _
           (λ c. each_word (λ o. o ≡ None) (λ (w : CpuWords). w.queue_lock) None shape.cpus first_cpu c refl refl)
           (there (λ (w : CpuWords). w.queue) shape.cpus first_cpu refl)
-          (λ s c. each_word (λ g. g c ≡ None) queue_out_of (λ k. None) seats first_seat s refl refl);
+          (λ s c. each_word (λ g. g c ≡ None) queue_held_of (λ k. None) seats first_seat s refl refl);
       lists = all_free _ _ _ _ _ _
           (λ c. each_word (λ o. o ≡ None) (λ (w : CpuWords). w.list_lock) None shape.cpus first_cpu c refl refl)
           (there (λ (w : CpuWords). w.list) shape.cpus first_cpu refl)
-          (λ s c. each_word (λ g. g c ≡ None) list_out_of (λ k. None) seats first_seat s refl refl);
+          (λ s c. each_word (λ g. g c ≡ None) list_held_of (λ k. None) seats first_seat s refl refl);
       works = all_free _ _ _ _ _ _
           (λ c. each_word (λ o. o ≡ None) (λ (w : CpuWords). w.works_lock) None shape.cpus first_cpu c refl refl)
           (there (λ (w : CpuWords). w.works) shape.cpus first_cpu refl)
-          (λ s c. each_word (λ g. g c ≡ None) works_out_of (λ k. None) seats first_seat s refl refl);
+          (λ s c. each_word (λ g. g c ≡ None) works_held_of (λ k. None) seats first_seat s refl refl);
       waits = all_free _ _ _ _ _ _
           (λ c. each_word (λ o. o ≡ None) (λ (w : CondWords). w.wait_lock) None shape.conds first_cond c refl refl)
           (there (λ (w : CondWords). w.wait) shape.conds first_cond refl)
-          (λ s c. each_word (λ g. g c ≡ None) wait_out_of (λ k. None) seats first_seat s refl refl);
+          (λ s c. each_word (λ g. g c ≡ None) wait_held_of (λ k. None) seats first_seat s refl refl);
     }
 
-pub LocksHold-start : (shape : Shape) (core : Table) → IsShape shape → IsStart shape core → LocksHold core
+pub LocksHold-start : (shape : Shape) (core : Columns) → IsShape shape → IsStart shape core → LocksHold core
 LocksHold-start shape core is start = subst LocksHold (sym start.rows) (opening-locks shape start.mask)
 
 -- no task is queued, busy or current, and no seat has one to clear
@@ -79,14 +79,14 @@ no_rq shape mask t = each_word (λ n. n ≡ 0) (λ (w : TaskWords). w.on_rq) 0 s
 no_busy : (shape : Shape) (mask : CpuMask) (t : ℕ) → (opening shape mask).on_cpu t ≡ false
 no_busy shape mask t = each_word (λ b. b ≡ false) (λ (w : TaskWords). w.on_cpu) false shape.tasks (first_task mask) t refl refl
 
-no_current : (shape : Shape) (mask : CpuMask) (s : ℕ) → (opening shape mask).current s ≡ None
-no_current shape mask s = each_word (λ o. o ≡ None) current_of None (shape.cpus + shape.agents) first_seat s refl refl
+no_current : (shape : Shape) (mask : CpuMask) (s : ℕ) → (opening shape mask).current_task s ≡ None
+no_current shape mask s = each_word (λ o. o ≡ None) current_task_of None (shape.cpus + shape.agents) first_seat s refl refl
 
-none_left : (shape : Shape) (mask : CpuMask) (s : ℕ) → (opening shape mask).to_clear s ≡ None
-none_left shape mask s = each_word (λ o. o ≡ None) to_clear_of None (shape.cpus + shape.agents) first_seat s refl refl
+none_left : (shape : Shape) (mask : CpuMask) (s : ℕ) → (opening shape mask).task_to_clear s ≡ None
+none_left shape mask s = each_word (λ o. o ≡ None) task_to_clear_of None (shape.cpus + shape.agents) first_seat s refl refl
 
-no_body_out : (shape : Shape) (mask : CpuMask) (s : ℕ) → (opening shape mask).body_out s ≡ None
-no_body_out shape mask s = each_word (λ o. o ≡ None) body_out_of None (shape.cpus + shape.agents) first_seat s refl refl
+no_body_out : (shape : Shape) (mask : CpuMask) (s : ℕ) → (opening shape mask).body_held s ≡ None
+no_body_out shape mask s = each_word (λ o. o ≡ None) body_held_of None (shape.cpus + shape.agents) first_seat s refl refl
 
 first_place : (shape : Shape) (mask : CpuMask) (t : ℕ) → (opening shape mask).cpu t ≡ 0
 first_place shape mask t = each_word (λ n. n ≡ 0) (λ (w : TaskWords). w.cpu) 0 shape.tasks (first_task mask) t refl refl
@@ -124,7 +124,7 @@ opening-busy shape mask =
       ended = λ t e. absurd (alive shape mask t e);
     }
 
-pub BusyHolds-start : (shape : Shape) (core : Table) → IsShape shape → IsStart shape core → BusyHolds core
+pub BusyHolds-start : (shape : Shape) (core : Columns) → IsShape shape → IsStart shape core → BusyHolds core
 BusyHolds-start shape core is start = subst BusyHolds (sym start.rows) (opening-busy shape start.mask)
 
 some_same : {A : Type 0} (x y : A) → Some x ≡ Some y → x ≡ y
@@ -165,8 +165,8 @@ no_entries tasks val e =
     let r : IsWaitVal tasks [] = λ x h. absurd (grind (arith, h)) in
     subst (IsWaitVal tasks) (some_same _ val e) r
 
-none_owed : (shape : Shape) (mask : CpuMask) (s k : ℕ) → (opening shape mask).owes s k ≡ false
-none_owed shape mask s k = each_word (λ (g : ℕ → Bool). g k ≡ false) owes_of (λ l. false) (shape.cpus + shape.agents) first_seat s refl refl
+none_owed : (shape : Shape) (mask : CpuMask) (s k : ℕ) → (opening shape mask).owes_walk s k ≡ false
+none_owed shape mask s k = each_word (λ (g : ℕ → Bool). g k ≡ false) owes_walk_of (λ l. false) (shape.cpus + shape.agents) first_seat s refl refl
 
 opening-shapes : (shape : Shape) (mask : CpuMask) → IsShape shape → ((c : ℕ) → HasCpu mask c → c < shape.cpus) → ShapesHold (opening shape mask)
 opening-shapes shape mask is all =
@@ -187,26 +187,26 @@ opening-shapes shape mask is all =
       current = λ s t e. absurd (grind (arith, no_current shape mask s, e));
       to_clear = λ s t e. absurd (grind (arith, none_left shape mask s, e));
       task_values = all_home _ _ _ (IsTaskVal (length (replicate shape.cpus first_cpu)) (length (replicate (shape.cpus + shape.agents) first_seat)))
-          (λ (w : TaskWords). w.val) shape.tasks (first_task mask) task_out_of (shape.cpus + shape.agents) first_seat
+          (λ (w : TaskWords). w.val) shape.tasks (first_task mask) task_held_of (shape.cpus + shape.agents) first_seat
           (λ v e. first_named (length (replicate shape.cpus first_cpu)) (length (replicate (shape.cpus + shape.agents) first_seat)) mask v some_cpu (λ c h. subst (λ z. c < z) (sym cpus) (all c h)) e) (λ k. refl);
-      queue_values = all_home _ _ _ (IsQueueVal (length (replicate shape.tasks (first_task mask)))) (λ (w : CpuWords). w.queue) shape.cpus first_cpu queue_out_of (shape.cpus + shape.agents) first_seat
+      queue_values = all_home _ _ _ (IsQueueVal (length (replicate shape.tasks (first_task mask)))) (λ (w : CpuWords). w.queue) shape.cpus first_cpu queue_held_of (shape.cpus + shape.agents) first_seat
           (λ v e. no_named (length (replicate shape.tasks (first_task mask))) v e) (λ k. refl);
-      wait_values = all_home _ _ _ (IsWaitVal (length (replicate shape.tasks (first_task mask)))) (λ (w : CondWords). w.wait) shape.conds first_cond wait_out_of (shape.cpus + shape.agents) first_seat
+      wait_values = all_home _ _ _ (IsWaitVal (length (replicate shape.tasks (first_task mask)))) (λ (w : CondWords). w.wait) shape.conds first_cond wait_held_of (shape.cpus + shape.agents) first_seat
           (λ v e. no_entries (length (replicate shape.tasks (first_task mask))) v e) (λ k. refl);
       owes = λ s k e. absurd (grind (arith, none_owed shape mask s k, e));
     }
 
-pub ShapesHold-start : (shape : Shape) (core : Table) → IsShape shape → IsStart shape core → ShapesHold core
+pub ShapesHold-start : (shape : Shape) (core : Columns) → IsShape shape → IsStart shape core → ShapesHold core
 ShapesHold-start shape core is start = subst ShapesHold (sym start.rows) (opening-shapes shape start.mask is (λ c h. (start.all c).0 h))
 
-no_taken : (shape : Shape) (mask : CpuMask) (s c : ℕ) → (opening shape mask).queue_out s c ≡ None
-no_taken shape mask s c = each_word (λ (g : ℕ → Option Queue). g c ≡ None) queue_out_of (λ k. None) (shape.cpus + shape.agents) first_seat s refl refl
+no_taken : (shape : Shape) (mask : CpuMask) (s c : ℕ) → (opening shape mask).queue_held s c ≡ None
+no_taken shape mask s c = each_word (λ (g : ℕ → Option Queue). g c ≡ None) queue_held_of (λ k. None) (shape.cpus + shape.agents) first_seat s refl refl
 
-none_added : (shape : Shape) (mask : CpuMask) (s c t : ℕ) → (opening shape mask).added s c t ≡ false
-none_added shape mask s c t = each_word (λ (g : ℕ → ℕ → Bool). g c t ≡ false) added_of (λ k u. false) (shape.cpus + shape.agents) first_seat s refl refl
+none_added : (shape : Shape) (mask : CpuMask) (s c t : ℕ) → (opening shape mask).has_added s c t ≡ false
+none_added shape mask s c t = each_word (λ (g : ℕ → ℕ → Bool). g c t ≡ false) has_added_of (λ k u. false) (shape.cpus + shape.agents) first_seat s refl refl
 
-none_dropped : (shape : Shape) (mask : CpuMask) (s c t : ℕ) → (opening shape mask).dropped s c t ≡ false
-none_dropped shape mask s c t = each_word (λ (g : ℕ → ℕ → Bool). g c t ≡ false) dropped_of (λ k u. false) (shape.cpus + shape.agents) first_seat s refl refl
+none_dropped : (shape : Shape) (mask : CpuMask) (s c t : ℕ) → (opening shape mask).has_dropped s c t ≡ false
+none_dropped shape mask s c t = each_word (λ (g : ℕ → ℕ → Bool). g c t ≡ false) has_dropped_of (λ k u. false) (shape.cpus + shape.agents) first_seat s refl refl
 
 empty_queue : (shape : Shape) (mask : CpuMask) (c : ℕ) (val : Queue) → (opening shape mask).queue c ≡ Some val → no_tasks ≡ val
 empty_queue shape mask c val =
@@ -228,5 +228,5 @@ opening-queues shape mask =
       added = λ s c t l a r w. absurd (grind (arith, none_added shape mask s c t, a));
     }
 
-pub QueuesHold-start : (shape : Shape) (core : Table) → IsShape shape → IsStart shape core → QueuesHold core
+pub QueuesHold-start : (shape : Shape) (core : Columns) → IsShape shape → IsStart shape core → QueuesHold core
 QueuesHold-start shape core is start = subst QueuesHold (sym start.rows) (opening-queues shape start.mask)

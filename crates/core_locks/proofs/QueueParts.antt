@@ -3,7 +3,7 @@ use Rattle.std.proofs.Common.{◌≡◌, ◌≢◌, ℕ, Bool, true, false, Some
 use Rattle.std.specs.Prelude.{if◌then◌else◌, ◌==◌, IsSome}
 use Rattle.std.proofs.lemmas.Bool.Decides.{nat_tests}
 use Rattle.core_data.specs.Queue.{Queue}
-use Rattle.core_data.specs.Table.{put, put_at}
+use Rattle.core_data.specs.Columns.{put, put_at}
 use Rattle.core_gives.specs.Queues.{IsQueueOf}
 use Rattle.core_invariant.specs.Queues.{HomeQueues, LeftQueues, DroppedTasks}
 

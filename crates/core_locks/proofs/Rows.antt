@@ -1,7 +1,7 @@
 -- What columns read of rows that are all alike.
 use Rattle.std.proofs.Common.{◌≡◌, ℕ, zero, suc, ◌<◌, refl, arith}
 use Rattle.std.specs.Prelude.{replicate}
-use Rattle.core_data.specs.Table.{column}
+use Rattle.core_data.specs.Columns.{column}
 
 -- what holds of a row's word and of the word past the end holds of each word
 pub each_word : {A B : Type 0} (P : B → Type 0) (f : A → B) (d : B) (n : ℕ) (x : A) (k : ℕ) → P (f x) → P d → P (column f d (replicate n x) k)

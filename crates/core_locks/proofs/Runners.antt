@@ -4,7 +4,7 @@ use Rattle.std.specs.Prelude.{if◌then◌else◌, is_none, IsSome}
 use Rattle.std.proofs.lemmas.Bool.{cases_eq}
 use Rattle.std.proofs.lemmas.Bool.Decides.{nat_tests}
 use Rattle.core_data.specs.Queue.{Queue}
-use Rattle.core_data.specs.Table.{put, put_at}
+use Rattle.core_data.specs.Columns.{put, put_at}
 use Rattle.core_invariant.specs.Busy.{OneRunner, NamedByQueue, BodiesKept}
 
 pub OneRunner-set_busy : (on_cpu : ℕ → Bool) (cpu : ℕ → ℕ) (current to_clear : ℕ → Option ℕ) (s t : ℕ) → OneRunner on_cpu cpu current to_clear

@@ -11,7 +11,7 @@ pub mod Places
 pub mod PlacesByTests
 pub mod Positions
 pub mod PositionsByTests
-pub mod Released
+pub mod MadeRunnable
 pub mod Resting
 pub mod Running
 pub mod Seen

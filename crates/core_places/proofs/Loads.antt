@@ -5,7 +5,7 @@ use mathlib.Core.Bool.{not}
 use Rattle.std.proofs.lemmas.Bool.{cases_eq}
 use Rattle.std.proofs.lemmas.Bool.Decides.{nat_tests}
 use Rattle.std.proofs.lemmas.Nat.{and_comm, and_assoc}
-use Rattle.core_data.specs.Table.{Table, put, put_at}
+use Rattle.core_data.specs.Columns.{Columns, put, put_at}
 use Rattle.core_data.specs.declared.act.Act.TheVariants.{Passed, Matched, SawOff, SawClear, SawRest, SawRestOff, SawRestIdle}
 use Rattle.core_data.specs.declared.pos.Rq.{Rq}
 use Rattle.core_invariant.proofs.Logs.{logged, somewhere-old}
@@ -18,7 +18,7 @@ use Rattle.core_places.proofs.Claimed.{ClaimedTasks-saw_clear}
 use Rattle.core_places.proofs.Idle.{IdleTasks-saw_clear}
 use Rattle.core_places.proofs.LastReads.{CpusRead-same}
 use Rattle.core_places.proofs.Matched.{Meets, MatchedTasks-matched, MatchedTasks-saw_off}
-use Rattle.core_places.proofs.Released.{Released-matched}
+use Rattle.core_places.proofs.MadeRunnable.{MadeRunnable-matched}
 use Rattle.core_places.proofs.Resting.{RestingTasks-state_read, RestingTasks-off_read, RestingTasks-idle_read}
 use Rattle.core_places.proofs.Seen.{SeenStates-load}
 use Rattle.core_places.proofs.Told.{IsLeft, ReadsTold-forget, ReadsTold-load_busy, ReadsTold-load_rq, ReadsTold-log}
@@ -44,7 +44,7 @@ no_match_runnable x mask allowed (inl a) m = no_match x mask allowed (ap (λ z. 
 no_match_runnable x mask allowed (inr a) m = no_match x mask allowed (ap (λ z. bit_and z 0x103) a) m
 
 -- a task whose state matches is queued, or asleep off its queue
-meets_mask : (core : Table) (t : ℕ) (mask : Option State) → Holds core → IsMask mask → is_matched (core.state t) mask ≡ true → Meets core.state core.on_rq core.changes t
+meets_mask : (core : Columns) (t : ℕ) (mask : Option State) → Holds core → IsMask mask → is_matched (core.state t) mask ≡ true → Meets core.state core.on_rq core.changes t
 meets_mask core t mask holds allowed m =
     record {
       started = started;
@@ -71,61 +71,61 @@ meets_mask core t mask holds allowed m =
     ]
 
 -- a core in which seat s has just read the state x of t
-record IsRead (core : Table) (s t : ℕ) (x : State) (meets : Bool) : Type 0 where
+record IsRead (core : Columns) (s t : ℕ) (x : State) (meets : Bool) : Type 0 where
   positions : PositionsHold core
   seat : s < core.seats
   is : core.state t ≡ x
   met : meets ≡ true → Meets core.state core.on_rq core.changes t
 
-keep_state : (own : Bool) (core : Table) (s t : ℕ) (x : State) (m : Bool) → IsRead core s t x m → (own ≡ true → (core.current s ≡ Some t) × (core.queue_lock s ≡ Some s)) → IsRead (seen_if own core s x) s t x m
+keep_state : (own : Bool) (core : Columns) (s t : ℕ) (x : State) (m : Bool) → IsRead core s t x m → (own ≡ true → (core.current_task s ≡ Some t) × (core.queue_lock s ≡ Some s)) → IsRead (seen_if own core s x) s t x m
 keep_state false core s t x m r h = r
 keep_state true core s t x m r h =
     let p = r.positions in
     let o = h refl in
     record {
-      positions = assumption (p, SeenStates-load core.cpus core.state core.on_rq core.queue_lock core.current core.seen s t x p.seen o.0 o.1 r.is);
+      positions = assumption (p, SeenStates-load core.cpus core.state core.on_rq core.queue_lock core.current_task core.seen_state s t x p.seen o.0 o.1 r.is);
       seat = r.seat;
       is = r.is;
       met = r.met;
     }
 
-note_matched : (b : Bool) (core : Table) (s t : ℕ) (x : State) → IsRead core s t x b → IsRead (noted_if b core s (Matched t)) s t x b
+note_matched : (b : Bool) (core : Columns) (s t : ℕ) (x : State) → IsRead core s t x b → IsRead (noted_if b core s (Matched t)) s t x b
 note_matched false core s t x r = r
 note_matched true core s t x r =
     let p = r.positions in
     record {
       positions = assumption (
         p,
-        MatchedTasks-matched core.state core.on_rq core.changes core.lock core.unstored core.saw_off s t p.matched (r.met refl),
-        Released-matched core.state core.on_rq core.lock core.current core.matched s t p.released (r.met refl).alive,
+        MatchedTasks-matched core.state core.on_rq core.changes core.lock core.is_unstored core.saw_off s t p.matched (r.met refl),
+        MadeRunnable-matched core.state core.on_rq core.lock core.current_task core.has_matched s t p.made_runnable (r.met refl).alive,
       );
       seat = r.seat;
       is = r.is;
       met = r.met;
     }
 
-note_rest : (b : Bool) (core : Table) (s t : ℕ) (x : State) (m : Bool) → IsRead core s t x m → (b ≡ true → x ≢ waking) → IsRead (noted_if b core s (SawRest t)) s t x m
+note_rest : (b : Bool) (core : Columns) (s t : ℕ) (x : State) (m : Bool) → IsRead core s t x m → (b ≡ true → x ≢ waking) → IsRead (noted_if b core s (SawRest t)) s t x m
 note_rest false core s t x m r h = r
 note_rest true core s t x m r h =
     let p = r.positions in
     record {
-      positions = assumption (p, RestingTasks-state_read core.state core.on_rq core.on_cpu core.lock core.rest_state core.rest_off core.rest_idle s t p.resting (λ q. h refl (sym r.is ∙ q)));
+      positions = assumption (p, RestingTasks-state_read core.state core.on_rq core.on_cpu core.lock core.saw_rest core.saw_rest_off core.saw_rest_idle s t p.resting (λ q. h refl (sym r.is ∙ q)));
       seat = r.seat;
       is = r.is;
       met = r.met;
     }
 
-note_passed : (b : Bool) (core : Table) (s t : ℕ) (x : State) (m : Bool) → IsRead core s t x m → IsRead (noted_if b core s (Passed t)) s t x m
+note_passed : (b : Bool) (core : Columns) (s t : ℕ) (x : State) (m : Bool) → IsRead core s t x m → IsRead (noted_if b core s (Passed t)) s t x m
 note_passed false core s t x m r = r
 note_passed true core s t x m r = let p = r.positions in record { positions = assumption p; seat = r.seat; is = r.is; met = r.met }
 
-note_refused : (b : Bool) (core : Table) (s t : ℕ) (x : State) (m : Bool) (e : Entry) → IsRead core s t x m → PositionsHold (logged_if b core s e)
+note_refused : (b : Bool) (core : Columns) (s t : ℕ) (x : State) (m : Bool) (e : Entry) → IsRead core s t x m → PositionsHold (logged_if b core s e)
 note_refused false core s t x m e r = r.positions
 note_refused true core s t x m e r =
     let p = r.positions in
     let j = history core.cpus core.tasks core.seats core.journal in
     let k = history core.cpus core.tasks core.seats (put core.journal s (core.journal s ++ e ∷ [])) in
-    assumption (p, ReadsTold-log j k core.cpu core.on_rq core.changes core.lock core.reads (somewhere-old (logged core.cpus core.tasks core.seats core.journal s e r.seat)) p.reads)
+    assumption (p, ReadsTold-log j k core.cpu core.on_rq core.changes core.lock core.last_reads (somewhere-old (logged core.cpus core.tasks core.seats core.journal s e r.seat)) p.reads)
 
 holds_some : (o : Option ℕ) (k : ℕ) → is_some_of o k ≡ true → o ≡ Some k
 holds_some None k h = absurd (grind (arith, h))
@@ -135,42 +135,42 @@ both : (a b : Bool) → a && b ≡ true → (a ≡ true) × (b ≡ true)
 both true b h = (refl, h)
 both false b h = absurd (grind (arith, h))
 
-own_read : (core : Table) (s t : ℕ) → is_own_read core s t ≡ true → (core.current s ≡ Some t) × (core.queue_lock s ≡ Some s)
+own_read : (core : Columns) (s t : ℕ) → is_own_read core s t ≡ true → (core.current_task s ≡ Some t) × (core.queue_lock s ≡ Some s)
 own_read core s t h =
-    let r = both (is_some_of (core.current s) t) (is_some_of (core.queue_lock s) s) (both (nat_lt s core.cpus) (is_some_of (core.current s) t && is_some_of (core.queue_lock s) s) h).1 in
-    (holds_some (core.current s) t r.0, holds_some (core.queue_lock s) s r.1)
+    let r = both (is_some_of (core.current_task s) t) (is_some_of (core.queue_lock s) s) (both (nat_lt s core.cpus) (is_some_of (core.current_task s) t && is_some_of (core.queue_lock s) s) h).1 in
+    (holds_some (core.current_task s) t r.0, holds_some (core.queue_lock s) s r.1)
 
-pub PositionsHold-load_state : (core : Table) (s t : ℕ) (mask : Option State) → Holds core → MayLoadState core s t mask → PositionsHold (load_state core s t mask)
+pub PositionsHold-load_state : (core : Columns) (s t : ℕ) (mask : Option State) → Holds core → MayLoadState core s t mask → PositionsHold (load_state core s t mask)
 PositionsHold-load_state core s t mask holds may =
     let p = holds.positions in
     let j = history core.cpus core.tasks core.seats core.journal in
     let x = core.state t in
     let m = is_matched x mask in
-    let r = state_read t x (core.reads s t) in
-    let read : PositionsHold (record core { reads = put_at core.reads s t r }) = assumption (
+    let r = state_read t x (core.last_reads s t) in
+    let read : PositionsHold (record core { last_reads = put_at core.last_reads s t r }) = assumption (
       p,
-      CpusRead-same core.cpu core.lock core.reads s t r p.cpu refl,
-      ReadsTold-forget j core.cpu core.on_rq core.changes core.lock core.reads s t r p.reads refl refl,
+      CpusRead-same core.cpu core.lock core.last_reads s t r p.cpu refl,
+      ReadsTold-forget j core.cpu core.on_rq core.changes core.lock core.last_reads s t r p.reads refl refl,
     ) in
-    let first : IsRead (record core { reads = put_at core.reads s t r }) s t x m = record { positions = read; seat = may.seat; is = refl; met = meets_mask core t mask holds may.allowed } in
+    let first : IsRead (record core { last_reads = put_at core.last_reads s t r }) s t x m = record { positions = read; seat = may.seat; is = refl; met = meets_mask core t mask holds may.allowed } in
     let own = is_own_read core s t in
     let rests = not (x.0 == 0x200) in
     let passes = not (is_match x normal) in
     let awake : rests ≡ true → x ≢ waking = λ h q. grind (arith, nat_tests, ap (λ (z : State). z.0) q, h) in
     note_refused (is_refused x mask) _ s t x m (entry.Refused t x) (note_passed passes _ s t x m (note_rest rests _ s t x m (note_matched m _ s t x (keep_state own _ s t x m first (own_read core s t))) awake))
 
-saw : (b : Bool) (core : Table) (s t : ℕ) → PositionsHold core → (b ≡ true → (core.unstored s t ≡ true) × (core.on_rq t ≡ 0)) → PositionsHold (noted_if b core s (SawOff t))
+saw : (b : Bool) (core : Columns) (s t : ℕ) → PositionsHold core → (b ≡ true → (core.is_unstored s t ≡ true) × (core.on_rq t ≡ 0)) → PositionsHold (noted_if b core s (SawOff t))
 saw false core s t p h = p
-saw true core s t p h = let o = h refl in assumption (p, MatchedTasks-saw_off core.state core.on_rq core.changes core.lock core.unstored core.saw_off s t p.matched o.0 o.1)
+saw true core s t p h = let o = h refl in assumption (p, MatchedTasks-saw_off core.state core.on_rq core.changes core.lock core.is_unstored core.saw_off s t p.matched o.0 o.1)
 
-saw_rest : (b c : Bool) (core : Table) (s t : ℕ) → PositionsHold (noted_if c core s (SawOff t)) → (b ≡ true → (core.rest_state s t ≡ true) × (core.on_rq t ≡ 0)) → PositionsHold (noted_if b (noted_if c core s (SawOff t)) s (SawRestOff t))
+saw_rest : (b c : Bool) (core : Columns) (s t : ℕ) → PositionsHold (noted_if c core s (SawOff t)) → (b ≡ true → (core.saw_rest s t ≡ true) × (core.on_rq t ≡ 0)) → PositionsHold (noted_if b (noted_if c core s (SawOff t)) s (SawRestOff t))
 saw_rest false c core s t p h = p
 saw_rest true false core s t p h =
     let o = h refl in
-    assumption (p, RestingTasks-off_read core.state core.on_rq core.on_cpu core.lock core.rest_state core.rest_off core.rest_idle s t p.resting o.0 o.1)
+    assumption (p, RestingTasks-off_read core.state core.on_rq core.on_cpu core.lock core.saw_rest core.saw_rest_off core.saw_rest_idle s t p.resting o.0 o.1)
 saw_rest true true core s t p h =
     let o = h refl in
-    assumption (p, RestingTasks-off_read core.state core.on_rq core.on_cpu core.lock core.rest_state core.rest_off core.rest_idle s t p.resting o.0 o.1)
+    assumption (p, RestingTasks-off_read core.state core.on_rq core.on_cpu core.lock core.saw_rest core.saw_rest_off core.saw_rest_idle s t p.resting o.0 o.1)
 
 some_of : (b : Bool) (x y : Rq) → (if b then Some x else None) ≡ Some y → y ≡ x
 some_of true x y h = grind (arith, h)
@@ -183,7 +183,7 @@ abbrev of_bits : ℕ → State
 of_bits n = record { 0 = n }
 
 -- what the last change of a task off its queue was
-left_by : (core : Table) (t : ℕ) → Holds core → core.changes t ≢ 0 → core.on_rq t ≡ 0
+left_by : (core : Columns) (t : ℕ) → Holds core → core.changes t ≢ 0 → core.on_rq t ≡ 0
     → (c : ℕ) × (IsSomewhere (history core.cpus core.tasks core.seats core.journal) (entry.Sleep t (core.changes t) c) ⊎ IsSomewhere (history core.cpus core.tasks core.seats core.journal) (entry.Die t (core.changes t) c))
 left_by core t holds started off =
     elim (cases_eq ((core.state t).0) 0x80) [
@@ -191,74 +191,74 @@ left_by core t holds started off =
       | inr q ↦ let d = holds.journals.last_changes.off t started off (λ h. q (ap (λ (z : State). z.0) h)) in (d.0, inl d.1)
     ]
 
-pub PositionsHold-load_rq : (core : Table) (s t : ℕ) → Holds core → MayLoad core s t → PositionsHold (load_rq core s t)
+pub PositionsHold-load_rq : (core : Columns) (s t : ℕ) → Holds core → MayLoad core s t → PositionsHold (load_rq core s t)
 PositionsHold-load_rq core s t holds may =
     let p = holds.positions in
     let j = history core.cpus core.tasks core.seats core.journal in
     let on = core.on_rq t in
     let m = core.changes t in
-    let old = core.reads s t in
+    let old = core.last_reads s t in
     let r = rq_read t on m old in
-    let read : PositionsHold (record core { reads = put_at core.reads s t r }) = assumption (
+    let read : PositionsHold (record core { last_reads = put_at core.last_reads s t r }) = assumption (
       p,
-      CpusRead-same core.cpu core.lock core.reads s t r p.cpu refl,
-      ReadsTold-load_rq j core.cpu core.on_rq core.changes core.lock core.reads s t r p.reads refl refl (λ rq h. words rq h) (holds.journals.last_changes.queued t) (λ off some. left_by core t holds some off),
+      CpusRead-same core.cpu core.lock core.last_reads s t r p.cpu refl,
+      ReadsTold-load_rq j core.cpu core.on_rq core.changes core.lock core.last_reads s t r p.reads refl refl (λ rq h. words rq h) (holds.journals.last_changes.queued t) (λ off some. left_by core t holds some off),
     ) in
-    saw_rest ((on == 0) && core.rest_state s t) ((on == 0) && core.unstored s t) (record core { reads = put_at core.reads s t r }) s t
-    (saw ((on == 0) && core.unstored s t) (record core { reads = put_at core.reads s t r }) s t read (zero_test on (core.unstored s t)))
-    (zero_test on (core.rest_state s t))
+    saw_rest ((on == 0) && core.saw_rest s t) ((on == 0) && core.is_unstored s t) (record core { last_reads = put_at core.last_reads s t r }) s t
+    (saw ((on == 0) && core.is_unstored s t) (record core { last_reads = put_at core.last_reads s t r }) s t read (zero_test on (core.is_unstored s t)))
+    (zero_test on (core.saw_rest s t))
   where
-    words : (rq : Rq) → (rq_read t (core.on_rq t) (core.changes t) (core.reads s t)).rq ≡ Some rq → (rq.on ≡ core.on_rq t) × (rq.m ≡ core.changes t)
+    words : (rq : Rq) → (rq_read t (core.on_rq t) (core.changes t) (core.last_reads s t)).rq ≡ Some rq → (rq.on ≡ core.on_rq t) × (rq.m ≡ core.changes t)
     words rq h =
-        let is = some_of (is_some (core.reads s t).state) (record { on = core.on_rq t; m = core.changes t }) rq h in
+        let is = some_of (is_some (core.last_reads s t).state) (record { on = core.on_rq t; m = core.changes t }) rq h in
         (ap (λ (z : Rq). z.on) is, ap (λ (z : Rq). z.m) is)
 
-saw_clear : (b : Bool) (core : Table) (s t : ℕ) → PositionsHold core → (b ≡ true → core.on_cpu t ≡ false) → PositionsHold (noted_if b core s (SawClear t))
+saw_clear : (b : Bool) (core : Columns) (s t : ℕ) → PositionsHold core → (b ≡ true → core.on_cpu t ≡ false) → PositionsHold (noted_if b core s (SawClear t))
 saw_clear false core s t p h = p
 saw_clear true core s t p h =
     let idle = h refl in
     assumption (
       p,
-      ClaimedTasks-saw_clear core.state core.on_rq core.on_cpu core.lock core.claimed core.clear s t p.claimed idle,
-      IdleTasks-saw_clear core.on_rq core.cpu core.on_cpu core.queue_lock core.current core.idle core.added s t p.idle idle,
+      ClaimedTasks-saw_clear core.state core.on_rq core.on_cpu core.lock core.is_claimed core.saw_clear s t p.claimed idle,
+      IdleTasks-saw_clear core.on_rq core.cpu core.on_cpu core.queue_lock core.current_task core.saw_idle core.has_added s t p.idle idle,
     )
 
-saw_idle : (b c : Bool) (core : Table) (s t : ℕ) → PositionsHold (noted_if c core s (SawClear t))
-    → (b ≡ true → (core.rest_off s t ≡ true) × (core.on_cpu t ≡ false)) → PositionsHold (noted_if b (noted_if c core s (SawClear t)) s (SawRestIdle t))
+saw_idle : (b c : Bool) (core : Columns) (s t : ℕ) → PositionsHold (noted_if c core s (SawClear t))
+    → (b ≡ true → (core.saw_rest_off s t ≡ true) × (core.on_cpu t ≡ false)) → PositionsHold (noted_if b (noted_if c core s (SawClear t)) s (SawRestIdle t))
 saw_idle false c core s t p h = p
 saw_idle true false core s t p h =
     let o = h refl in
-    assumption (p, RestingTasks-idle_read core.state core.on_rq core.on_cpu core.lock core.rest_state core.rest_off core.rest_idle s t p.resting o.0 o.1)
+    assumption (p, RestingTasks-idle_read core.state core.on_rq core.on_cpu core.lock core.saw_rest core.saw_rest_off core.saw_rest_idle s t p.resting o.0 o.1)
 saw_idle true true core s t p h =
     let o = h refl in
-    assumption (p, RestingTasks-idle_read core.state core.on_rq core.on_cpu core.lock core.rest_state core.rest_off core.rest_idle s t p.resting o.0 o.1)
+    assumption (p, RestingTasks-idle_read core.state core.on_rq core.on_cpu core.lock core.saw_rest core.saw_rest_off core.saw_rest_idle s t p.resting o.0 o.1)
 
 not_true : (b : Bool) → not b ≡ true → b ≡ false
 not_true false h = refl
 not_true true h = absurd (grind (arith, h))
 
-pub PositionsHold-load_busy : (core : Table) (s t : ℕ) → Holds core → MayLoad core s t → PositionsHold (load_busy core s t)
+pub PositionsHold-load_busy : (core : Columns) (s t : ℕ) → Holds core → MayLoad core s t → PositionsHold (load_busy core s t)
 PositionsHold-load_busy core s t holds may =
     let p = holds.positions in
     let j = history core.cpus core.tasks core.seats core.journal in
     let busy = core.on_cpu t in
-    let r = busy_read t busy (core.reads s t) in
-    let read : PositionsHold (record core { reads = put_at core.reads s t r }) = assumption (
+    let r = busy_read t busy (core.last_reads s t) in
+    let read : PositionsHold (record core { last_reads = put_at core.last_reads s t r }) = assumption (
       p,
-      CpusRead-same core.cpu core.lock core.reads s t r p.cpu refl,
-      ReadsTold-load_busy j core.cpu core.on_rq core.changes core.lock core.reads s t r p.reads refl refl (left),
+      CpusRead-same core.cpu core.lock core.last_reads s t r p.cpu refl,
+      ReadsTold-load_busy j core.cpu core.on_rq core.changes core.lock core.last_reads s t r p.reads refl refl (left),
     ) in
-    saw_idle (not busy && core.rest_off s t) (not busy) (record core { reads = put_at core.reads s t r }) s t
-    (saw_clear (not busy) (record core { reads = put_at core.reads s t r }) s t read (not_true busy))
-    (λ h. let o = both (not busy) (core.rest_off s t) h in (o.1, not_true busy o.0))
+    saw_idle (not busy && core.saw_rest_off s t) (not busy) (record core { last_reads = put_at core.last_reads s t r }) s t
+    (saw_clear (not busy) (record core { last_reads = put_at core.last_reads s t r }) s t read (not_true busy))
+    (λ h. let o = both (not busy) (core.saw_rest_off s t) h in (o.1, not_true busy o.0))
   where
     -- only a task that is busy is read so
     is_busy : (b busy : Bool) → (if b then Some busy else None) ≡ Some true → busy ≡ true
     is_busy true busy h = grind (arith, h)
     is_busy false busy h = absurd (grind (arith, h))
 
-    left : (busy_read t (core.on_cpu t) (core.reads s t)).busy ≡ Some true → core.on_rq t ≡ 0 → IsLeft (history core.cpus core.tasks core.seats core.journal) t (core.changes t) (core.cpu t)
-    left b off = elim (holds.journals.last_changes.leaving t off (is_busy (is_some (core.reads s t).rq) (core.on_cpu t) b)) [
+    left : (busy_read t (core.on_cpu t) (core.last_reads s t)).busy ≡ Some true → core.on_rq t ≡ 0 → IsLeft (history core.cpus core.tasks core.seats core.journal) t (core.changes t) (core.cpu t)
+    left b off = elim (holds.journals.last_changes.leaving t off (is_busy (is_some (core.last_reads s t).rq) (core.on_cpu t) b)) [
       | inl a ↦ inl (core.cpu t, a)
       | inr a ↦ inr (core.cpu t, a)
     ]

@@ -4,7 +4,7 @@ use Rattle.std.specs.Prelude.{if◌then◌else◌, ◌==◌}
 use Rattle.std.proofs.lemmas.Bool.{cases_eq}
 use Rattle.std.proofs.lemmas.Bool.Decides.{nat_tests}
 use Rattle.core_data.specs.Queue.{Queue, times_in}
-use Rattle.core_data.specs.Table.{put}
+use Rattle.core_data.specs.Columns.{put}
 use Rattle.core_gives.specs.Queues.{IsQueueOf, times, is_some_of}
 use Rattle.core_invariant.proofs.Puts.{put_here, put_there}
 use Rattle.core_invariant.specs.Places.{CurrentTasks, WaitingTasks, MovingTasks}

@@ -4,7 +4,7 @@ use Rattle.std.specs.Prelude.{◌↔◌, replicate}
 use Rattle.std.proofs.lemmas.List.{length-replicate}
 use Rattle.core_data.specs.Found.{no_reads}
 use Rattle.core_data.specs.Opening.{IsStart, first_task, first_cpu, first_cond, first_seat}
-use Rattle.core_data.specs.Table.{Table, table_of, column, current_of, task_out_of, seen_of, saw_off_of, claimed_of, rest_off_of, rest_idle_of, reads_of}
+use Rattle.core_data.specs.Columns.{Columns, columns_of, column, current_task_of, task_held_of, seen_state_of, saw_off_of, is_claimed_of, saw_rest_off_of, saw_rest_idle_of, last_reads_of}
 use Rattle.core_data.specs.declared.pos.Rq.{Rq}
 use Rattle.core_data.specs.declared.pos.TaskReads.{TaskReads}
 use Rattle.core_data.specs.declared.values.TaskVal.{TaskVal}
@@ -35,8 +35,8 @@ column-within f d zero x k h = absurd (omega arith)
 column-within f d (suc n) x zero h = refl
 column-within f d (suc n) x (suc k) h = column-within f d n x k (omega arith)
 
-abbrev opening : Shape → CpuMask → Table
-opening shape mask = table_of shape (replicate shape.tasks (first_task mask)) (replicate shape.cpus first_cpu) (replicate shape.conds first_cond) (replicate (shape.cpus + shape.agents) first_seat)
+abbrev opening : Shape → CpuMask → Columns
+opening shape mask = columns_of shape (replicate shape.tasks (first_task mask)) (replicate shape.cpus first_cpu) (replicate shape.conds first_cond) (replicate (shape.cpus + shape.agents) first_seat)
 
 on_rq-start : (shape : Shape) (mask : CpuMask) (t : ℕ) → (opening shape mask).on_rq t ≡ 0
 on_rq-start shape mask t = column-blank (λ (w : TaskWords). w.on_rq) 0 shape.tasks (first_task mask) t refl
@@ -56,29 +56,29 @@ lock-start shape mask t = column-blank (λ (w : TaskWords). w.lock) None shape.t
 queue_lock-start : (shape : Shape) (mask : CpuMask) (c : ℕ) → (opening shape mask).queue_lock c ≡ None
 queue_lock-start shape mask c = column-blank (λ (w : CpuWords). w.queue_lock) None shape.cpus first_cpu c refl
 
-current-start : (shape : Shape) (mask : CpuMask) (s : ℕ) → (opening shape mask).current s ≡ None
-current-start shape mask s = column-blank current_of None (shape.cpus + shape.agents) first_seat s refl
+current-start : (shape : Shape) (mask : CpuMask) (s : ℕ) → (opening shape mask).current_task s ≡ None
+current-start shape mask s = column-blank current_task_of None (shape.cpus + shape.agents) first_seat s refl
 
-seen-start : (shape : Shape) (mask : CpuMask) (s : ℕ) → (opening shape mask).seen s ≡ None
-seen-start shape mask s = column-blank seen_of None (shape.cpus + shape.agents) first_seat s refl
+seen-start : (shape : Shape) (mask : CpuMask) (s : ℕ) → (opening shape mask).seen_state s ≡ None
+seen-start shape mask s = column-blank seen_state_of None (shape.cpus + shape.agents) first_seat s refl
 
-task_out-start : (shape : Shape) (mask : CpuMask) (s t : ℕ) → (opening shape mask).task_out s t ≡ None
-task_out-start shape mask s t = ap (λ f. f t) (column-blank task_out_of (λ u. None) (shape.cpus + shape.agents) first_seat s refl)
+task_out-start : (shape : Shape) (mask : CpuMask) (s t : ℕ) → (opening shape mask).task_held s t ≡ None
+task_out-start shape mask s t = ap (λ f. f t) (column-blank task_held_of (λ u. None) (shape.cpus + shape.agents) first_seat s refl)
 
 saw_off-start : (shape : Shape) (mask : CpuMask) (s t : ℕ) → (opening shape mask).saw_off s t ≡ false
 saw_off-start shape mask s t = ap (λ f. f t) (column-blank saw_off_of (λ u. false) (shape.cpus + shape.agents) first_seat s refl)
 
-claimed-start : (shape : Shape) (mask : CpuMask) (s t : ℕ) → (opening shape mask).claimed s t ≡ false
-claimed-start shape mask s t = ap (λ f. f t) (column-blank claimed_of (λ u. false) (shape.cpus + shape.agents) first_seat s refl)
+claimed-start : (shape : Shape) (mask : CpuMask) (s t : ℕ) → (opening shape mask).is_claimed s t ≡ false
+claimed-start shape mask s t = ap (λ f. f t) (column-blank is_claimed_of (λ u. false) (shape.cpus + shape.agents) first_seat s refl)
 
-rest_off-start : (shape : Shape) (mask : CpuMask) (s t : ℕ) → (opening shape mask).rest_off s t ≡ false
-rest_off-start shape mask s t = ap (λ f. f t) (column-blank rest_off_of (λ u. false) (shape.cpus + shape.agents) first_seat s refl)
+rest_off-start : (shape : Shape) (mask : CpuMask) (s t : ℕ) → (opening shape mask).saw_rest_off s t ≡ false
+rest_off-start shape mask s t = ap (λ f. f t) (column-blank saw_rest_off_of (λ u. false) (shape.cpus + shape.agents) first_seat s refl)
 
-rest_idle-start : (shape : Shape) (mask : CpuMask) (s t : ℕ) → (opening shape mask).rest_idle s t ≡ false
-rest_idle-start shape mask s t = ap (λ f. f t) (column-blank rest_idle_of (λ u. false) (shape.cpus + shape.agents) first_seat s refl)
+rest_idle-start : (shape : Shape) (mask : CpuMask) (s t : ℕ) → (opening shape mask).saw_rest_idle s t ≡ false
+rest_idle-start shape mask s t = ap (λ f. f t) (column-blank saw_rest_idle_of (λ u. false) (shape.cpus + shape.agents) first_seat s refl)
 
-reads-start : (shape : Shape) (mask : CpuMask) (s t : ℕ) → (opening shape mask).reads s t ≡ no_reads t
-reads-start shape mask s t = ap (λ f. f t) (column-blank reads_of (λ u. no_reads u) (shape.cpus + shape.agents) first_seat s refl)
+reads-start : (shape : Shape) (mask : CpuMask) (s t : ℕ) → (opening shape mask).last_reads s t ≡ no_reads t
+reads-start shape mask s t = ap (λ f. f t) (column-blank last_reads_of (λ u. no_reads u) (shape.cpus + shape.agents) first_seat s refl)
 
 state-runnable : (shape : Shape) (mask : CpuMask) (t : ℕ) → IsRunnable ((opening shape mask).state t)
 state-runnable shape mask t =
@@ -134,7 +134,7 @@ PositionsHold-opening shape mask =
         saw_after = λ s t h. absurd (grind (arith, saw_off-start shape mask s t, h));
         off = λ s t l h. on_rq-start shape mask t;
       };
-      released = λ s t l h q c. absurd (locked t s l);
+      made_runnable = λ s t l h q c. absurd (locked t s l);
       claimed = record {
         locked = λ s t h. absurd (claims s t h);
         off = λ s t h. on_rq-start shape mask t;
@@ -169,17 +169,17 @@ PositionsHold-opening shape mask =
     locked : (t s : ℕ) → (opening shape mask).lock t ≡ Some s → ⊥
     locked t s h = grind (arith, lock-start shape mask t, h)
 
-    no_rq : (s t : ℕ) (rq : Rq) → ((opening shape mask).reads s t).rq ≡ Some rq → ⊥
+    no_rq : (s t : ℕ) (rq : Rq) → ((opening shape mask).last_reads s t).rq ≡ Some rq → ⊥
     no_rq s t rq e = let none = ap (λ (x : TaskReads). x.rq) (reads-start shape mask s t) in grind (arith, none, e)
 
-    no_number : (s t m : ℕ) → ((opening shape mask).reads s t).number ≡ Some m → ⊥
+    no_number : (s t m : ℕ) → ((opening shape mask).last_reads s t).number ≡ Some m → ⊥
     no_number s t m e = let none = ap (λ (x : TaskReads). x.number) (reads-start shape mask s t) in grind (arith, none, e)
 
-    claims : (s t : ℕ) → (opening shape mask).claimed s t ≡ true → ⊥
+    claims : (s t : ℕ) → (opening shape mask).is_claimed s t ≡ true → ⊥
     claims s t h = grind (arith, claimed-start shape mask s t, h)
 
-pub PlacesHold-start : (shape : Shape) (core : Table) → IsShape shape → IsStart shape core → PlacesHold core
+pub PlacesHold-start : (shape : Shape) (core : Columns) → IsShape shape → IsStart shape core → PlacesHold core
 PlacesHold-start shape core is start = subst PlacesHold (sym start.rows) (PlacesHold-opening shape start.mask start.all)
 
-pub PositionsHold-start : (shape : Shape) (core : Table) → IsShape shape → IsStart shape core → PositionsHold core
+pub PositionsHold-start : (shape : Shape) (core : Columns) → IsShape shape → IsStart shape core → PositionsHold core
 PositionsHold-start shape core is start = subst PositionsHold (sym start.rows) (PositionsHold-opening shape start.mask)

@@ -57,7 +57,7 @@ fn a_misspelt_word_is_refused(rt: HostRuntime) -> Result<(), Fail> {
         "0 take_wait 0 ; not 0 give_wait 0 plane 0",
         "0 take_works 0 ; not 0 give_works 0 nothin",
         "0 take_task 0 ; not 0 give_task 0 stod",
-        "not 0 own_state 0 TASK_WALKING",
+        "not 0 set_state 0 TASK_WALKING",
         "not 0 body_home 0 end",
         "journal 0 now 0 1 0",
         "journl 0",
@@ -150,11 +150,11 @@ fn a_wake_finds_its_task_queued_and_for_another_wait(rt: HostRuntime) -> Result<
         "
         start_0 ; pick_0 ; prepare_0 ;
         1 take_task 0 ; 1 load_state 0 TASK_NORMAL ; 1 load_rq 0 ;
-        0 load_cond 0 ; 0 own_state 0 TASK_RUNNING ; 0 take_wait 0 ; 0 give_wait 0 nobody ;
-        0 take_wait 1 ; 0 own_state 0 TASK_INTERRUPTIBLE ; 0 give_wait 1 plain 0 ;
-        1 take_queue 0 ; 1 store_running 0 ; 1 give_queue 0 cur 0 left - waiting ; 1 give_task 0 ;
+        0 load_cond 0 ; 0 set_state 0 TASK_RUNNING ; 0 take_wait 0 ; 0 give_wait 0 nobody ;
+        0 take_wait 1 ; 0 set_state 0 TASK_INTERRUPTIBLE ; 0 give_wait 1 plain 0 ;
+        1 take_queue 0 ; 1 make_runnable 0 ; 1 give_queue 0 cur 0 left - waiting ; 1 give_task 0 ;
         0 load_cond 1 ; 0 take_queue 0 ; 0 load_state 0 - ; 0 give_queue 0 cur 0 left - waiting ;
-        0 take_wait 1 ; 0 own_state 0 TASK_INTERRUPTIBLE ; 0 give_wait 1 plain 0 ; 0 load_cond 1 ;
+        0 take_wait 1 ; 0 set_state 0 TASK_INTERRUPTIBLE ; 0 give_wait 1 plain 0 ; 0 load_cond 1 ;
         journal 0 new 0 1 0 , pick 0 1 0 ;
         journal 1 ;
         ",
@@ -190,12 +190,12 @@ fn a_walk_that_skips_an_entry_is_still_owed(rt: HostRuntime) -> Result<(), Fail>
 
         opening ;
         start_0 ; pick_0 ; prepare_0 ;
-        1 take_wait 0 ; 1 bump 0 ; 0 own_state 0 TASK_RUNNING ; 1 load_state 0 - ; 1 give_wait 0 plain 0 ;
+        1 take_wait 0 ; 1 bump 0 ; 0 set_state 0 TASK_RUNNING ; 1 load_state 0 - ; 1 give_wait 0 plain 0 ;
         owes 1 0 ;
 
         opening ;
         start_0 ; pick_0 ; prepare_0 ;
-        1 bump 0 ; 1 take_wait 0 ; 0 own_state 0 TASK_RUNNING ; 1 load_state 0 - ; 1 give_wait 0 plain 0 ;
+        1 bump 0 ; 1 take_wait 0 ; 0 set_state 0 TASK_RUNNING ; 1 load_state 0 - ; 1 give_wait 0 plain 0 ;
         owes_not 1 0 ;
         ",
     )?;
@@ -209,7 +209,7 @@ fn an_entry_is_taken_out_by_its_waker(rt: HostRuntime) -> Result<(), Fail> {
         &rt,
         "
         start_0 ; pick_0 ;
-        0 take_wait 0 ; 0 own_state 0 TASK_INTERRUPTIBLE ; 0 give_wait 0 exclusive 0 ; 0 load_cond 0 ;
+        0 take_wait 0 ; 0 set_state 0 TASK_INTERRUPTIBLE ; 0 give_wait 0 exclusive 0 ; 0 load_cond 0 ;
         leave_0 ; clear_0 ;
         1 bump 0 ; 1 take_wait 0 ;
         claim_0 ; enqueue_0 ;

@@ -6,7 +6,7 @@ use Rattle.std.proofs.lemmas.Bool.Decides.{nat_tests}
 use mathlib.Core.Bool.{not}
 use Rattle.core_data.specs.Entries.{same_truth, same_entry, any_from, has_entry, is_gone}
 use Rattle.core_data.specs.Noted.{given_asleep}
-use Rattle.core_data.specs.Table.{put}
+use Rattle.core_data.specs.Columns.{put}
 use Rattle.core_data.specs.declared.values.WaitEntry.{WaitEntry}
 use Rattle.core_gives.specs.Waits.{has_task, is_walk, sleeper_of}
 use Rattle.core_invariant.proofs.Puts.{put_here, put_there}

@@ -3,7 +3,7 @@ use Rattle.std.proofs.Common.{◌≡◌, ◌≢◌, ℕ, ◌≤◌, ◌⊎◌, i
 use Rattle.std.proofs.lemmas.Bool.{cases_eq}
 use Rattle.std.proofs.lemmas.Bool.Decides.{nat_tests}
 use mathlib.Core.Bool.{not}
-use Rattle.core_data.specs.Table.{Table}
+use Rattle.core_data.specs.Columns.{Columns}
 use Rattle.core_invariant.specs.Invariant.{Holds}
 use Rattle.core_invariant.specs.Sleepers.{IsAwake}
 use Rattle.core_kinds.specs.Steps.{running, waking, dead, fresh, normal, is_sleep, is_match, IsRunnable}
@@ -30,14 +30,14 @@ is_or_not (Some j) t = elim (cases_eq j t) [ inl e ↦ inl (ap Some e) | inr e �
 three : (n : ℕ) → n ≤ 2 → (n ≡ 0) ⊎ ((n ≡ 1) ⊎ (n ≡ 2))
 three n h = elim (cases_eq n 0) [ inl a ↦ inl a | inr a ↦ elim (cases_eq n 1) [ inl b ↦ inr (inl b) | inr b ↦ inr (inr (omega (arith, a, b, h))) ] ]
 
-queued_known : (core : Table) (t : ℕ) → Holds core → core.on_rq t ≡ 1 → IsKnown (core.state t)
+queued_known : (core : Columns) (t : ℕ) → Holds core → core.on_rq t ≡ 1 → IsKnown (core.state t)
 queued_known core t holds on =
-    elim (is_or_not (core.current (core.cpu t)) t) [
+    elim (is_or_not (core.current_task (core.cpu t)) t) [
       | inl is ↦ elim (holds.places.current (core.cpu t) t is on) [ inl r ↦ inl r | inr (inl z) ↦ inr (inl z) | inr (inr d) ↦ inr (inr (inl d)) ]
-      | inr other ↦ elim (holds.places.waiting t on (λ s e. other (ap core.current (holds.busy.runner.current_here s t e) ∙ e))) [ inl r ↦ inl r | inr w ↦ inr (inr (inr w.0)) ]
+      | inr other ↦ elim (holds.places.waiting t on (λ s e. other (ap core.current_task (holds.busy.runner.current_here s t e) ∙ e))) [ inl r ↦ inl r | inr w ↦ inr (inr (inr w.0)) ]
     ]
 
-pub known : (core : Table) (t : ℕ) → Holds core → IsKnown (core.state t)
+pub known : (core : Columns) (t : ℕ) → Holds core → IsKnown (core.state t)
 known core t holds =
     elim (cases_eq (core.changes t) 0) [
       | inl new ↦ inl (holds.places.new_states.runnable t new)
@@ -52,7 +52,7 @@ sleep-matches : (x : State) → is_sleep x ≡ true → is_match x normal ≡ tr
 sleep-matches x h = elim (sleep-is x h) [ inl e ↦ ap (λ n. is_match (record { 0 = n }) normal) e | inr e ↦ ap (λ n. is_match (record { 0 = n }) normal) e ]
 
 -- one that TASK_NORMAL doesn't match is awake, or never ran
-pub unmatched : (core : Table) (t : ℕ) → Holds core → not (is_match (core.state t) normal) ≡ true → IsAwake (core.state t) ⊎ (core.state t ≡ fresh)
+pub unmatched : (core : Columns) (t : ℕ) → Holds core → not (is_match (core.state t) normal) ≡ true → IsAwake (core.state t) ⊎ (core.state t ≡ fresh)
 unmatched core t holds h =
     elim (known core t holds) [
       | inl r ↦ elim (runnable-is (core.state t) r) [ inl e ↦ inl (inl e) | inr e ↦ inr e ]
@@ -62,7 +62,7 @@ unmatched core t holds h =
     ]
 
 -- a task that is awake or never ran is safe whatever is owed
-pub safe_at : (core : Table) (t : ℕ) → Holds core → IsAwake (core.state t) ⊎ (core.state t ≡ fresh) → (s k : ℕ) → IsAwake (core.state t) ⊎ (core.test s t k ≡ None)
+pub safe_at : (core : Columns) (t : ℕ) → Holds core → IsAwake (core.state t) ⊎ (core.state t ≡ fresh) → (s k : ℕ) → IsAwake (core.state t) ⊎ (core.tested s t k ≡ None)
 safe_at core t holds h s k = elim h [ inl a ↦ inl a | inr e ↦ inr (holds.sleepers.fresh_test s t k e) ]
 
 pub asleep_not : (x : State) → IsAwake x ⊎ (x ≡ fresh) → is_sleep x ≡ false

@@ -3,7 +3,7 @@ use Rattle.std.proofs.Common.{◌≡◌, ◌≢◌, ℕ, ◌==◌, ◌⊎◌, in
 use Rattle.std.specs.Prelude.{if◌then◌else◌}
 use Rattle.std.proofs.lemmas.Bool.{cases_eq}
 use Rattle.std.proofs.lemmas.Bool.Decides.{nat_tests}
-use Rattle.core_data.specs.Table.{Table, put, put_at}
+use Rattle.core_data.specs.Columns.{Columns, put, put_at}
 use Rattle.core_invariant.proofs.Puts.{put_here, put_there}
 use Rattle.core_invariant.specs.Invariant.{Holds}
 use Rattle.core_invariant.specs.Sleepers.{SleepersHold, IsSafeSleeper, IsSafeBeside}
@@ -62,43 +62,43 @@ still_owed retaken passed s l x k u h =
       ]
     ]
 
-safe-taken : (core : Table) (s l k u : ℕ) → IsSafeSleeper core k u → IsSafeSleeper (take_wait core s l) k u
-safe-taken core s l k u h = safe-by core.state core.cpu core.cond core.test k u (λ o. inr (inr (o.0, o.1, still_owed core.retaken core.passed s l o.0 k u o.2))) h
+safe-taken : (core : Columns) (s l k u : ℕ) → IsSafeSleeper core k u → IsSafeSleeper (take_wait core s l) k u
+safe-taken core s l k u h = safe-by core.state core.cpu core.cond core.tested k u (λ o. inr (inr (o.0, o.1, still_owed core.has_retaken core.has_passed s l o.0 k u o.2))) h
 
-beside-taken : (core : Table) (s l y k u : ℕ) → k ≢ l → IsSafeBeside core y k u → IsSafeBeside (take_wait core s l) y k u
+beside-taken : (core : Columns) (s l y k u : ℕ) → k ≢ l → IsSafeBeside core y k u → IsSafeBeside (take_wait core s l) y k u
 beside-taken core s l y k u n h =
-    safe-by core.state core.cpu core.cond core.test k u
-    (λ o. inr (inr (o.0, o.1, elim o.2 [ inl r ↦ inl (retakes-other core.retaken s l o.0 k (λ _. n) ∙ r) | inr p ↦ inr (p.0, reset-false core.passed s l o.0 k u p.1) ]))) h
+    safe-by core.state core.cpu core.cond core.tested k u
+    (λ o. inr (inr (o.0, o.1, elim o.2 [ inl r ↦ inl (retakes-other core.has_retaken s l o.0 k (λ _. n) ∙ r) | inr p ↦ inr (p.0, reset-false core.has_passed s l o.0 k u p.1) ]))) h
 
 held-other : (wait_lock : ℕ → Option ℕ) (s l k x : ℕ) → put wait_lock l (Some s) k ≡ Some x → ((k ≡ l) × (x ≡ s)) ⊎ ((k ≢ l) × (wait_lock k ≡ Some x))
 held-other wait_lock s l k x h = elim (home-put wait_lock l (Some s) k x h) [ inl a ↦ inl (a.0, (let e = a.1 in grind (arith, e))) | inr a ↦ inr a ]
 
-pub SleepersHold-take_wait : (core : Table) (s k : ℕ) → Holds core → MayTakeWait core s k → SleepersHold (take_wait core s k)
+pub SleepersHold-take_wait : (core : Columns) (s k : ℕ) → Holds core → MayTakeWait core s k → SleepersHold (take_wait core s k)
 SleepersHold-take_wait core s l holds may =
     let h = holds.sleepers in
     record {
       once = record {
         at_home = λ k v w. elim (home-put core.wait l None k v w) [ inl a ↦ absurd (no_some a.1) | inr a ↦ h.once.at_home k v a.1 ];
-        taken = λ x k v w. elim (out-put core.wait_out s l (core.wait l) x k v w) [ inl a ↦ h.once.at_home l v a.2 | inr a ↦ h.once.taken x k v a.1 ];
+        taken = λ x k v w. elim (out-put core.wait_held s l (core.wait l) x k v w) [ inl a ↦ h.once.at_home l v a.2 | inr a ↦ h.once.taken x k v a.1 ];
       };
       safe_home = λ k u entries w e. elim (home-put core.wait l None k entries w) [ inl a ↦ absurd (no_some a.1) | inr a ↦ safe-taken core s l k u (h.safe_home k u entries a.1 e) ];
-      safe_out = λ x k u taken w e. elim (out-put core.wait_out s l (core.wait l) x k taken w) [
+      safe_out = λ x k u taken w e. elim (out-put core.wait_held s l (core.wait l) x k taken w) [
         | inl a ↦ safe-taken core s l k u (h.safe_home k u taken (ap core.wait a.1 ∙ a.2) e)
         | inr a ↦ safe-taken core s l k u (h.safe_out x k u taken a.1 e)
       ];
       safe_passed = λ x k u w p.
-          let r = reset-true core.passed s l x k u p in
+          let r = reset-true core.has_passed s l x k u p in
           elim (held-other core.wait_lock s l k x w) [ inl a ↦ absurd (r.1 a.1 a.0) | inr a ↦ safe-taken core s l k u (h.safe_passed x k u a.1 r.0) ];
       safe_stored = λ x k u w c o.
-          let r = reset-true core.own_stored s l x k u o in
+          let r = reset-true core.has_own_stored s l x k u o in
           elim (held-other core.wait_lock s l k x w) [ inl a ↦ absurd (r.1 a.1 a.0) | inr a ↦ beside-taken core s l x k u a.0 (h.safe_stored x k u a.1 c r.0) ];
       entry_home = λ k u entries a z w. elim (home-put core.wait l None k entries w) [ inl b ↦ absurd (no_some b.1) | inr b ↦ h.entry_home k u entries a z b.1 ];
-      entry_out = λ x k u taken a z w. elim (out-put core.wait_out s l (core.wait l) x k taken w) [
+      entry_out = λ x k u taken a z w. elim (out-put core.wait_held s l (core.wait l) x k taken w) [
         | inl b ↦ h.entry_home k u taken a z (ap core.wait b.1 ∙ b.2)
         | inr b ↦ h.entry_out x k u taken a z b.1
       ];
       passed_awake = λ x k u w p a.
-          let r = reset-true core.passed s l x k u p in
+          let r = reset-true core.has_passed s l x k u p in
           elim (held-other core.wait_lock s l k x w) [ inl b ↦ absurd (r.1 b.1 b.0) | inr b ↦ h.passed_awake x k u b.1 r.0 a ];
       fresh_slept = h.fresh_slept;
       fresh_test = h.fresh_test;

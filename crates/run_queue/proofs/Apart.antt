@@ -10,7 +10,7 @@ use Rattle.run_queue.specs.Queueing.{placed}
 use Rattle.run_queue.specs.Rests.{IsApart}
 use Rattle.task_words.proofs.Frames.{untouched_still, untouched_again, untouched_next}
 use Rattle.word_steps.specs.Folds.{put_column_if, has_passed}
-use Rattle.word_steps.specs.Records.{Rec, Took, Gave, Queued, Claimed, Released, LoadedState, LoadedRq, LoadedBusy, LoadedCpu, StoredCpu}
+use Rattle.word_steps.specs.Records.{Rec, Took, Gave, Queued, Claimed, MadeRunnable, LoadedState, LoadedRq, LoadedBusy, LoadedCpu, StoredCpu}
 use Rattle.word_steps.specs.declared.val.Val.TheVariants as val
 use mathlib.Core.Bool.{not}
 
@@ -121,8 +121,8 @@ module _ (old : List Rec) where
   pub claimed_apart : (t m : ℕ) → IsApart old (Claimed t m ∷ old)
   claimed_apart t m = record { untouched = untouched_next old (Claimed t m) refl; waits = refl; owes = refl; retaken = refl; passed = λ k u e. grind (arith, nat_tests, e) }
 
-  pub released_apart : (t : ℕ) → IsApart old (Released t ∷ old)
-  released_apart t = record { untouched = untouched_next old (Released t) refl; waits = refl; owes = refl; retaken = refl; passed = λ k u e. grind (arith, nat_tests, e) }
+  pub made_runnable_apart : (t : ℕ) → IsApart old (MadeRunnable t ∷ old)
+  made_runnable_apart t = record { untouched = untouched_next old (MadeRunnable t) refl; waits = refl; owes = refl; retaken = refl; passed = λ k u e. grind (arith, nat_tests, e) }
 
   pub state_apart : (t : ℕ) (mask : Option State) (state : State) → IsApart old (LoadedState t mask state ∷ old)
   state_apart t mask state = record { untouched = untouched_next old (LoadedState t mask state) refl; waits = refl; owes = refl; retaken = refl; passed = λ k u e. passed_if (not (is_match state normal)) t (has_passed old) k u e }

@@ -8,7 +8,7 @@ use Rattle.core_data.specs.declared.values.TaskVal.{TaskVal}
 use Rattle.core_kinds.specs.Steps.{fresh}
 use Rattle.handoff_data.specs.declared.shape.Shape.{Shape}
 use Rattle.handoff_data.specs.declared.state.State.{State}
-use Rattle.run_queue.proofs.Apart.{apart_again, took_task_apart, gave_task_apart, took_queue_apart, gave_queue_apart, queued_apart, rq_apart, released_apart, state_apart, placed_apart}
+use Rattle.run_queue.proofs.Apart.{apart_again, took_task_apart, gave_task_apart, took_queue_apart, gave_queue_apart, queued_apart, rq_apart, made_runnable_apart, state_apart, placed_apart}
 use Rattle.run_queue.specs.Queueing.{pushed, placed}
 use Rattle.run_queue.specs.Rests.{Rests, IsApart}
 use Rattle.run_queue.specs.Starts.{queued_new}
@@ -16,14 +16,14 @@ use Rattle.word_rule.proofs.Uses.{gives_put}
 use Rattle.word_rule.specs.May.{MayGiveQueueVal, MayGiveTaskVal}
 use Rattle.word_rule.specs.Told.{TakenQueue}
 use Rattle.word_steps.specs.Folds.{task_held, queue_held, current_task, task_to_clear, is_claimed}
-use Rattle.word_steps.specs.Records.{Rec, Took, Gave, Queued, Released, LoadedState, LoadedRq, LoadedCpu, StoredCpu}
+use Rattle.word_steps.specs.Records.{Rec, Took, Gave, Queued, MadeRunnable, LoadedState, LoadedRq, LoadedCpu, StoredCpu}
 use Rattle.word_steps.specs.declared.val.Val.TheVariants as val
 
 module _ (shape : Shape) (s t c : ℕ) (v : Queue) (rs : List Rec) where
-  pub give_new_may : TakenQueue shape s (Released t ∷ rs) c v
-      → MayGiveQueueVal s (Queued t c 0 0 ∷ Took c (val.Queue v) ∷ Released t ∷ rs) shape c (pushed t v)
+  pub give_new_may : TakenQueue shape s (MadeRunnable t ∷ rs) c v
+      → MayGiveQueueVal s (Queued t c 0 0 ∷ Took c (val.Queue v) ∷ MadeRunnable t ∷ rs) shape c (pushed t v)
   give_new_may told =
-      gives_put shape s c v (Released t ∷ rs) told t 0 0 (pushed t v) (inl refl) (λ u. grind (arith, nat_tests, times_in-push v.waiting t u)) refl refl
+      gives_put shape s c v (MadeRunnable t ∷ rs) told t 0 0 (pushed t v) (inl refl) (λ u. grind (arith, nat_tests, times_in-push v.waiting t u)) refl refl
 
 -- the lock of the task is still held after the start
 pub held_started : (t c from on : ℕ) (v : TaskVal) (q : Queue) (rs : List Rec)
@@ -61,11 +61,11 @@ first_apart t on v old =
 
 queued_new_apart : (t c : ℕ) (q : Queue) (old : List Rec) → IsApart old (queued_new t c q old)
 queued_new_apart t c q old =
-    let a = Released t ∷ old in
+    let a = MadeRunnable t ∷ old in
     let b = Took c (val.Queue q) ∷ a in
     let d = Queued t c 0 0 ∷ b in
     apart_again old d (Gave c (val.Queue q) (val.Queue (pushed t q)) ∷ d)
-    (apart_again old b d (apart_again old a b (released_apart old t) (took_queue_apart a c q)) (queued_apart b t c 0 0))
+    (apart_again old b d (apart_again old a b (made_runnable_apart old t) (took_queue_apart a c q)) (queued_apart b t c 0 0))
     (gave_queue_apart d c q (pushed t q))
 
 started_apart : (t c from on : ℕ) (v w given : TaskVal) (q : Queue) (old : List Rec)

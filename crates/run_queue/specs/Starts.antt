@@ -6,7 +6,7 @@ use Rattle.run_queue.specs.Queueing.{placed, pushed}
 use Rattle.run_queue.specs.declared.answer.Start.{Start}
 use Rattle.run_queue.specs.declared.answer.Start.TheVariants as start
 use Rattle.task_words.specs.Queue.{Queue}
-use Rattle.task_words.specs.Records.{Rec, Took, Gave, Queued, Released, LoadedState, LoadedRq}
+use Rattle.task_words.specs.Records.{Rec, Took, Gave, Queued, MadeRunnable, LoadedState, LoadedRq}
 use Rattle.task_words.specs.Steps.{fresh}
 use Rattle.task_words.specs.TaskVal.{TaskVal}
 use Rattle.task_words.specs.Val.TheVariants as val
@@ -15,7 +15,7 @@ use Rattle.task_words.specs.Views.{PassView, logged}
 -- TASK_RUNNING was stored, and t put at the back of the queue of c under its lock
 abbrev pub queued_new : ℕ → ℕ → Queue → List Rec → List Rec
 queued_new t c queue trace =
-    Gave c (val.Queue queue) (val.Queue (pushed t queue)) ∷ Queued t c 0 0 ∷ Took c (val.Queue queue) ∷ Released t
+    Gave c (val.Queue queue) (val.Queue (pushed t queue)) ∷ Queued t c 0 0 ∷ Took c (val.Queue queue) ∷ MadeRunnable t
     ∷ trace
 
 pub record IsQueuedNew (t c : ℕ) (old new : PassView) : Type 0 where

@@ -12,7 +12,7 @@ use core_data::Rq;
 use handoff_data::{CpuNo, State, TaskNo};
 use std::sync::Wait;
 use task_words::{
-    Kept, Pass, Wk, load_rq, load_state, lock_queue, lock_task, queue_task, store_running,
+    Kept, Pass, Wk, load_rq, load_state, lock_queue, lock_task, make_runnable, queue_task,
 };
 
 // Stores TASK_RUNNING, and puts the new task at the back of its processor's queue.
@@ -33,7 +33,7 @@ fn queue_new<B: Kept, R: Wait>(rt: &R, wk: &Wk<B>, pass: &mut Pass, t: TaskNo, c
 {
     // TASK_RUNNING while T is still on no queue: who takes it from the queue finds it runnable (started twice,
     // picked while waking).
-    store_running(wk, pass, t);
+    make_runnable(wk, pass, t);
     let mut queue = lock_queue(rt, wk, pass, c);
     queue_task(rt, wk, pass, &queue, t, Rq { on: 0, m: 0 });
     queue.push(wk, pass, t);

@@ -1,7 +1,7 @@
 //! Copies of a core.
 
 ghost use Rattle.std.specs.Prelude.{◌≡◌, IfOk};
-ghost use Rattle.core_data.specs.Table.{Table, table};
+ghost use Rattle.core_data.specs.Columns.{Columns, columns};
 
 use core_data::{
     CondWords, Core, CpuWords, Held, HeldList, HeldQueue, HeldWait, HeldWorks, ListVal, Pos,
@@ -276,7 +276,7 @@ fn copy_seats(rows: &Vec<SeatCore>) -> Result<Vec<SeatCore>, AllocError>
 
 /// The same core again. NoMemory when the copy can't be allocated.
 pub fn copy_core(core: &Core) -> Result<Core, NoMemory>
-    ensures { IfOk result (λ r. table r ≡ table core.now) }
+    ensures { IfOk result (λ r. columns r ≡ columns core.now) }
 {
     let tasks = core.tasks.clone()?;
     let cpus = copy_cpus(&core.cpus)?;

@@ -2,7 +2,7 @@
 
 ghost use Rattle.std.specs.Prelude.{◌≡◌, IfOk, OnOk, replicate, [], None};
 ghost use Rattle.core_data.specs.Opening.{IsStart, first_task, first_cpu, first_cond, first_seat, no_holding, no_position};
-ghost use Rattle.core_data.specs.Table.{Table, table};
+ghost use Rattle.core_data.specs.Columns.{Columns, columns};
 ghost use Rattle.handoff_data.specs.Shape.{IsShape};
 
 use core_data::{
@@ -17,7 +17,7 @@ use std::alloc::Global;
 /// works list, wait queue and journal is empty. NoMemory when it can't be allocated.
 pub fn start_core(alloc: Global, shape: &Shape) -> Result<Core, NoMemory>
     requires { IsShape shape.now }
-    ensures { IfOk result (λ core. IsStart shape.now (table core)) }
+    ensures { IfOk result (λ core. IsStart shape.now (columns core)) }
 {
     let mask = CpuMask::all(shape.cpus);
     let tasks = first_tasks(alloc, shape.tasks, mask)?;

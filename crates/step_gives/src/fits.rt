@@ -2,7 +2,7 @@
 
 ghost use Rattle.std.specs.Prelude.{◌≡◌, ℕ, ◌<◌, ◌==◌, ◌&&◌, ◌↔◌, IsTrue, Some, true, slice_get, count_by};
 ghost use Rattle.core_data.specs.Queue.{Queue, IsOnce, times_in};
-ghost use Rattle.core_data.specs.Table.{Table, table};
+ghost use Rattle.core_data.specs.Columns.{Columns, columns};
 ghost use Rattle.core_data.specs.declared.words.TaskWords.{TaskWords};
 ghost use Rattle.core_gives.specs.Fits.{IsHere, AreHere, IsCurHere};
 ghost use Rattle.core_gives.specs.Queues.{IsQueueOf};
@@ -20,14 +20,14 @@ fn is_at(words: &TaskWords, c: CpuNo) -> bool
 
 /// Whether t is a task of the core that is queued on processor c.
 fn is_here(core: &Core, c: CpuNo, t: TaskNo) -> bool
-    ensures { IsTrue result ↔ IsHere (table core.now) c t }
+    ensures { IsTrue result ↔ IsHere (columns core.now) c t }
 {
     (t as usize) < tasks(core) && is_at(&task_words(core, t), c)
 }
 
 /// Whether the task at this place of those that wait is queued on processor c.
 fn is_here_at(core: &Core, c: CpuNo, queue: &QueueVal, i: usize) -> bool
-    ensures { IsTrue result ↔ ((t : ℕ) → slice_get queue.now.waiting i ≡ Some t → IsHere (table core.now) c t) }
+    ensures { IsTrue result ↔ ((t : ℕ) → slice_get queue.now.waiting i ≡ Some t → IsHere (columns core.now) c t) }
 {
     match queue.get(i) {
         Some(t) => is_here(core, c, t),
@@ -37,7 +37,7 @@ fn is_here_at(core: &Core, c: CpuNo, queue: &QueueVal, i: usize) -> bool
 
 /// Whether each task that waits is queued on processor c.
 fn are_here(core: &Core, c: CpuNo, queue: &QueueVal) -> bool
-    ensures { IsTrue result ↔ AreHere (table core.now) c queue.now }
+    ensures { IsTrue result ↔ AreHere (columns core.now) c queue.now }
 {
     for i in 0..queue.len() as usize {
         if !is_here_at(core, c, queue, i) {
@@ -49,7 +49,7 @@ fn are_here(core: &Core, c: CpuNo, queue: &QueueVal) -> bool
 
 /// Whether the task in `cur`, if there is one, is queued on processor c and doesn't wait.
 fn is_cur_here(core: &Core, c: CpuNo, queue: &QueueVal) -> bool
-    ensures here { IsTrue result ↔ IsCurHere (table core.now) c queue.now }
+    ensures here { IsTrue result ↔ IsCurHere (columns core.now) c queue.now }
     ensures once { IsOnce queue.now.waiting }
 {
     match queue.cur {
@@ -68,7 +68,7 @@ fn count_at(core: &Core, c: CpuNo) -> usize
 /// Whether a queue has each task that is queued on processor c once, and no other: it has only such tasks, none
 /// twice, and as many as there are.
 pub fn is_queue_of(core: &Core, c: CpuNo, queue: &QueueVal) -> bool
-    ensures { IsTrue result ↔ IsQueueOf (table core.now).on_rq (table core.now).cpu c queue.now }
+    ensures { IsTrue result ↔ IsQueueOf (columns core.now).on_rq (columns core.now).cpu c queue.now }
 {
     if !is_cur_here(core, c, queue) {
         return false;

@@ -4,7 +4,7 @@ ghost use Rattle.std.specs.Prelude.{◌≡◌, ◌≢◌, ℕ, ◌<◌, ◌⊎�
 ghost use Rattle.std.specs.List.{list_any};
 ghost use Rattle.core_data.specs.Queue.{Queue, times_in};
 ghost use Rattle.core_data.specs.declared.seat.SeatCore.{SeatCore};
-ghost use Rattle.core_data.specs.Table.{Table, table};
+ghost use Rattle.core_data.specs.Columns.{Columns, columns};
 ghost use Rattle.core_gives.specs.Queues.{MayGiveQueue, give_queue, give_up_if, gives_up, is_some_of};
 ghost use Rattle.core_kinds.specs.Steps.{IsRunnable};
 
@@ -20,7 +20,7 @@ use step_stores::{
 
 /// Whether task t may run: its state is TASK_RUNNING or TASK_NEW.
 fn is_runnable(core: &Core, t: TaskNo) -> bool
-    ensures { IsTrue result ↔ IsRunnable ((table core.now).state t) }
+    ensures { IsTrue result ↔ IsRunnable ((columns core.now).state t) }
 {
     if (t as usize) >= tasks(core) {
         return true;
@@ -31,7 +31,7 @@ fn is_runnable(core: &Core, t: TaskNo) -> bool
 
 /// Whether the task at this place of those that wait may run.
 fn is_runnable_at(core: &Core, queue: &QueueVal, i: usize) -> bool
-    ensures { IsTrue result ↔ ((t : ℕ) → slice_get queue.now.waiting i ≡ Some t → IsRunnable ((table core.now).state t)) }
+    ensures { IsTrue result ↔ ((t : ℕ) → slice_get queue.now.waiting i ≡ Some t → IsRunnable ((columns core.now).state t)) }
 {
     match queue.get(i) {
         Some(t) => is_runnable(core, t),
@@ -41,7 +41,7 @@ fn is_runnable_at(core: &Core, queue: &QueueVal, i: usize) -> bool
 
 /// Whether each task that waits may run.
 fn are_runnable(core: &Core, queue: &QueueVal) -> bool
-    ensures { IsTrue result ↔ ((t : ℕ) → times_in queue.now.waiting t ≢ 0 → IsRunnable ((table core.now).state t)) }
+    ensures { IsTrue result ↔ ((t : ℕ) → times_in queue.now.waiting t ≢ 0 → IsRunnable ((columns core.now).state t)) }
 {
     for i in 0..queue.len() as usize {
         if !is_runnable_at(core, queue, i) {
@@ -70,7 +70,7 @@ fn are_current(seats: &[SeatCore], t: TaskNo) -> bool
 
 /// Whether some seat has the task as its current one.
 fn is_current(core: &Core, t: TaskNo) -> bool
-    ensures { IsTrue result ↔ ((s : ℕ) × ((table core.now).current s ≡ Some t)) }
+    ensures { IsTrue result ↔ ((s : ℕ) × ((columns core.now).current_task s ≡ Some t)) }
 {
     are_current(&core.seats, t)
 }
@@ -78,7 +78,7 @@ fn is_current(core: &Core, t: TaskNo) -> bool
 /// Whether the task in `cur` may run, or runs.
 fn is_cur_runnable(core: &Core, queue: &QueueVal) -> bool
     ensures { IsTrue result ↔ ((t : ℕ) → queue.now.cur ≡ Some t →
-        IsRunnable ((table core.now).state t) ⊎ ((s : ℕ) × ((table core.now).current s ≡ Some t))) }
+        IsRunnable ((columns core.now).state t) ⊎ ((s : ℕ) × ((columns core.now).current_task s ≡ Some t))) }
 {
     match queue.cur {
         Some(t) => is_runnable(core, t) || is_current(core, t),
@@ -88,7 +88,7 @@ fn is_cur_runnable(core: &Core, queue: &QueueVal) -> bool
 
 /// Whether `left` is a task of the core.
 fn is_left_of(core: &Core, queue: &QueueVal) -> bool
-    ensures { IsTrue result ↔ ((t : ℕ) → queue.now.left ≡ Some t → t < (table core.now).tasks) }
+    ensures { IsTrue result ↔ ((t : ℕ) → queue.now.left ≡ Some t → t < (columns core.now).tasks) }
 {
     match queue.left {
         Some(t) => (t as usize) < tasks(core),
@@ -99,7 +99,7 @@ fn is_left_of(core: &Core, queue: &QueueVal) -> bool
 /// Whether seat s has the lock of the queue of processor c.
 fn has_lock(core: &Core, s: SeatNo, c: CpuNo) -> bool
     ensures { IsTrue result ↔
-        ((s < (table core.now).seats) × (c < (table core.now).cpus) × ((table core.now).queue_lock c ≡ Some s)) }
+        ((s < (columns core.now).seats) × (c < (columns core.now).cpus) × ((columns core.now).queue_lock c ≡ Some s)) }
 {
     (s as usize) < seats(core) && (c as usize) < cpus(core) && queue_lock(core, c) == Some(s)
 }
@@ -107,7 +107,7 @@ fn has_lock(core: &Core, s: SeatNo, c: CpuNo) -> bool
 /// Whether seat s may give the lock of the queue of processor c with this queue: it has the lock, the queue says what
 /// the words say, all that waits may run, and the seat does with `cur` and `left` no more than it may.
 pub fn may_give_queue(core: &Core, s: SeatNo, c: CpuNo, queue: &QueueVal) -> bool
-    ensures { IsTrue result ↔ MayGiveQueue (table core.now) s c queue.now }
+    ensures { IsTrue result ↔ MayGiveQueue (columns core.now) s c queue.now }
 {
     if !has_lock(core, s, c) {
         return false;
@@ -121,8 +121,8 @@ pub fn may_give_queue(core: &Core, s: SeatNo, c: CpuNo, queue: &QueueVal) -> boo
 
 /// Gives the current task up.
 fn give_up_if(core: &mut Core, s: SeatNo, on: bool)
-    requires { s < (table core.old).seats }
-    ensures { table core.new ≡ give_up_if on (table core.old) s }
+    requires { s < (columns core.old).seats }
+    ensures { columns core.new ≡ give_up_if on (columns core.old) s }
 {
     if on {
         let task = current(core, s);
@@ -144,8 +144,8 @@ fn gives_up(s: SeatNo, c: CpuNo, queue: &QueueVal) -> bool
 
 /// Gives the lock of the queue of processor c, and puts the queue home.
 pub fn give_queue(core: &mut Core, s: SeatNo, c: CpuNo, queue: QueueVal)
-    requires { (s < (table core.old).seats) × (c < (table core.old).cpus) }
-    ensures { table core.new ≡ give_queue (table core.old) s c queue }
+    requires { (s < (columns core.old).seats) × (c < (columns core.old).cpus) }
+    ensures { columns core.new ≡ give_queue (columns core.old) s c queue }
 {
     let gives = gives_up(s, c, &queue);
     put_queue_lock(core, c, None);

@@ -1,7 +1,7 @@
 //! Giving the works of a stopper.
 
 ghost use Rattle.std.specs.Prelude.{◌≡◌, ◌↔◌, IsTrue};
-ghost use Rattle.core_data.specs.Table.{Table, table};
+ghost use Rattle.core_data.specs.Columns.{Columns, columns};
 ghost use Rattle.core_kinds.specs.Locks.{MayGiveWorks};
 
 use core_data::{Core, WorksVal};
@@ -18,7 +18,7 @@ fn is_same(a: &WorksVal, b: &WorksVal) -> bool
 /// Whether seat s may give the lock of the works of processor c with this value: it has the lock, and the works are
 /// those that it took.
 pub fn may_give_works(core: &Core, s: SeatNo, c: CpuNo, val: &WorksVal) -> bool
-    ensures { IsTrue result ↔ MayGiveWorks (table core.now) s c val.now }
+    ensures { IsTrue result ↔ MayGiveWorks (columns core.now) s c val.now }
 {
     if (s as usize) >= seats(core) || (c as usize) >= cpus(core) {
         return false;

@@ -1,7 +1,7 @@
 //! What the steps have in common.
 
 ghost use Rattle.std.specs.Prelude.{◌≡◌, ◌<◌, ◌^◌, ◌↔◌, IsTrue, OnOk, true};
-ghost use Rattle.core_data.specs.Table.{Table, table, put_at};
+ghost use Rattle.core_data.specs.Columns.{Columns, columns, put_at};
 ghost use Rattle.core_kinds.specs.Steps.{IsRunnable, is_sleep, stored_word, numbered_reads};
 
 use core_data::{Act, Core, TaskReads};
@@ -13,7 +13,7 @@ pub const END: u64 = 1 << 60;
 
 /// Whether seat and task are of the shape.
 pub fn is_of_shape(core: &Core, s: SeatNo, t: TaskNo) -> bool
-    ensures { IsTrue result ↔ ((s < (table core.now).seats) × (t < (table core.now).tasks)) }
+    ensures { IsTrue result ↔ ((s < (columns core.now).seats) × (t < (columns core.now).tasks)) }
 {
     (s as usize) < seats(core) && (t as usize) < tasks(core)
 }
@@ -35,8 +35,8 @@ pub fn is_sleep(state: State) -> bool
 /// What follows a store of a word of task t: what the seat has read of it holds no more. Answers `NoMemory` where
 /// memory runs out.
 pub fn renew(core: &mut Core, s: SeatNo, t: TaskNo) -> Result<(), NoMemory>
-    requires { s < (table core.old).seats }
-    ensures { OnOk result (table core.new ≡ stored_word (table core.old) s t) }
+    requires { s < (columns core.old).seats }
+    ensures { OnOk result (columns core.new ≡ stored_word (columns core.old) s t) }
 {
     let old = reads(core, s, t);
     set_reads(

@@ -21,5 +21,6 @@ pub use running::{
     may_dequeue, may_move, may_queue, may_set_busy, move_task, queue_task, set_busy,
 };
 pub use waking::{
-    claim, may_claim, may_own_state, may_release, may_store_cpu, own_state, release, store_cpu,
+    claim, make_runnable, may_claim, may_make_runnable, may_set_state, may_store_cpu, set_state,
+    store_cpu,
 };

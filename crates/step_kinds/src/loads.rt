@@ -3,7 +3,7 @@
 ghost use Rattle.std.specs.Prelude.{◌≡◌, ◌<◌, ◌==◌, ◌&&◌, ◌+◌, ◌%◌, ◌^◌, ◌↔◌, IsTrue, OnOk, Some, None, is_some, nat_lt, if◌then◌else◌};
 ghost use mathlib.Core.Bool.{not};
 ghost use Rattle.core_data.specs.Noted.{noted};
-ghost use Rattle.core_data.specs.Table.{Table, table, put, put_at};
+ghost use Rattle.core_data.specs.Columns.{Columns, columns, put, put_at};
 ghost use Rattle.core_kinds.specs.Steps.{is_match};
 ghost use Rattle.core_kinds.specs.Waking.{MayLoad, IsMask, MayLoadState, is_own_read, is_matched, is_refused, load_state, load_this, state_read, load_rq, load_rq_so, rq_read, load_busy, load_busy_so, busy_read, load_cpu, cpu_read, load_count, level_read, MayBump, bump, load_cond, test_by};
 
@@ -18,7 +18,7 @@ use step_stores::{
 
 /// Whether seat s may load a word of task t.
 pub fn may_load(core: &Core, s: SeatNo, t: TaskNo) -> bool
-    ensures { IsTrue result ↔ MayLoad (table core.now) s t }
+    ensures { IsTrue result ↔ MayLoad (columns core.now) s t }
 {
     is_of_shape(core, s, t)
 }
@@ -35,7 +35,7 @@ fn is_mask(mask: Option<State>) -> bool
 
 /// Whether seat s may load the state of task t with this mask.
 pub fn may_load_state(core: &Core, s: SeatNo, t: TaskNo, mask: Option<State>) -> bool
-    ensures { IsTrue result ↔ MayLoadState (table core.now) s t mask }
+    ensures { IsTrue result ↔ MayLoadState (columns core.now) s t mask }
 {
     is_of_shape(core, s, t) && is_mask(mask)
 }
@@ -66,15 +66,15 @@ fn is_refused(state: State, mask: Option<State>) -> bool
 
 /// Whether the seat reads its own current task under the lock of its own queue.
 fn is_own_read(core: &Core, s: SeatNo, t: TaskNo) -> bool
-    requires { s < (table core.now).seats }
-    ensures { result ≡ is_own_read (table core.now) s t }
+    requires { s < (columns core.now).seats }
+    ensures { result ≡ is_own_read (columns core.now) s t }
 {
     (s as usize) < cpus(core) && current(core, s) == Some(t) && queue_lock(core, s) == Some(s)
 }
 
 fn read_state(core: &mut Core, s: SeatNo, t: TaskNo, state: State) -> Result<(), NoMemory>
-    requires { s < (table core.old).seats }
-    ensures { OnOk result (table core.new ≡ record (table core.old) { reads = put_at (table core.old).reads s t (state_read t state ((table core.old).reads s t)) }) }
+    requires { s < (columns core.old).seats }
+    ensures { OnOk result (columns core.new ≡ record (columns core.old) { last_reads = put_at (columns core.old).last_reads s t (state_read t state ((columns core.old).last_reads s t)) }) }
 {
     let old = reads(core, s, t);
     set_reads(
@@ -100,8 +100,8 @@ pub fn load_state(
     t: TaskNo,
     mask: Option<State>,
 ) -> Result<(), NoMemory>
-    requires { (s < (table core.old).seats) × (t < (table core.old).tasks) }
-    ensures { OnOk result (table core.new ≡ load_state (table core.old) s t mask) }
+    requires { (s < (columns core.old).seats) × (t < (columns core.old).tasks) }
+    ensures { OnOk result (columns core.new ≡ load_state (columns core.old) s t mask) }
 {
     let state = task_words(core, t).state;
     let own = is_own_read(core, s, t);
@@ -117,13 +117,13 @@ fn load_this(
     own: bool,
     state: State,
 ) -> Result<(), NoMemory>
-    requires { s < (table core.old).seats }
-    ensures { OnOk result (table core.new ≡ load_this (table core.old) s t mask own ((table core.old).reads s t) state) }
+    requires { s < (columns core.old).seats }
+    ensures { OnOk result (columns core.new ≡ load_this (columns core.old) s t mask own ((columns core.old).last_reads s t) state) }
 {
     read_state(core, s, t, state)?;
     see_if(core, s, state, own);
     note_if(core, s, Act::Matched { t }, is_matched(state, mask))?;
-    note_if(core, s, Act::SawRest { t }, state.0 != 0x200)?;
+    note_if(core, s, Act::SawRest { t }, state.0 != State::TASK_WAKING.0)?;
     note_if(
         core,
         s,
@@ -140,8 +140,8 @@ fn load_this(
 }
 
 fn read_rq(core: &mut Core, s: SeatNo, t: TaskNo, on: u8, m: u64) -> Result<(), NoMemory>
-    requires { s < (table core.old).seats }
-    ensures { OnOk result (table core.new ≡ record (table core.old) { reads = put_at (table core.old).reads s t (rq_read t on m ((table core.old).reads s t)) }) }
+    requires { s < (columns core.old).seats }
+    ensures { OnOk result (columns core.new ≡ record (columns core.old) { last_reads = put_at (columns core.old).last_reads s t (rq_read t on m ((columns core.old).last_reads s t)) }) }
 {
     let old = reads(core, s, t);
     let rq = if old.state.is_some() {
@@ -170,8 +170,8 @@ fn load_rq_so(
     on: u8,
     m: u64,
 ) -> Result<(), NoMemory>
-    requires { s < (table core.old).seats }
-    ensures { OnOk result (table core.new ≡ load_rq_so (table core.old) s t fresh rests ((table core.old).reads s t) on m) }
+    requires { s < (columns core.old).seats }
+    ensures { OnOk result (columns core.new ≡ load_rq_so (columns core.old) s t fresh rests ((columns core.old).last_reads s t) on m) }
 {
     read_rq(core, s, t, on, m)?;
     note_if(core, s, Act::SawOff { t }, on == 0 && fresh)?;
@@ -181,8 +181,8 @@ fn load_rq_so(
 
 /// Loads `on_rq` of task t, with the number of its changes. Answers `NoMemory` where memory runs out.
 pub fn load_rq(core: &mut Core, s: SeatNo, t: TaskNo) -> Result<(), NoMemory>
-    requires { (s < (table core.old).seats) × (t < (table core.old).tasks) }
-    ensures { OnOk result (table core.new ≡ load_rq (table core.old) s t) }
+    requires { (s < (columns core.old).seats) × (t < (columns core.old).tasks) }
+    ensures { OnOk result (columns core.new ≡ load_rq (columns core.old) s t) }
 {
     let words = task_words(core, t);
     let fresh = unstored(core, s, t);
@@ -192,8 +192,8 @@ pub fn load_rq(core: &mut Core, s: SeatNo, t: TaskNo) -> Result<(), NoMemory>
 }
 
 fn read_busy(core: &mut Core, s: SeatNo, t: TaskNo, busy: bool) -> Result<(), NoMemory>
-    requires { s < (table core.old).seats }
-    ensures { OnOk result (table core.new ≡ record (table core.old) { reads = put_at (table core.old).reads s t (busy_read t busy ((table core.old).reads s t)) }) }
+    requires { s < (columns core.old).seats }
+    ensures { OnOk result (columns core.new ≡ record (columns core.old) { last_reads = put_at (columns core.old).last_reads s t (busy_read t busy ((columns core.old).last_reads s t)) }) }
 {
     let old = reads(core, s, t);
     let read = if old.rq.is_some() { Some(busy) } else { None };
@@ -216,8 +216,8 @@ fn load_busy_so(
     rests: bool,
     busy: bool,
 ) -> Result<(), NoMemory>
-    requires { s < (table core.old).seats }
-    ensures { OnOk result (table core.new ≡ load_busy_so (table core.old) s t rests ((table core.old).reads s t) busy) }
+    requires { s < (columns core.old).seats }
+    ensures { OnOk result (columns core.new ≡ load_busy_so (columns core.old) s t rests ((columns core.old).last_reads s t) busy) }
 {
     read_busy(core, s, t, busy)?;
     note_if(core, s, Act::SawClear { t }, !busy)?;
@@ -227,8 +227,8 @@ fn load_busy_so(
 
 /// Loads the busy word of task t. Answers `NoMemory` where memory runs out.
 pub fn load_busy(core: &mut Core, s: SeatNo, t: TaskNo) -> Result<(), NoMemory>
-    requires { (s < (table core.old).seats) × (t < (table core.old).tasks) }
-    ensures { OnOk result (table core.new ≡ load_busy (table core.old) s t) }
+    requires { (s < (columns core.old).seats) × (t < (columns core.old).tasks) }
+    ensures { OnOk result (columns core.new ≡ load_busy (columns core.old) s t) }
 {
     let busy = task_words(core, t).on_cpu;
     let rests = rest_off(core, s, t);
@@ -238,8 +238,8 @@ pub fn load_busy(core: &mut Core, s: SeatNo, t: TaskNo) -> Result<(), NoMemory>
 
 /// Loads the processor of task t. Answers `NoMemory` where memory runs out.
 pub fn load_cpu(core: &mut Core, s: SeatNo, t: TaskNo) -> Result<(), NoMemory>
-    requires { (s < (table core.old).seats) × (t < (table core.old).tasks) }
-    ensures { OnOk result (table core.new ≡ load_cpu (table core.old) s t) }
+    requires { (s < (columns core.old).seats) × (t < (columns core.old).tasks) }
+    ensures { OnOk result (columns core.new ≡ load_cpu (columns core.old) s t) }
 {
     let cpu = task_words(core, t).cpu;
     let old = reads(core, s, t);
@@ -260,21 +260,15 @@ fn level_read(current: Option<TaskNo>, t: TaskNo, level: u32, known: Option<u32>
     ensures { result ≡ level_read current t level known }
 {
     match current {
-        Some(own) => {
-            if own == t {
-                Some(level)
-            } else {
-                known
-            }
-        }
+        Some(own) => { if own == t { Some(level) } else { known } }
         None => known,
     }
 }
 
 /// Loads the migrate-disable level of task t.
 pub fn load_count(core: &mut Core, s: SeatNo, t: TaskNo)
-    requires { (s < (table core.old).seats) × (t < (table core.old).tasks) }
-    ensures { table core.new ≡ load_count (table core.old) s t }
+    requires { (s < (columns core.old).seats) × (t < (columns core.old).tasks) }
+    ensures { columns core.new ≡ load_count (columns core.old) s t }
 {
     let level = task_words(core, t).count;
     let known = level_read(current(core, s), t, level, level_known(core, s));
@@ -283,15 +277,15 @@ pub fn load_count(core: &mut Core, s: SeatNo, t: TaskNo)
 
 /// Whether seat s may raise condition k.
 pub fn may_bump(core: &Core, s: SeatNo, k: CondNo) -> bool
-    ensures { IsTrue result ↔ MayBump (table core.now) s k }
+    ensures { IsTrue result ↔ MayBump (columns core.now) s k }
 {
     (s as usize) < seats(core) && (k as usize) < conds(core)
 }
 
 /// Raises condition k, whose counter wraps; the seat owes it a walk. Answers `NoMemory` where memory runs out.
 pub fn bump(core: &mut Core, s: SeatNo, k: CondNo) -> Result<(), NoMemory>
-    requires { MayBump (table core.old) s k }
-    ensures { OnOk result (table core.new ≡ bump (table core.old) s k) }
+    requires { MayBump (columns core.old) s k }
+    ensures { OnOk result (columns core.new ≡ bump (columns core.old) s k) }
 {
     let v = cond(core, k);
     put_cond(core, k, v.wrapping_add(1));
@@ -302,8 +296,8 @@ pub fn bump(core: &mut Core, s: SeatNo, k: CondNo) -> Result<(), NoMemory>
 /// Loads the counter of condition k: the current task has tested it, where it has stored a sleep state. Answers
 /// `NoMemory` where memory runs out.
 pub fn load_cond(core: &mut Core, s: SeatNo, k: CondNo) -> Result<(), NoMemory>
-    requires { MayBump (table core.old) s k }
-    ensures { OnOk result (table core.new ≡ load_cond (table core.old) s k) }
+    requires { MayBump (columns core.old) s k }
+    ensures { OnOk result (columns core.new ≡ load_cond (columns core.old) s k) }
 {
     let v = cond(core, k);
     match current(core, s) {

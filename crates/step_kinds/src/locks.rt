@@ -3,7 +3,7 @@
 ghost use Rattle.std.specs.Prelude.{◌≡◌, ◌≢◌, ◌<◌, ◌⊎◌, ◌↔◌, IsTrue, IsSome, Some, None, OnOk};
 ghost use Rattle.core_data.specs.Found.{no_reads};
 ghost use Rattle.core_data.specs.Noted.{noted};
-ghost use Rattle.core_data.specs.Table.{Table, table, put, put_at};
+ghost use Rattle.core_data.specs.Columns.{Columns, columns, put, put_at};
 ghost use Rattle.core_data.specs.declared.act.Act.TheVariants.{TookTask, Renewed};
 ghost use Rattle.core_data.specs.declared.values.TaskVal.{TaskVal};
 ghost use Rattle.core_kinds.specs.Steps.{fresh, waking};
@@ -22,7 +22,7 @@ use step_stores::{
 
 /// Whether seat s may take the lock of task t: the lock is free.
 pub fn may_take_task(core: &Core, s: SeatNo, t: TaskNo) -> bool
-    ensures { IsTrue result ↔ MayTakeTask (table core.now) s t }
+    ensures { IsTrue result ↔ MayTakeTask (columns core.now) s t }
 {
     if !is_of_shape(core, s, t) {
         return false;
@@ -33,8 +33,8 @@ pub fn may_take_task(core: &Core, s: SeatNo, t: TaskNo) -> bool
 
 /// Moves the value of the lock of task t to the seat.
 fn move_val_out(core: &mut Core, s: SeatNo, t: TaskNo) -> Result<(), NoMemory>
-    requires { MayTakeTask (table core.old) s t }
-    ensures { OnOk result (table core.new ≡ record (table core.old) { lock = put (table core.old).lock t (Some s); val = put (table core.old).val t None; task_out = put_at (table core.old).task_out s t ((table core.old).val t) }) }
+    requires { MayTakeTask (columns core.old) s t }
+    ensures { OnOk result (columns core.new ≡ record (columns core.old) { lock = put (columns core.old).lock t (Some s); val = put (columns core.old).val t None; task_held = put_at (columns core.old).task_held s t ((columns core.old).val t) }) }
 {
     let val = task_words(core, t).val.unwrap();
     put_lock(core, t, Some(s));
@@ -45,8 +45,8 @@ fn move_val_out(core: &mut Core, s: SeatNo, t: TaskNo) -> Result<(), NoMemory>
 
 /// Begins to read task t anew.
 fn begin_reads(core: &mut Core, s: SeatNo, t: TaskNo) -> Result<(), NoMemory>
-    requires { s < (table core.old).seats }
-    ensures { OnOk result (table core.new ≡ noted (noted (record (table core.old) { reads = put_at (table core.old).reads s t (no_reads t) }) s (TookTask t)) s (Renewed t)) }
+    requires { s < (columns core.old).seats }
+    ensures { OnOk result (columns core.new ≡ noted (noted (record (columns core.old) { last_reads = put_at (columns core.old).last_reads s t (no_reads t) }) s (TookTask t)) s (Renewed t)) }
 {
     let nothing = TaskReads {
         t,
@@ -64,8 +64,8 @@ fn begin_reads(core: &mut Core, s: SeatNo, t: TaskNo) -> Result<(), NoMemory>
 
 /// Takes the lock of task t, with its value. Answers `NoMemory` where memory runs out.
 pub fn take_task(core: &mut Core, s: SeatNo, t: TaskNo) -> Result<(), NoMemory>
-    requires { MayTakeTask (table core.old) s t }
-    ensures { OnOk result (table core.new ≡ take_task (table core.old) s t) }
+    requires { MayTakeTask (columns core.old) s t }
+    ensures { OnOk result (columns core.new ≡ take_task (columns core.old) s t) }
 {
     move_val_out(core, s, t)?;
     begin_reads(core, s, t)?;
@@ -81,7 +81,7 @@ pub fn may_give_task(
     stood: bool,
     done: bool,
 ) -> bool
-    ensures { IsTrue result ↔ MayGiveTask (table core.now) s t val stood done }
+    ensures { IsTrue result ↔ MayGiveTask (columns core.now) s t val stood done }
 {
     if !is_of_shape(core, s, t) || stood || done {
         return false;
@@ -111,8 +111,8 @@ fn is_fresh_if_new(words: TaskWords) -> bool
 
 /// Whether the seat has the value out, and gives it as it was taken but for the processors that it names.
 fn is_given_as_taken(core: &Core, s: SeatNo, t: TaskNo, val: TaskVal) -> bool
-    requires { s < (table core.now).seats }
-    ensures { IsTrue result ↔ (((taken : TaskVal) → (table core.now).task_out s t ≡ Some taken → IsKept taken val) × IsSome ((table core.now).task_out s t)) }
+    requires { s < (columns core.now).seats }
+    ensures { IsTrue result ↔ (((taken : TaskVal) → (columns core.now).task_held s t ≡ Some taken → IsKept taken val) × IsSome ((columns core.now).task_held s t)) }
 {
     match task_out(core, s, t) {
         Some(taken) => is_kept(taken, val),
@@ -122,8 +122,8 @@ fn is_given_as_taken(core: &Core, s: SeatNo, t: TaskNo, val: TaskVal) -> bool
 
 /// Gives the lock of task t, and puts its value home.
 pub fn give_task(core: &mut Core, s: SeatNo, t: TaskNo, val: TaskVal)
-    requires { (s < (table core.old).seats) × (t < (table core.old).tasks) }
-    ensures { table core.new ≡ give_task (table core.old) s t val }
+    requires { (s < (columns core.old).seats) × (t < (columns core.old).tasks) }
+    ensures { columns core.new ≡ give_task (columns core.old) s t val }
 {
     put_lock(core, t, None);
     put_val(core, t, Some(val));
@@ -132,8 +132,8 @@ pub fn give_task(core: &mut Core, s: SeatNo, t: TaskNo, val: TaskVal)
 
 /// Gives the lock of the works of processor c, and puts the works home.
 pub fn give_works(core: &mut Core, s: SeatNo, c: CpuNo, val: WorksVal)
-    requires { (s < (table core.old).seats) × (c < (table core.old).cpus) }
-    ensures { table core.new ≡ give_works (table core.old) s c val }
+    requires { (s < (columns core.old).seats) × (c < (columns core.old).cpus) }
+    ensures { columns core.new ≡ give_works (columns core.old) s c val }
 {
     put_works_lock(core, c, None);
     put_works(core, c, val);
@@ -154,7 +154,7 @@ fn is_kept(taken: TaskVal, given: TaskVal) -> bool
 
 /// Whether seat s may take the lock of the queue of processor c: the lock is free.
 pub fn may_take_queue(core: &Core, s: SeatNo, c: CpuNo) -> bool
-    ensures { IsTrue result ↔ MayTakeQueue (table core.now) s c }
+    ensures { IsTrue result ↔ MayTakeQueue (columns core.now) s c }
 {
     if (s as usize) >= seats(core) || (c as usize) >= cpus(core) {
         return false;
@@ -164,7 +164,7 @@ pub fn may_take_queue(core: &Core, s: SeatNo, c: CpuNo) -> bool
 
 /// Whether seat s may take the lock of the works of processor c: the lock is free.
 pub fn may_take_works(core: &Core, s: SeatNo, c: CpuNo) -> bool
-    ensures { IsTrue result ↔ MayTakeWorks (table core.now) s c }
+    ensures { IsTrue result ↔ MayTakeWorks (columns core.now) s c }
 {
     if (s as usize) >= seats(core) || (c as usize) >= cpus(core) {
         return false;
@@ -174,7 +174,7 @@ pub fn may_take_works(core: &Core, s: SeatNo, c: CpuNo) -> bool
 
 /// Whether seat s may take the lock of the wait queue of condition k: the lock is free.
 pub fn may_take_wait(core: &Core, s: SeatNo, k: CondNo) -> bool
-    ensures { IsTrue result ↔ MayTakeWait (table core.now) s k }
+    ensures { IsTrue result ↔ MayTakeWait (columns core.now) s k }
 {
     if (s as usize) >= seats(core) || (k as usize) >= conds(core) {
         return false;
@@ -184,8 +184,8 @@ pub fn may_take_wait(core: &Core, s: SeatNo, k: CondNo) -> bool
 
 /// Forgets the state that was read under the lock of the own queue.
 pub fn unsee(core: &mut Core, s: SeatNo, c: CpuNo)
-    requires { s < (table core.old).seats }
-    ensures { table core.new ≡ unseen (table core.old) s c }
+    requires { s < (columns core.old).seats }
+    ensures { columns core.new ≡ unseen (columns core.old) s c }
 {
     if s == c {
         put_seen(core, s, None);
@@ -194,8 +194,8 @@ pub fn unsee(core: &mut Core, s: SeatNo, c: CpuNo)
 
 /// Takes the lock of the queue of processor c, with the queue. Answers `NoMemory` where memory runs out.
 pub fn take_queue(core: &mut Core, s: SeatNo, c: CpuNo) -> Result<(), NoMemory>
-    requires { MayTakeQueue (table core.old) s c }
-    ensures { OnOk result (table core.new ≡ take_queue (table core.old) s c) }
+    requires { MayTakeQueue (columns core.old) s c }
+    ensures { OnOk result (columns core.new ≡ take_queue (columns core.old) s c) }
 {
     put_queue_lock(core, c, Some(s));
     let val = take_queue_val(core, c).unwrap();
@@ -207,8 +207,8 @@ pub fn take_queue(core: &mut Core, s: SeatNo, c: CpuNo) -> Result<(), NoMemory>
 
 /// Takes the lock of the works of processor c, with the works. Answers `NoMemory` where memory runs out.
 pub fn take_works(core: &mut Core, s: SeatNo, c: CpuNo) -> Result<(), NoMemory>
-    requires { MayTakeWorks (table core.old) s c }
-    ensures { OnOk result (table core.new ≡ take_works (table core.old) s c) }
+    requires { MayTakeWorks (columns core.old) s c }
+    ensures { OnOk result (columns core.new ≡ take_works (columns core.old) s c) }
 {
     put_works_lock(core, c, Some(s));
     let val = take_works_val(core, c).unwrap();
@@ -218,8 +218,8 @@ pub fn take_works(core: &mut Core, s: SeatNo, c: CpuNo) -> Result<(), NoMemory>
 
 /// Takes the lock of the wait queue of condition k, with its entries. Answers `NoMemory` where memory runs out.
 pub fn take_wait(core: &mut Core, s: SeatNo, k: CondNo) -> Result<(), NoMemory>
-    requires { MayTakeWait (table core.old) s k }
-    ensures { OnOk result (table core.new ≡ take_wait (table core.old) s k) }
+    requires { MayTakeWait (columns core.old) s k }
+    ensures { OnOk result (columns core.new ≡ take_wait (columns core.old) s k) }
 {
     put_wait_lock(core, k, Some(s));
     let val = take_wait_val(core, k).unwrap();

@@ -1,7 +1,7 @@
 //! What a seat notes where a test holds.
 
 ghost use Rattle.std.specs.Prelude.{◌≡◌, ◌<◌, OnOk, true};
-ghost use Rattle.core_data.specs.Table.{Table, table};
+ghost use Rattle.core_data.specs.Columns.{Columns, columns};
 ghost use Rattle.core_kinds.specs.Waking.{noted_if, logged_if, seen_if, slept_if, ran_if, tested_if};
 
 use core_data::{Act, Core, Test};
@@ -10,8 +10,8 @@ use step_stores::{forget_sleep, log, note, put_seen, set_test};
 
 /// Makes a step the latest of seat s, where `on`. Answers `NoMemory` where memory runs out.
 pub fn note_if(core: &mut Core, s: SeatNo, act: Act, on: bool) -> Result<(), NoMemory>
-    requires { s < (table core.old).seats }
-    ensures { OnOk result (table core.new ≡ noted_if on (table core.old) s act) }
+    requires { s < (columns core.old).seats }
+    ensures { OnOk result (columns core.new ≡ noted_if on (columns core.old) s act) }
 {
     if on {
         note(core, s, act)?;
@@ -21,8 +21,8 @@ pub fn note_if(core: &mut Core, s: SeatNo, act: Act, on: bool) -> Result<(), NoM
 
 /// Adds an entry to the journal of seat s, where `on`. Answers `NoMemory` where memory runs out.
 pub fn log_if(core: &mut Core, s: SeatNo, entry: Entry, on: bool) -> Result<(), NoMemory>
-    requires { s < (table core.old).seats }
-    ensures { OnOk result (table core.new ≡ logged_if on (table core.old) s entry) }
+    requires { s < (columns core.old).seats }
+    ensures { OnOk result (columns core.new ≡ logged_if on (columns core.old) s entry) }
 {
     if on {
         log(core, s, entry)?;
@@ -32,8 +32,8 @@ pub fn log_if(core: &mut Core, s: SeatNo, entry: Entry, on: bool) -> Result<(), 
 
 /// Sets the state that seat s has read of its current task under the lock of its own queue, where `on`.
 pub fn see_if(core: &mut Core, s: SeatNo, state: State, on: bool)
-    requires { s < (table core.old).seats }
-    ensures { table core.new ≡ seen_if on (table core.old) s state }
+    requires { s < (columns core.old).seats }
+    ensures { columns core.new ≡ seen_if on (columns core.old) s state }
 {
     if on {
         put_seen(core, s, Some(state));
@@ -42,8 +42,8 @@ pub fn see_if(core: &mut Core, s: SeatNo, state: State, on: bool)
 
 /// What a store of a sleep state makes of what seat s knows: the tests of t are those after it.
 fn sleep(core: &mut Core, s: SeatNo, t: TaskNo) -> Result<(), NoMemory>
-    requires { s < (table core.old).seats }
-    ensures { OnOk result (table core.new ≡ slept_if true (table core.old) s t) }
+    requires { s < (columns core.old).seats }
+    ensures { OnOk result (columns core.new ≡ slept_if true (columns core.old) s t) }
 {
     forget_sleep(core, s, t);
     note(core, s, Act::Slept { t })?;
@@ -52,8 +52,8 @@ fn sleep(core: &mut Core, s: SeatNo, t: TaskNo) -> Result<(), NoMemory>
 
 /// The same, where `on`. Answers `NoMemory` where memory runs out.
 pub fn sleep_if(core: &mut Core, s: SeatNo, t: TaskNo, on: bool) -> Result<(), NoMemory>
-    requires { s < (table core.old).seats }
-    ensures { OnOk result (table core.new ≡ slept_if on (table core.old) s t) }
+    requires { s < (columns core.old).seats }
+    ensures { OnOk result (columns core.new ≡ slept_if on (columns core.old) s t) }
 {
     if on {
         sleep(core, s, t)?;
@@ -63,8 +63,8 @@ pub fn sleep_if(core: &mut Core, s: SeatNo, t: TaskNo, on: bool) -> Result<(), N
 
 /// Notes that seat s passed task t, where `on`. Answers `NoMemory` where memory runs out.
 pub fn run_if(core: &mut Core, s: SeatNo, t: TaskNo, on: bool) -> Result<(), NoMemory>
-    requires { s < (table core.old).seats }
-    ensures { OnOk result (table core.new ≡ ran_if on (table core.old) s t) }
+    requires { s < (columns core.old).seats }
+    ensures { OnOk result (columns core.new ≡ ran_if on (columns core.old) s t) }
 {
     if on {
         note(core, s, Act::Passed { t })?;
@@ -81,8 +81,8 @@ pub fn test_if(
     v: u64,
     on: bool,
 ) -> Result<(), NoMemory>
-    requires { s < (table core.old).seats }
-    ensures { OnOk result (table core.new ≡ tested_if on (table core.old) s t k v) }
+    requires { s < (columns core.old).seats }
+    ensures { OnOk result (columns core.new ≡ tested_if on (columns core.old) s t k v) }
 {
     if on {
         set_test(core, s, Test { t, k, v })?;

@@ -4,7 +4,7 @@
 ghost use Rattle.std.specs.Prelude.{◌≡◌, ◌≢◌, ◌<◌, ◌^◌, ◌+◌, ◌++◌, ◌∷◌, [], ◌⊎◌, ◌↔◌, ◌==◌, IsTrue, OnOk, Some, None, true, false, if◌then◌else◌};
 ghost use Rattle.core_data.specs.Noted.{noted};
 ghost use Rattle.core_data.specs.Queue.{times_in};
-ghost use Rattle.core_data.specs.Table.{Table, table, put, put_at};
+ghost use Rattle.core_data.specs.Columns.{Columns, columns, put, put_at};
 ghost use Rattle.core_data.specs.declared.act.Act.TheVariants.{Queued, Dequeued, Picked};
 ghost use Rattle.handoff_data.specs.declared.entry.Entry.TheVariants.{Pick, Finish};
 ghost use Rattle.core_kinds.specs.Steps.{waking, IsRunnable, stored_word};
@@ -14,22 +14,22 @@ use crate::common::{END, is_of_shape, is_runnable, is_sleep, renew};
 use core_data::{Act, Core, QueueVal, TaskReads, TaskWords};
 use handoff_data::{CpuNo, Entry, NoMemory, SeatNo, State, TaskNo};
 use step_stores::{
-    body_out as body_out_of, clear, cpus, current, forget_sleep, idle, log, note, put_body,
+    body_out as body_held_of, clear, cpus, current, forget_sleep, idle, log, note, put_body,
     put_body_out, put_busy, put_current, put_level_known, put_rq, put_seen, put_to_clear,
     queue_lock, reads, seen, set_reads, take_body, task_words, to_clear,
 };
 
 /// Whether seat s has the lock of the queue of processor c, and all three are of the shape.
 fn has_queue_lock(core: &Core, s: SeatNo, c: CpuNo, t: TaskNo) -> bool
-    ensures { IsTrue result ↔ ((s < (table core.now).seats) × (t < (table core.now).tasks) × (c < (table core.now).cpus) × ((table core.now).queue_lock c ≡ Some s)) }
+    ensures { IsTrue result ↔ ((s < (columns core.now).seats) × (t < (columns core.now).tasks) × (c < (columns core.now).cpus) × ((columns core.now).queue_lock c ≡ Some s)) }
 {
     is_of_shape(core, s, t) && (c as usize) < cpus(core) && queue_lock(core, c) == Some(s)
 }
 
 /// Stores `on_rq` of task t with the next number, and its entry.
 fn store_rq(core: &mut Core, s: SeatNo, t: TaskNo, on: u8, entry: Entry) -> Result<(), NoMemory>
-    requires { (s < (table core.old).seats) × (t < (table core.old).tasks) × ((table core.old).changes t < 2 ^ 60) }
-    ensures { OnOk result (table core.new ≡ store_rq (table core.old) s t on entry) }
+    requires { (s < (columns core.old).seats) × (t < (columns core.old).tasks) × ((columns core.old).changes t < 2 ^ 60) }
+    ensures { OnOk result (columns core.new ≡ store_rq (columns core.old) s t on entry) }
 {
     let m = task_words(core, t).changes + 1;
     let old = reads(core, s, t);
@@ -64,7 +64,7 @@ fn is_ready(words: TaskWords, is_clear: bool) -> bool
 
 /// Whether seat s may store 1 in `on_rq` of task t, on the queue of processor c.
 pub fn may_queue(core: &Core, s: SeatNo, c: CpuNo, t: TaskNo) -> bool
-    ensures { IsTrue result ↔ MayQueue (table core.now) s c t }
+    ensures { IsTrue result ↔ MayQueue (columns core.now) s c t }
 {
     if !has_queue_lock(core, s, c, t) {
         return false;
@@ -95,8 +95,8 @@ fn queue_entry(words: TaskWords, t: TaskNo, c: CpuNo) -> Entry
 
 /// Queues task t. Answers `NoMemory` where memory runs out.
 pub fn queue_task(core: &mut Core, s: SeatNo, c: CpuNo, t: TaskNo) -> Result<(), NoMemory>
-    requires { MayQueue (table core.old) s c t }
-    ensures { OnOk result (table core.new ≡ queue_task (table core.old) s c t) }
+    requires { MayQueue (columns core.old) s c t }
+    ensures { OnOk result (columns core.new ≡ queue_task (columns core.old) s c t) }
 {
     let entry = queue_entry(task_words(core, t), t, c);
     store_rq(core, s, t, 1, entry)?;
@@ -116,7 +116,7 @@ fn may_leave(state: Option<State>, count: u32) -> bool
 
 /// Whether seat s may store 0 in `on_rq` of task t: its current task sleeps or dies.
 pub fn may_dequeue(core: &Core, s: SeatNo, c: CpuNo, t: TaskNo) -> bool
-    ensures { IsTrue result ↔ MayDequeue (table core.now) s c t }
+    ensures { IsTrue result ↔ MayDequeue (columns core.now) s c t }
 {
     if s != c || !has_queue_lock(core, s, c, t) {
         return false;
@@ -149,8 +149,8 @@ fn dequeue_entry(state: Option<State>, changes: u64, t: TaskNo, c: CpuNo) -> Ent
 
 /// Takes the current task off its queue. Answers `NoMemory` where memory runs out.
 pub fn dequeue_task(core: &mut Core, s: SeatNo, c: CpuNo, t: TaskNo) -> Result<(), NoMemory>
-    requires { MayDequeue (table core.old) s c t }
-    ensures { OnOk result (table core.new ≡ dequeue_task (table core.old) s c t) }
+    requires { MayDequeue (columns core.old) s c t }
+    ensures { OnOk result (columns core.new ≡ dequeue_task (columns core.old) s c t) }
 {
     let entry = dequeue_entry(seen(core, s), task_words(core, t).changes, t, c);
     store_rq(core, s, t, 0, entry)?;
@@ -160,7 +160,7 @@ pub fn dequeue_task(core: &mut Core, s: SeatNo, c: CpuNo, t: TaskNo) -> Result<(
 
 /// Whether seat s may store 2 in `on_rq` of task t, which waits on the queue of processor c.
 pub fn may_move(core: &Core, s: SeatNo, c: CpuNo, t: TaskNo, val: &QueueVal) -> bool
-    ensures { IsTrue result ↔ MayMove (table core.now) s c t val.now }
+    ensures { IsTrue result ↔ MayMove (columns core.now) s c t val.now }
 {
     if !has_queue_lock(core, s, c, t) || !val.contains(t) {
         return false;
@@ -184,8 +184,8 @@ pub fn move_task(
     t: TaskNo,
     val: &QueueVal,
 ) -> Result<(), NoMemory>
-    requires { MayMove (table core.old) s c t val.now }
-    ensures { OnOk result (table core.new ≡ move_task (table core.old) s c t) }
+    requires { MayMove (columns core.old) s c t val.now }
+    ensures { OnOk result (columns core.new ≡ move_task (columns core.old) s c t) }
 {
     let m = task_words(core, t).changes + 1;
     store_rq(core, s, t, 2, Entry::Out { t, m, c })?;
@@ -195,7 +195,7 @@ pub fn move_task(
 
 /// Whether seat s may set the busy word of task t, which its own queue has as its next.
 pub fn may_set_busy(core: &Core, s: SeatNo, c: CpuNo, t: TaskNo, val: &QueueVal) -> bool
-    ensures { IsTrue result ↔ MaySetBusy (table core.now) s c t val.now }
+    ensures { IsTrue result ↔ MaySetBusy (columns core.now) s c t val.now }
 {
     if s != c || !has_queue_lock(core, s, c, t) {
         return false;
@@ -214,7 +214,7 @@ pub fn may_set_busy(core: &Core, s: SeatNo, c: CpuNo, t: TaskNo, val: &QueueVal)
 
 /// Whether seat s may clear the busy word of task t, which it has just given up.
 pub fn may_clear_busy(core: &Core, s: SeatNo, t: TaskNo) -> bool
-    ensures { IsTrue result ↔ MayClearBusy (table core.now) s t }
+    ensures { IsTrue result ↔ MayClearBusy (columns core.now) s t }
 {
     if !is_of_shape(core, s, t) {
         return false;
@@ -224,8 +224,8 @@ pub fn may_clear_busy(core: &Core, s: SeatNo, t: TaskNo) -> bool
 
 /// Clears the busy word of task t. Answers `NoMemory` where memory runs out.
 pub fn clear_busy(core: &mut Core, s: SeatNo, t: TaskNo) -> Result<(), NoMemory>
-    requires { MayClearBusy (table core.old) s t }
-    ensures { OnOk result (table core.new ≡ clear_busy (table core.old) s t) }
+    requires { MayClearBusy (columns core.old) s t }
+    ensures { OnOk result (columns core.new ≡ clear_busy (columns core.old) s t) }
 {
     let n = task_words(core, t).runs + 1;
     finish(core, s, t, n)?;
@@ -234,8 +234,8 @@ pub fn clear_busy(core: &mut Core, s: SeatNo, t: TaskNo) -> Result<(), NoMemory>
 }
 
 fn finish(core: &mut Core, s: SeatNo, t: TaskNo, n: u64) -> Result<(), NoMemory>
-    requires { (s < (table core.old).seats) × (t < (table core.old).tasks) }
-    ensures { OnOk result (table core.new ≡ record (table core.old) { on_cpu = put (table core.old).on_cpu t false; runs = put (table core.old).runs t n; to_clear = put (table core.old).to_clear s None; journal = put (table core.old).journal s ((table core.old).journal s ++ Finish t n s ∷ []) }) }
+    requires { (s < (columns core.old).seats) × (t < (columns core.old).tasks) }
+    ensures { OnOk result (columns core.new ≡ record (columns core.old) { on_cpu = put (columns core.old).on_cpu t false; runs = put (columns core.old).runs t n; task_to_clear = put (columns core.old).task_to_clear s None; journal = put (columns core.old).journal s ((columns core.old).journal s ++ Finish t n s ∷ []) }) }
 {
     put_busy(core, t, false, n);
     put_to_clear(core, s, None);
@@ -244,8 +244,8 @@ fn finish(core: &mut Core, s: SeatNo, t: TaskNo, n: u64) -> Result<(), NoMemory>
 }
 
 fn pick(core: &mut Core, s: SeatNo, c: CpuNo, t: TaskNo, n: u64) -> Result<(), NoMemory>
-    requires { (s < (table core.old).seats) × (t < (table core.old).tasks) }
-    ensures { OnOk result (table core.new ≡ record (table core.old) { on_cpu = put (table core.old).on_cpu t true; runs = put (table core.old).runs t n; current = put (table core.old).current s (Some t); seen = put (table core.old).seen s None; level_known = put (table core.old).level_known s None; test = put (table core.old).test s (λ u l. if u == t then None else (table core.old).test s u l); asleep = put (table core.old).asleep s (λ u l. if u == t then false else (table core.old).asleep s u l); journal = put (table core.old).journal s ((table core.old).journal s ++ Pick t n c ∷ []) }) }
+    requires { (s < (columns core.old).seats) × (t < (columns core.old).tasks) }
+    ensures { OnOk result (columns core.new ≡ record (columns core.old) { on_cpu = put (columns core.old).on_cpu t true; runs = put (columns core.old).runs t n; current_task = put (columns core.old).current_task s (Some t); seen_state = put (columns core.old).seen_state s None; level_known = put (columns core.old).level_known s None; tested = put (columns core.old).tested s (λ u l. if u == t then None else (columns core.old).tested s u l); is_asleep = put (columns core.old).is_asleep s (λ u l. if u == t then false else (columns core.old).is_asleep s u l); journal = put (columns core.old).journal s ((columns core.old).journal s ++ Pick t n c ∷ []) }) }
 {
     put_busy(core, t, true, n);
     put_current(core, s, Some(t));
@@ -259,8 +259,8 @@ fn pick(core: &mut Core, s: SeatNo, c: CpuNo, t: TaskNo, n: u64) -> Result<(), N
 
 /// Sets the busy word of task t, which becomes the seat's current task. Answers `NoMemory` where memory runs out.
 pub fn set_busy(core: &mut Core, s: SeatNo, c: CpuNo, t: TaskNo) -> Result<(), NoMemory>
-    requires { (s < (table core.old).seats) × (t < (table core.old).tasks) × ((table core.old).runs t < 2 ^ 60) }
-    ensures { OnOk result (table core.new ≡ set_busy (table core.old) s c t) }
+    requires { (s < (columns core.old).seats) × (t < (columns core.old).tasks) × ((columns core.old).runs t < 2 ^ 60) }
+    ensures { OnOk result (columns core.new ≡ set_busy (columns core.old) s c t) }
 {
     let n = task_words(core, t).runs + 1;
     pick(core, s, c, t, n)?;
@@ -271,7 +271,7 @@ pub fn set_busy(core: &mut Core, s: SeatNo, c: CpuNo, t: TaskNo) -> Result<(), N
 
 /// Whether seat s may take the body of its current task out.
 pub fn may_body_out(core: &Core, s: SeatNo, t: TaskNo) -> bool
-    ensures { IsTrue result ↔ MayBodyOut (table core.now) s t }
+    ensures { IsTrue result ↔ MayBodyOut (columns core.now) s t }
 {
     if !is_of_shape(core, s, t) {
         return false;
@@ -281,8 +281,8 @@ pub fn may_body_out(core: &Core, s: SeatNo, t: TaskNo) -> bool
 
 /// Takes the body of task t out.
 pub fn body_out(core: &mut Core, s: SeatNo, t: TaskNo)
-    requires { (s < (table core.old).seats) × (t < (table core.old).tasks) }
-    ensures { table core.new ≡ body_out (table core.old) s t }
+    requires { (s < (columns core.old).seats) × (t < (columns core.old).tasks) }
+    ensures { columns core.new ≡ body_out (columns core.old) s t }
 {
     take_body(core, t);
     put_body_out(core, s, Some(t));
@@ -290,20 +290,20 @@ pub fn body_out(core: &mut Core, s: SeatNo, t: TaskNo)
 
 /// Whether seat s may put the body of its current task home.
 pub fn may_body_home(core: &Core, s: SeatNo, t: TaskNo, ended: bool) -> bool
-    ensures { IsTrue result ↔ MayBodyHome (table core.now) s t ended }
+    ensures { IsTrue result ↔ MayBodyHome (columns core.now) s t ended }
 {
     if !is_of_shape(core, s, t) {
         return false;
     }
     current(core, s) == Some(t)
-        && body_out_of(core, s) == Some(t)
+        && body_held_of(core, s) == Some(t)
         && (ended || !task_words(core, t).ended)
 }
 
 /// Puts the body of task t home.
 pub fn body_home(core: &mut Core, s: SeatNo, t: TaskNo, ended: bool)
-    requires { (s < (table core.old).seats) × (t < (table core.old).tasks) }
-    ensures { table core.new ≡ body_home (table core.old) s t ended }
+    requires { (s < (columns core.old).seats) × (t < (columns core.old).tasks) }
+    ensures { columns core.new ≡ body_home (columns core.old) s t ended }
 {
     put_body(core, t, ended);
     put_body_out(core, s, None);

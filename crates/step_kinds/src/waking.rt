@@ -3,11 +3,11 @@
 
 ghost use Rattle.std.specs.Prelude.{◌≡◌, ◌≢◌, ◌<◌, ◌⊎◌, ◌++◌, ◌∷◌, [], ◌↔◌, IsTrue, OnOk, Some, None, true, false};
 ghost use Rattle.core_data.specs.Noted.{noted};
-ghost use Rattle.core_data.specs.Table.{Table, table, put, put_at};
+ghost use Rattle.core_data.specs.Columns.{Columns, columns, put, put_at};
 ghost use Rattle.core_data.specs.declared.act.Act.TheVariants.{Claimed, Passed, OwnStored};
 ghost use Rattle.handoff_data.specs.declared.entry.Entry.TheVariants.{Wake};
 ghost use Rattle.core_kinds.specs.Steps.{running, dead, waking, is_sleep, stored_word};
-ghost use Rattle.core_kinds.specs.Waking.{IsOwnState, MayOwnState, own_state, MayClaim, claim, IsRelease, MayRelease, release, IsPlaceable, MayStoreCpu, store_cpu, cpu_read};
+ghost use Rattle.core_kinds.specs.Waking.{IsSettable, MaySetState, set_state, MayClaim, claim, IsReadyToRun, MayMakeRunnable, make_runnable, IsPlaceable, MayStoreCpu, store_cpu, cpu_read};
 
 use crate::common::{is_of_shape, is_sleep, renew};
 use crate::notes::{run_if, sleep_if};
@@ -19,7 +19,7 @@ use step_stores::{
 };
 
 /// Whether a task may store this state of its own.
-fn is_own_state(words: TaskWords, s: SeatNo, state: State) -> bool
+fn is_settable(words: TaskWords, s: SeatNo, state: State) -> bool
     ensures { IsTrue result ↔ ((state ≡ running) ⊎ ((is_sleep state ≡ true) ⊎ ((state ≡ dead) × (words.lock ≡ Some s) × (words.ended ≡ true)))) }
 {
     state == State::TASK_RUNNING
@@ -28,19 +28,19 @@ fn is_own_state(words: TaskWords, s: SeatNo, state: State) -> bool
 }
 
 /// Whether seat s may store the state of its current task.
-pub fn may_own_state(core: &Core, s: SeatNo, t: TaskNo, state: State) -> bool
-    ensures { IsTrue result ↔ MayOwnState (table core.now) s t state }
+pub fn may_set_state(core: &Core, s: SeatNo, t: TaskNo, state: State) -> bool
+    ensures { IsTrue result ↔ MaySetState (columns core.now) s t state }
 {
     if !is_of_shape(core, s, t) {
         return false;
     }
     let words = task_words(core, t);
-    current(core, s) == Some(t) && words.on_rq == 1 && is_own_state(words, s, state)
+    current(core, s) == Some(t) && words.on_rq == 1 && is_settable(words, s, state)
 }
 
-fn store_own(core: &mut Core, s: SeatNo, t: TaskNo, state: State) -> Result<(), NoMemory>
-    requires { (s < (table core.old).seats) × (t < (table core.old).tasks) }
-    ensures { OnOk result (table core.new ≡ noted (stored_word (record (table core.old) { state = put (table core.old).state t state; seen = put (table core.old).seen s None }) s t) s (OwnStored t)) }
+fn store_state(core: &mut Core, s: SeatNo, t: TaskNo, state: State) -> Result<(), NoMemory>
+    requires { (s < (columns core.old).seats) × (t < (columns core.old).tasks) }
+    ensures { OnOk result (columns core.new ≡ noted (stored_word (record (columns core.old) { state = put (columns core.old).state t state; seen_state = put (columns core.old).seen_state s None }) s t) s (OwnStored t)) }
 {
     put_state(core, t, state);
     put_seen(core, s, None);
@@ -50,11 +50,11 @@ fn store_own(core: &mut Core, s: SeatNo, t: TaskNo, state: State) -> Result<(), 
 }
 
 /// Stores the state of the seat's current task. Answers `NoMemory` where memory runs out.
-pub fn own_state(core: &mut Core, s: SeatNo, t: TaskNo, state: State) -> Result<(), NoMemory>
-    requires { (s < (table core.old).seats) × (t < (table core.old).tasks) }
-    ensures { OnOk result (table core.new ≡ own_state (table core.old) s t state) }
+pub fn set_state(core: &mut Core, s: SeatNo, t: TaskNo, state: State) -> Result<(), NoMemory>
+    requires { (s < (columns core.old).seats) × (t < (columns core.old).tasks) }
+    ensures { OnOk result (columns core.new ≡ set_state (columns core.old) s t state) }
 {
-    store_own(core, s, t, state)?;
+    store_state(core, s, t, state)?;
     sleep_if(core, s, t, is_sleep(state))?;
     run_if(core, s, t, state.0 == 0)?;
     Ok(())
@@ -62,7 +62,7 @@ pub fn own_state(core: &mut Core, s: SeatNo, t: TaskNo, state: State) -> Result<
 
 /// Whether seat s may store TASK_WAKING as the state of task t.
 pub fn may_claim(core: &Core, s: SeatNo, t: TaskNo) -> bool
-    ensures { IsTrue result ↔ MayClaim (table core.now) s t }
+    ensures { IsTrue result ↔ MayClaim (columns core.now) s t }
 {
     if !is_of_shape(core, s, t) {
         return false;
@@ -70,9 +70,9 @@ pub fn may_claim(core: &Core, s: SeatNo, t: TaskNo) -> bool
     task_words(core, t).lock == Some(s) && saw_off(core, s, t)
 }
 
-fn store_waking(core: &mut Core, s: SeatNo, t: TaskNo, m: u64) -> Result<(), NoMemory>
-    requires { (s < (table core.old).seats) × (t < (table core.old).tasks) }
-    ensures { OnOk result (table core.new ≡ stored_word (record (table core.old) { state = put (table core.old).state t waking; journal = put (table core.old).journal s ((table core.old).journal s ++ Wake t m ∷ []) }) s t) }
+fn store_claim(core: &mut Core, s: SeatNo, t: TaskNo, m: u64) -> Result<(), NoMemory>
+    requires { (s < (columns core.old).seats) × (t < (columns core.old).tasks) }
+    ensures { OnOk result (columns core.new ≡ stored_word (record (columns core.old) { state = put (columns core.old).state t waking; journal = put (columns core.old).journal s ((columns core.old).journal s ++ Wake t m ∷ []) }) s t) }
 {
     put_state(core, t, State::TASK_WAKING);
     log(core, s, Entry::Wake { t, m })?;
@@ -83,18 +83,18 @@ fn store_waking(core: &mut Core, s: SeatNo, t: TaskNo, m: u64) -> Result<(), NoM
 /// Stores TASK_WAKING as the state of task t: the seat claims the task, to queue it. Answers `NoMemory` where memory
 /// runs out.
 pub fn claim(core: &mut Core, s: SeatNo, t: TaskNo) -> Result<(), NoMemory>
-    requires { (s < (table core.old).seats) × (t < (table core.old).tasks) }
-    ensures { OnOk result (table core.new ≡ claim (table core.old) s t) }
+    requires { (s < (columns core.old).seats) × (t < (columns core.old).tasks) }
+    ensures { OnOk result (columns core.new ≡ claim (columns core.old) s t) }
 {
     let m = task_words(core, t).changes;
-    store_waking(core, s, t, m)?;
+    store_claim(core, s, t, m)?;
     note(core, s, Act::Claimed { t })?;
     note(core, s, Act::Passed { t })?;
     Ok(())
 }
 
 /// Whether TASK_RUNNING may be stored of a task, by what the seat holds and knows.
-fn is_release(
+fn is_ready_to_run(
     words: TaskWords,
     s: SeatNo,
     queue_locked: bool,
@@ -112,8 +112,8 @@ fn is_release(
 }
 
 /// Whether seat s may store TASK_RUNNING as the state of task t.
-pub fn may_release(core: &Core, s: SeatNo, t: TaskNo) -> bool
-    ensures { IsTrue result ↔ MayRelease (table core.now) s t }
+pub fn may_make_runnable(core: &Core, s: SeatNo, t: TaskNo) -> bool
+    ensures { IsTrue result ↔ MayMakeRunnable (columns core.now) s t }
 {
     if !is_of_shape(core, s, t) {
         return false;
@@ -124,7 +124,7 @@ pub fn may_release(core: &Core, s: SeatNo, t: TaskNo) -> bool
     }
     let queue_locked = queue_lock(core, words.cpu) == Some(s);
     let is_current = current(core, s) == Some(t);
-    is_release(
+    is_ready_to_run(
         words,
         s,
         queue_locked,
@@ -135,9 +135,9 @@ pub fn may_release(core: &Core, s: SeatNo, t: TaskNo) -> bool
 }
 
 /// Stores TASK_RUNNING as the state of task t. Answers `NoMemory` where memory runs out.
-pub fn release(core: &mut Core, s: SeatNo, t: TaskNo) -> Result<(), NoMemory>
-    requires { (s < (table core.old).seats) × (t < (table core.old).tasks) }
-    ensures { OnOk result (table core.new ≡ release (table core.old) s t) }
+pub fn make_runnable(core: &mut Core, s: SeatNo, t: TaskNo) -> Result<(), NoMemory>
+    requires { (s < (columns core.old).seats) × (t < (columns core.old).tasks) }
+    ensures { OnOk result (columns core.new ≡ make_runnable (columns core.old) s t) }
 {
     put_state(core, t, State::TASK_RUNNING);
     renew(core, s, t)?;
@@ -156,7 +156,7 @@ fn is_placeable(words: TaskWords, is_clear: bool) -> bool
 
 /// Whether seat s may store processor c as that of task t.
 pub fn may_store_cpu(core: &Core, s: SeatNo, t: TaskNo, c: CpuNo) -> bool
-    ensures { IsTrue result ↔ MayStoreCpu (table core.now) s t c }
+    ensures { IsTrue result ↔ MayStoreCpu (columns core.now) s t c }
 {
     if !is_of_shape(core, s, t) || (c as usize) >= cpus(core) {
         return false;
@@ -167,8 +167,8 @@ pub fn may_store_cpu(core: &Core, s: SeatNo, t: TaskNo, c: CpuNo) -> bool
 }
 
 fn write_cpu(core: &mut Core, s: SeatNo, t: TaskNo, c: CpuNo) -> Result<(), NoMemory>
-    requires { (s < (table core.old).seats) × (t < (table core.old).tasks) }
-    ensures { OnOk result (table core.new ≡ record (table core.old) { cpu = put (table core.old).cpu t c; reads = put_at (table core.old).reads s t (cpu_read t c ((table core.old).reads s t)) }) }
+    requires { (s < (columns core.old).seats) × (t < (columns core.old).tasks) }
+    ensures { OnOk result (columns core.new ≡ record (columns core.old) { cpu = put (columns core.old).cpu t c; last_reads = put_at (columns core.old).last_reads s t (cpu_read t c ((columns core.old).last_reads s t)) }) }
 {
     let old = reads(core, s, t);
     put_cpu(core, t, c);
@@ -189,8 +189,8 @@ fn write_cpu(core: &mut Core, s: SeatNo, t: TaskNo, c: CpuNo) -> Result<(), NoMe
 
 /// Stores processor c as that of task t. Answers `NoMemory` where memory runs out.
 pub fn store_cpu(core: &mut Core, s: SeatNo, t: TaskNo, c: CpuNo) -> Result<(), NoMemory>
-    requires { (s < (table core.old).seats) × (t < (table core.old).tasks) }
-    ensures { OnOk result (table core.new ≡ store_cpu (table core.old) s t c) }
+    requires { (s < (columns core.old).seats) × (t < (columns core.old).tasks) }
+    ensures { OnOk result (columns core.new ≡ store_cpu (columns core.old) s t c) }
 {
     write_cpu(core, s, t, c)?;
     renew(core, s, t)?;

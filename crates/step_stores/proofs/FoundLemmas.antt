@@ -12,7 +12,7 @@ use Rattle.core_data.specs.Position.{is_other_test, is_test_of_other, is_sleep_o
 use Rattle.step_data.proofs.FoundLemmas.{found-append}
 use Rattle.core_data.specs.Queue.{Queue}
 use Rattle.core_data.specs.Found.{found, no_reads}
-use Rattle.core_data.specs.Table.{put}
+use Rattle.core_data.specs.Columns.{put}
 use Rattle.core_data.specs.declared.held.HeldTask.{HeldTask}
 use Rattle.core_data.specs.declared.held.HeldQueue.{HeldQueue}
 use Rattle.core_data.specs.declared.held.HeldWorks.{HeldWorks}

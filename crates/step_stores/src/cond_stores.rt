@@ -1,17 +1,17 @@
 //! The counter of a condition, the lock of its wait queue, and the value under it.
 
-#![tactic(auto, unfolding(core_data::specs::Table::table))]
+#![tactic(auto, unfolding(core_data::specs::Columns::columns))]
 
 ghost use Rattle.std.specs.Prelude.{◌≡◌, ◌<◌, Some, None, is_some};
-ghost use Rattle.core_data.specs.Table.{Table, table, put};
+ghost use Rattle.core_data.specs.Columns.{Columns, columns, put};
 
 use core_data::{Core, WaitVal};
 use handoff_data::{CondNo, SeatNo};
 
 /// Stores the counter of condition k.
 pub fn put_cond(core: &mut Core, k: CondNo, cond: u64)
-    requires { k < (table core.old).conds }
-    ensures { table core.new ≡ record (table core.old) { cond = put (table core.old).cond k cond } }
+    requires { k < (columns core.old).conds }
+    ensures { columns core.new ≡ record (columns core.old) { cond = put (columns core.old).cond k cond } }
 {
     let row = &mut core.conds[k as usize];
     row.cond = cond;
@@ -19,8 +19,8 @@ pub fn put_cond(core: &mut Core, k: CondNo, cond: u64)
 
 /// Stores the lock word of the wait queue of condition k.
 pub fn put_wait_lock(core: &mut Core, k: CondNo, lock: Option<SeatNo>)
-    requires { k < (table core.old).conds }
-    ensures { table core.new ≡ record (table core.old) { wait_lock = put (table core.old).wait_lock k lock } }
+    requires { k < (columns core.old).conds }
+    ensures { columns core.new ≡ record (columns core.old) { wait_lock = put (columns core.old).wait_lock k lock } }
 {
     let row = &mut core.conds[k as usize];
     row.wait_lock = lock;
@@ -28,8 +28,8 @@ pub fn put_wait_lock(core: &mut Core, k: CondNo, lock: Option<SeatNo>)
 
 /// Puts the wait queue of condition k home.
 pub fn put_wait(core: &mut Core, k: CondNo, val: WaitVal)
-    requires { k < (table core.old).conds }
-    ensures { table core.new ≡ record (table core.old) { wait = put (table core.old).wait k (Some val) } }
+    requires { k < (columns core.old).conds }
+    ensures { columns core.new ≡ record (columns core.old) { wait = put (columns core.old).wait k (Some val) } }
 {
     let row = &mut core.conds[k as usize];
     row.wait = Some(val);
@@ -37,9 +37,9 @@ pub fn put_wait(core: &mut Core, k: CondNo, val: WaitVal)
 
 /// Takes the wait queue of condition k out, if it is home.
 pub fn take_wait(core: &mut Core, k: CondNo) -> Option<WaitVal>
-    requires { k < (table core.old).conds }
-    ensures value { result ≡ (table core.old).wait k }
-    ensures after { table core.new ≡ record (table core.old) { wait = put (table core.old).wait k None } }
+    requires { k < (columns core.old).conds }
+    ensures value { result ≡ (columns core.old).wait k }
+    ensures after { columns core.new ≡ record (columns core.old) { wait = put (columns core.old).wait k None } }
 {
     let row = &mut core.conds[k as usize];
     row.wait.take()
@@ -47,8 +47,8 @@ pub fn take_wait(core: &mut Core, k: CondNo) -> Option<WaitVal>
 
 /// Whether the wait queue of condition k is home.
 pub fn has_wait(core: &Core, k: CondNo) -> bool
-    requires { k < (table core.now).conds }
-    ensures { result ≡ is_some ((table core.now).wait k) }
+    requires { k < (columns core.now).conds }
+    ensures { result ≡ is_some ((columns core.now).wait k) }
 {
     let row = &core.conds[k as usize];
     row.wait.is_some()
@@ -56,8 +56,8 @@ pub fn has_wait(core: &Core, k: CondNo) -> bool
 
 /// The counter of condition k.
 pub fn cond(core: &Core, k: CondNo) -> u64
-    requires { k < (table core.now).conds }
-    ensures { result ≡ (table core.now).cond k }
+    requires { k < (columns core.now).conds }
+    ensures { result ≡ (columns core.now).cond k }
 {
     let row = &core.conds[k as usize];
     row.cond
@@ -65,8 +65,8 @@ pub fn cond(core: &Core, k: CondNo) -> u64
 
 /// The lock word of the wait queue of condition k.
 pub fn wait_lock(core: &Core, k: CondNo) -> Option<SeatNo>
-    requires { k < (table core.now).conds }
-    ensures { result ≡ (table core.now).wait_lock k }
+    requires { k < (columns core.now).conds }
+    ensures { result ≡ (columns core.now).wait_lock k }
 {
     let row = &core.conds[k as usize];
     row.wait_lock

@@ -1,17 +1,17 @@
 //! The locks of a processor and the values under them, read and stored one at a time.
 
-#![tactic(auto, unfolding(core_data::specs::Table::table))]
+#![tactic(auto, unfolding(core_data::specs::Columns::columns))]
 
 ghost use Rattle.std.specs.Prelude.{◌≡◌, ◌<◌, Some, None, is_some};
-ghost use Rattle.core_data.specs.Table.{Table, table, put};
+ghost use Rattle.core_data.specs.Columns.{Columns, columns, put};
 
 use core_data::{Core, QueueVal, WorksVal};
 use handoff_data::{CpuNo, SeatNo};
 
 /// Stores the lock word of the queue of processor c.
 pub fn put_queue_lock(core: &mut Core, c: CpuNo, lock: Option<SeatNo>)
-    requires { c < (table core.old).cpus }
-    ensures { table core.new ≡ record (table core.old) { queue_lock = put (table core.old).queue_lock c lock } }
+    requires { c < (columns core.old).cpus }
+    ensures { columns core.new ≡ record (columns core.old) { queue_lock = put (columns core.old).queue_lock c lock } }
 {
     let row = &mut core.cpus[c as usize];
     row.queue_lock = lock;
@@ -19,8 +19,8 @@ pub fn put_queue_lock(core: &mut Core, c: CpuNo, lock: Option<SeatNo>)
 
 /// Puts the queue of processor c home.
 pub fn put_queue(core: &mut Core, c: CpuNo, val: QueueVal)
-    requires { c < (table core.old).cpus }
-    ensures { table core.new ≡ record (table core.old) { queue = put (table core.old).queue c (Some val) } }
+    requires { c < (columns core.old).cpus }
+    ensures { columns core.new ≡ record (columns core.old) { queue = put (columns core.old).queue c (Some val) } }
 {
     let row = &mut core.cpus[c as usize];
     row.queue = Some(val);
@@ -28,8 +28,8 @@ pub fn put_queue(core: &mut Core, c: CpuNo, val: QueueVal)
 
 /// Stores the lock word of the works of processor c.
 pub fn put_works_lock(core: &mut Core, c: CpuNo, lock: Option<SeatNo>)
-    requires { c < (table core.old).cpus }
-    ensures { table core.new ≡ record (table core.old) { works_lock = put (table core.old).works_lock c lock } }
+    requires { c < (columns core.old).cpus }
+    ensures { columns core.new ≡ record (columns core.old) { works_lock = put (columns core.old).works_lock c lock } }
 {
     let row = &mut core.cpus[c as usize];
     row.works_lock = lock;
@@ -37,8 +37,8 @@ pub fn put_works_lock(core: &mut Core, c: CpuNo, lock: Option<SeatNo>)
 
 /// Puts the works of processor c home.
 pub fn put_works(core: &mut Core, c: CpuNo, val: WorksVal)
-    requires { c < (table core.old).cpus }
-    ensures { table core.new ≡ record (table core.old) { works = put (table core.old).works c (Some val) } }
+    requires { c < (columns core.old).cpus }
+    ensures { columns core.new ≡ record (columns core.old) { works = put (columns core.old).works c (Some val) } }
 {
     let row = &mut core.cpus[c as usize];
     row.works = Some(val);
@@ -46,9 +46,9 @@ pub fn put_works(core: &mut Core, c: CpuNo, val: WorksVal)
 
 /// Takes the queue of processor c out, if it is home.
 pub fn take_queue(core: &mut Core, c: CpuNo) -> Option<QueueVal>
-    requires { c < (table core.old).cpus }
-    ensures value { result ≡ (table core.old).queue c }
-    ensures after { table core.new ≡ record (table core.old) { queue = put (table core.old).queue c None } }
+    requires { c < (columns core.old).cpus }
+    ensures value { result ≡ (columns core.old).queue c }
+    ensures after { columns core.new ≡ record (columns core.old) { queue = put (columns core.old).queue c None } }
 {
     let row = &mut core.cpus[c as usize];
     row.queue.take()
@@ -56,8 +56,8 @@ pub fn take_queue(core: &mut Core, c: CpuNo) -> Option<QueueVal>
 
 /// Whether the queue of processor c is home.
 pub fn has_queue(core: &Core, c: CpuNo) -> bool
-    requires { c < (table core.now).cpus }
-    ensures { result ≡ is_some ((table core.now).queue c) }
+    requires { c < (columns core.now).cpus }
+    ensures { result ≡ is_some ((columns core.now).queue c) }
 {
     let row = &core.cpus[c as usize];
     row.queue.is_some()
@@ -65,9 +65,9 @@ pub fn has_queue(core: &Core, c: CpuNo) -> bool
 
 /// Takes the works of processor c out, if it is home.
 pub fn take_works(core: &mut Core, c: CpuNo) -> Option<WorksVal>
-    requires { c < (table core.old).cpus }
-    ensures value { result ≡ (table core.old).works c }
-    ensures after { table core.new ≡ record (table core.old) { works = put (table core.old).works c None } }
+    requires { c < (columns core.old).cpus }
+    ensures value { result ≡ (columns core.old).works c }
+    ensures after { columns core.new ≡ record (columns core.old) { works = put (columns core.old).works c None } }
 {
     let row = &mut core.cpus[c as usize];
     row.works.take()
@@ -75,8 +75,8 @@ pub fn take_works(core: &mut Core, c: CpuNo) -> Option<WorksVal>
 
 /// Whether the works of processor c is home.
 pub fn has_works(core: &Core, c: CpuNo) -> bool
-    requires { c < (table core.now).cpus }
-    ensures { result ≡ is_some ((table core.now).works c) }
+    requires { c < (columns core.now).cpus }
+    ensures { result ≡ is_some ((columns core.now).works c) }
 {
     let row = &core.cpus[c as usize];
     row.works.is_some()
@@ -84,8 +84,8 @@ pub fn has_works(core: &Core, c: CpuNo) -> bool
 
 /// The lock word of the queue of processor c.
 pub fn queue_lock(core: &Core, c: CpuNo) -> Option<SeatNo>
-    requires { c < (table core.now).cpus }
-    ensures { result ≡ (table core.now).queue_lock c }
+    requires { c < (columns core.now).cpus }
+    ensures { result ≡ (columns core.now).queue_lock c }
 {
     let row = &core.cpus[c as usize];
     row.queue_lock
@@ -93,8 +93,8 @@ pub fn queue_lock(core: &Core, c: CpuNo) -> Option<SeatNo>
 
 /// The lock word of the works of processor c.
 pub fn works_lock(core: &Core, c: CpuNo) -> Option<SeatNo>
-    requires { c < (table core.now).cpus }
-    ensures { result ≡ (table core.now).works_lock c }
+    requires { c < (columns core.now).cpus }
+    ensures { result ≡ (columns core.now).works_lock c }
 {
     let row = &core.cpus[c as usize];
     row.works_lock

@@ -1,10 +1,10 @@
 //! What a seat has out, read.
 
-#![tactic(auto, unfolding(core_data::specs::Table::table))]
+#![tactic(auto, unfolding(core_data::specs::Columns::columns))]
 
 ghost use Rattle.std.specs.Prelude.{◌≡◌, ◌<◌, ◌==◌, Some, None, if◌then◌else◌, option_copied};
 ghost use Rattle.core_data.specs.Found.{found};
-ghost use Rattle.core_data.specs.Table.{Table, table};
+ghost use Rattle.core_data.specs.Columns.{Columns, columns};
 ghost use Rattle.core_data.specs.declared.held.HeldTask.{HeldTask};
 ghost use Rattle.core_data.specs.declared.held.HeldQueue.{HeldQueue};
 ghost use Rattle.core_data.specs.declared.held.HeldWorks.{HeldWorks};
@@ -35,8 +35,8 @@ fn find_task(held: &[HeldTask], t: TaskNo) -> Option<TaskVal>
 
 /// The value of the lock of task t as seat s took it, where it has it out.
 pub fn task_out(core: &Core, s: SeatNo, t: TaskNo) -> Option<TaskVal>
-    requires { s < (table core.now).seats }
-    ensures { result ≡ (table core.now).task_out s t }
+    requires { s < (columns core.now).seats }
+    ensures { result ≡ (columns core.now).task_held s t }
 {
     let row = &core.seats[s as usize];
     find_task(held::tasks(&row.held), t)
@@ -60,8 +60,8 @@ fn find_queue(held: &[HeldQueue], c: CpuNo) -> Option<&QueueVal>
 
 /// The value of the queue of processor c as seat s took it, where it has it out.
 pub fn queue_out(core: &Core, s: SeatNo, c: CpuNo) -> Option<&QueueVal>
-    requires { s < (table core.now).seats }
-    ensures { option_copied result ≡ (table core.now).queue_out s c }
+    requires { s < (columns core.now).seats }
+    ensures { option_copied result ≡ (columns core.now).queue_held s c }
 {
     let row = &core.seats[s as usize];
     find_queue(held::queues(&row.held), c)
@@ -85,8 +85,8 @@ fn find_works(held: &[HeldWorks], c: CpuNo) -> Option<&WorksVal>
 
 /// The value of the works of processor c as seat s took it, where it has it out.
 pub fn works_out(core: &Core, s: SeatNo, c: CpuNo) -> Option<&WorksVal>
-    requires { s < (table core.now).seats }
-    ensures { option_copied result ≡ (table core.now).works_out s c }
+    requires { s < (columns core.now).seats }
+    ensures { option_copied result ≡ (columns core.now).works_held s c }
 {
     let row = &core.seats[s as usize];
     find_works(held::works(&row.held), c)
@@ -110,8 +110,8 @@ fn find_wait(held: &[HeldWait], k: CondNo) -> Option<&WaitVal>
 
 /// The value of the wait queue of condition k as seat s took it, where it has it out.
 pub fn wait_out(core: &Core, s: SeatNo, k: CondNo) -> Option<&WaitVal>
-    requires { s < (table core.now).seats }
-    ensures { option_copied result ≡ (table core.now).wait_out s k }
+    requires { s < (columns core.now).seats }
+    ensures { option_copied result ≡ (columns core.now).wait_held s k }
 {
     let row = &core.seats[s as usize];
     find_wait(held::waits(&row.held), k)
@@ -119,8 +119,8 @@ pub fn wait_out(core: &Core, s: SeatNo, k: CondNo) -> Option<&WaitVal>
 
 /// The task whose busy word seat s still has to clear.
 pub fn to_clear(core: &Core, s: SeatNo) -> Option<TaskNo>
-    requires { s < (table core.now).seats }
-    ensures { result ≡ (table core.now).to_clear s }
+    requires { s < (columns core.now).seats }
+    ensures { result ≡ (columns core.now).task_to_clear s }
 {
     let row = &core.seats[s as usize];
     pos::to_clear(&row.pos)
@@ -128,8 +128,8 @@ pub fn to_clear(core: &Core, s: SeatNo) -> Option<TaskNo>
 
 /// The state that seat s has read of its current task under the lock of its own queue.
 pub fn seen(core: &Core, s: SeatNo) -> Option<State>
-    requires { s < (table core.now).seats }
-    ensures { result ≡ (table core.now).seen s }
+    requires { s < (columns core.now).seats }
+    ensures { result ≡ (columns core.now).seen_state s }
 {
     let row = &core.seats[s as usize];
     pos::seen(&row.pos)
@@ -137,8 +137,8 @@ pub fn seen(core: &Core, s: SeatNo) -> Option<State>
 
 /// The migrate-disable level of its current task that seat s has read since it picked it.
 pub fn level_known(core: &Core, s: SeatNo) -> Option<u32>
-    requires { s < (table core.now).seats }
-    ensures { result ≡ (table core.now).level_known s }
+    requires { s < (columns core.now).seats }
+    ensures { result ≡ (columns core.now).level_known s }
 {
     let row = &core.seats[s as usize];
     pos::level_known(&row.pos)
@@ -146,8 +146,8 @@ pub fn level_known(core: &Core, s: SeatNo) -> Option<u32>
 
 /// The task whose body seat s has out.
 pub fn body_out(core: &Core, s: SeatNo) -> Option<TaskNo>
-    requires { s < (table core.now).seats }
-    ensures { result ≡ (table core.now).body_out s }
+    requires { s < (columns core.now).seats }
+    ensures { result ≡ (columns core.now).body_held s }
 {
     let row = &core.seats[s as usize];
     held::body(&row.held)
@@ -155,8 +155,8 @@ pub fn body_out(core: &Core, s: SeatNo) -> Option<TaskNo>
 
 /// What seat s has last read of task t.
 pub fn reads(core: &Core, s: SeatNo, t: TaskNo) -> TaskReads
-    requires { s < (table core.now).seats }
-    ensures { result ≡ (table core.now).reads s t }
+    requires { s < (columns core.now).seats }
+    ensures { result ≡ (columns core.now).last_reads s t }
 {
     let row = &core.seats[s as usize];
     pos::reads(&row.pos, t)

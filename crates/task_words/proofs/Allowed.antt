@@ -18,11 +18,11 @@ use Rattle.task_words.specs.States.{IsOwnStore}
 use Rattle.task_words.specs.Queues.{MayQueueHere, MayMoveHere}
 use Rattle.word_rule.proofs.Uses.{gives_same, gives_put, gives_woken, gives_moved, gives_picked, gives_back, gives_asleep, IsPushed}
 use Rattle.word_rule.proofs.Possible.{value_of}
-use Rattle.word_rule.specs.May.{MayGiveQueueVal, MayGiveTaskVal, MaySetBusyWord, MayQueueWord, MayMoveWord, MayOwnWord, next_busy, next_rq, queued_next}
+use Rattle.word_rule.specs.May.{MayGiveQueueVal, MayGiveTaskVal, MaySetBusyWord, MayQueueWord, MayMoveWord, MaySetStateWord, next_busy, next_rq, queued_next}
 use Rattle.word_rule.specs.Standing.{may_run}
 use Rattle.word_rule.specs.Told.{TakenQueue}
 use Rattle.word_steps.specs.Folds.{put_both, has_put, current_task, stays_queued, queue_held, number_read, task_to_clear, task_held, ended_known}
-use Rattle.word_steps.specs.Records.{Rec, Took, Gave, OutBody, HomeBody, Queued, Dequeued, Moved, SetBusy, ClearedBusy, StoredOwn, Claimed, Released, LoadedState, LoadedRq, LoadedBusy, LoadedCpu, LoadedCount, StoredCpu, Bumped, LoadedCond}
+use Rattle.word_steps.specs.Records.{Rec, Took, Gave, OutBody, HomeBody, Queued, Dequeued, Moved, SetBusy, ClearedBusy, StateSet, Claimed, MadeRunnable, LoadedState, LoadedRq, LoadedBusy, LoadedCpu, LoadedCount, StoredCpu, Bumped, LoadedCond}
 use Rattle.word_steps.specs.declared.val.Val.TheVariants as val
 
 -- one more at the back, and at the front
@@ -94,7 +94,7 @@ module _ (shape : Shape) (s : ℕ) (c : ℕ) where
 
   pub woken_gives : (trace : List Rec) (given : Queue) → IsWoken shape s trace c given → MayGiveQueueVal s trace shape c given
   woken_gives trace given x =
-      loaded_gives given trace (Released x.t ∷ Queued x.t c x.on x.m ∷ Took c (val.Queue x.v) ∷ x.rs) x.did
+      loaded_gives given trace (MadeRunnable x.t ∷ Queued x.t c x.on x.m ∷ Took c (val.Queue x.v) ∷ x.rs) x.did
       (gives_woken shape s c x.v x.rs x.told x.t x.on x.m given
       (subst (λ (q : Queue). IsPushed x.v.waiting q.waiting x.t) (sym x.put) (pushed x.v.waiting x.t))
       (ap (λ (q : Queue). q.cur) x.put) (ap (λ (q : Queue). q.left) x.put))
@@ -257,7 +257,7 @@ move_may s trace c t x h room = let out = value_of (queue_held trace c) h.queue 
   other = h.other;
 }
 
-pub own_store : (s : ℕ) (trace : List Rec) (state : State) → IsOwnStore s trace state → (t : ℕ) × ((x : ℕ) → MayOwnWord s trace t x state.0)
+pub own_store : (s : ℕ) (trace : List Rec) (state : State) → IsOwnStore s trace state → (t : ℕ) × ((x : ℕ) → MaySetStateWord s trace t x state.0)
 own_store s trace state h = let out = value_of (current_task s trace) h.runs in (
   out.0,
   λ x. record {

@@ -3,7 +3,7 @@ use Rattle.std.proofs.Common.{◌≡◌, ◌<◌, ℕ, zero, suc, Bool, true, fa
 use Rattle.std.specs.Prelude.{Some, None, is_some, slice_get}
 use Rattle.std.specs.List.{All}
 use Rattle.std.proofs.lemmas.Bool.{cases_eq}
-use Rattle.core_data.specs.Table.{Table}
+use Rattle.core_data.specs.Columns.{Columns}
 use Rattle.core_invariant.proofs.Logs.{history-tasks}
 use Rattle.core_journals.proofs.Chains.{dead-of_die}
 use Rattle.core_journals.proofs.Lawful.{HasNoBad-journals}
@@ -68,7 +68,7 @@ same_end {ended = ended} {bodies = bodies} {states = states} {conds = conds} vie
 
 module _ {B : Type 0} {ended : B → Bool} {shape : Shape} {tokens : List TokenView} {bodies : List B}
     {states : List State} {conds : List ℕ} (end : IsEnd ended shape tokens bodies states conds) where
-  abbrev pub core : Table
+  abbrev pub core : Columns
   core = core_of shape end.words end.homes (traces_of tokens)
 
   -- a task that has this state at the end has it in the core

@@ -9,7 +9,7 @@ use Rattle.core_gives.specs.Waits.{has_task, HasEachOnce}
 use Rattle.handoff_data.specs.declared.shape.Shape.{Shape}
 use Rattle.task_words.specs.Gives.{IsEntered, entered}
 use Rattle.word_rule.specs.May.{MayGiveWaitVal}
-use Rattle.word_steps.specs.Records.{Rec, Took, StoredOwn}
+use Rattle.word_steps.specs.Records.{Rec, Took, StateSet}
 use Rattle.word_steps.specs.Folds.{has_own_stored}
 use Rattle.word_steps.specs.declared.val.Val.TheVariants as val
 
@@ -83,7 +83,7 @@ entered_gives shape s trace k given h =
       ];
       put_in = λ y e none. let same = is_entered y e none in (
         h.current ∙ ap (λ (t : ℕ). Some t) same,
-        subst (λ (t : ℕ). has_own_stored (StoredOwn h.x.t h.state ∷ Took k (val.Wait h.v) ∷ h.rs) k t ≡ true) same stored,
+        subst (λ (t : ℕ). has_own_stored (StateSet h.x.t h.state ∷ Took k (val.Wait h.v) ∷ h.rs) k t ≡ true) same stored,
       );
       taken_out = λ y was e. absurd (false≢true (sym e ∙ there y ∙ ap (λ (b : Bool). if same_entry h.x y then true else b) was
           ∙ both (same_entry h.x y)));
@@ -93,7 +93,7 @@ entered_gives shape s trace k given h =
     both true = refl
     both false = refl
 
-    stored : has_own_stored (StoredOwn h.x.t h.state ∷ Took k (val.Wait h.v) ∷ h.rs) k h.x.t ≡ true
+    stored : has_own_stored (StateSet h.x.t h.state ∷ Took k (val.Wait h.v) ∷ h.rs) k h.x.t ≡ true
     stored = grind (arith, nat_tests)
 
     there : (y : WaitEntry) → has_entry (entered h.x h.v) y ≡ (if same_entry h.x y then true else has_entry h.v y)

@@ -11,7 +11,7 @@ use Rattle.task_words.specs.Gives.{is_load, is_quiet, takes_queue, without}
 use Rattle.word_rule.specs.May.{MayGiveQueueVal}
 use Rattle.word_rule.specs.Standing.{standing, standing_after, may_run, may_run_after, is_runnable}
 use Rattle.word_steps.specs.Folds.{put_both, put_column_if, queue_held, queue_after, has_added, added_after, has_dropped, dropped_after, has_put, put_after, current_task, current_after, stays_queued, stays_after, body_held, body_after, task_to_clear, to_clear_after}
-use Rattle.word_steps.specs.Records.{Rec, Took, Gave, OutBody, HomeBody, Queued, Dequeued, Moved, SetBusy, ClearedBusy, StoredOwn, Claimed, Released, LoadedState, LoadedRq, LoadedBusy, LoadedCpu, LoadedCount, StoredCpu, Bumped, LoadedCond}
+use Rattle.word_steps.specs.Records.{Rec, Took, Gave, OutBody, HomeBody, Queued, Dequeued, Moved, SetBusy, ClearedBusy, StateSet, Claimed, MadeRunnable, LoadedState, LoadedRq, LoadedBusy, LoadedCpu, LoadedCount, StoredCpu, Bumped, LoadedCond}
 use Rattle.word_steps.specs.declared.val.Val.TheVariants as val
 
 -- What is known of one table is known of another that knows more
@@ -64,9 +64,9 @@ module _ (s : ℕ) (current : Option ℕ) (stays own : Bool) (were h k : ℕ →
   more_known (Moved u d m) c t more e = if_more (t == u) false (h c t) (k c t) more e
   more_known (SetBusy u d n) c t more e = more e
   more_known (ClearedBusy u n) c t more e = more e
-  more_known (StoredOwn u state) c t more e = column_more (not (state.0 == 0)) u false h k c t more e
+  more_known (StateSet u state) c t more e = column_more (not (state.0 == 0)) u false h k c t more e
   more_known (Claimed u m) c t more e = more e
-  more_known (Released u) c t more e = if_more ((t == u) && were c t) true (h c t) (k c t) more e
+  more_known (MadeRunnable u) c t more e = if_more ((t == u) && were c t) true (h c t) (k c t) more e
   more_known (LoadedState u mask state) c t more e =
       read_more (is_some_of current u && (stays && (own && is_runnable state))) s u h k c t more e
   more_known (LoadedRq u on m) c t more e = more e
@@ -170,8 +170,8 @@ module _ (s : ℕ) where
   finer_skip (LoadedCpu t d) q a = same_but (LoadedCpu t d) a refl refl refl refl refl refl refl refl refl (λ c u e. e)
   finer_skip (LoadedCount t level) q a = same_but (LoadedCount t level) a refl refl refl refl refl refl refl refl refl (λ c u e. e)
   finer_skip (LoadedCond k v) q a = same_but (LoadedCond k v) a refl refl refl refl refl refl refl refl refl (λ c u e. e)
-  finer_skip (Released t) q a =
-      same_but (Released t) a refl refl refl refl refl refl refl refl refl
+  finer_skip (MadeRunnable t) q a =
+      same_but (MadeRunnable t) a refl refl refl refl refl refl refl refl refl
       (λ c u e. still_if ((u == t) && has_put a c u) (may_run s a c u) e)
   finer_skip (Took n v) q a = loud (Took n v) refl q
   finer_skip (Gave n v w) q a = loud (Gave n v w) refl q
@@ -182,7 +182,7 @@ module _ (s : ℕ) where
   finer_skip (Moved t d m) q a = loud (Moved t d m) refl q
   finer_skip (SetBusy t d n) q a = loud (SetBusy t d n) refl q
   finer_skip (ClearedBusy t n) q a = loud (ClearedBusy t n) refl q
-  finer_skip (StoredOwn t state) q a = loud (StoredOwn t state) refl q
+  finer_skip (StateSet t state) q a = loud (StateSet t state) refl q
   finer_skip (Claimed t m) q a = loud (Claimed t m) refl q
   finer_skip (StoredCpu t d) q a = loud (StoredCpu t d) refl q
   finer_skip (Bumped k v) q a = loud (Bumped k v) refl q
@@ -228,7 +228,7 @@ loads_quiet (LoadedBusy t busy n) q = refl
 loads_quiet (LoadedCpu t d) q = refl
 loads_quiet (LoadedCount t level) q = refl
 loads_quiet (LoadedCond k v) q = refl
-loads_quiet (Released t) q = refl
+loads_quiet (MadeRunnable t) q = refl
 loads_quiet (Took n v) q = q
 loads_quiet (Gave n v w) q = q
 loads_quiet (OutBody t b) q = q
@@ -238,7 +238,7 @@ loads_quiet (Dequeued t d m) q = q
 loads_quiet (Moved t d m) q = q
 loads_quiet (SetBusy t d n) q = q
 loads_quiet (ClearedBusy t n) q = q
-loads_quiet (StoredOwn t state) q = q
+loads_quiet (StateSet t state) q = q
 loads_quiet (Claimed t m) q = q
 loads_quiet (StoredCpu t d) q = q
 loads_quiet (Bumped k v) q = q

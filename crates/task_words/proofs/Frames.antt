@@ -2,7 +2,7 @@
 use Rattle.std.proofs.Common.{◌≡◌, ◌∙◌, ℕ, ◌∷◌, List, refl, sym}
 use Rattle.std.specs.Prelude.{Bool, true, false}
 use Rattle.std.proofs.lemmas.Bool.{false≢true}
-use Rattle.word_steps.specs.Records.{Rec, Took, Gave, OutBody, HomeBody, Queued, Dequeued, Moved, SetBusy, ClearedBusy, StoredOwn, Claimed, Released, LoadedState, LoadedRq, LoadedBusy, LoadedCpu, LoadedCount, StoredCpu, Bumped, LoadedCond}
+use Rattle.word_steps.specs.Records.{Rec, Took, Gave, OutBody, HomeBody, Queued, Dequeued, Moved, SetBusy, ClearedBusy, StateSet, Claimed, MadeRunnable, LoadedState, LoadedRq, LoadedBusy, LoadedCpu, LoadedCount, StoredCpu, Bumped, LoadedCond}
 use Rattle.task_words.specs.Untouched.{Untouched}
 use Rattle.word_steps.specs.declared.val.Val.TheVariants as val
 
@@ -48,9 +48,9 @@ module _ (a : List Rec) where
   untouched_next (Moved t c m) e = record { works = refl; body = refl; ended = refl; stays = refl }
   untouched_next (SetBusy t c n) e = loud e
   untouched_next (ClearedBusy t n) e = record { works = refl; body = refl; ended = refl; stays = refl }
-  untouched_next (StoredOwn t state) e = record { works = refl; body = refl; ended = refl; stays = refl }
+  untouched_next (StateSet t state) e = record { works = refl; body = refl; ended = refl; stays = refl }
   untouched_next (Claimed t m) e = record { works = refl; body = refl; ended = refl; stays = refl }
-  untouched_next (Released t) e = record { works = refl; body = refl; ended = refl; stays = refl }
+  untouched_next (MadeRunnable t) e = record { works = refl; body = refl; ended = refl; stays = refl }
   untouched_next (LoadedState t mask state) e = record { works = refl; body = refl; ended = refl; stays = refl }
   untouched_next (LoadedRq t on m) e = record { works = refl; body = refl; ended = refl; stays = refl }
   untouched_next (LoadedBusy t busy n) e = record { works = refl; body = refl; ended = refl; stays = refl }

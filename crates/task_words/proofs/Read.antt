@@ -10,7 +10,7 @@ use Rattle.task_words.proofs.Finer.{IsFiner, finer_without, loads_quiet}
 use Rattle.task_words.specs.Gives.{is_load, since}
 use Rattle.word_rule.specs.Standing.{may_run, is_runnable}
 use Rattle.word_steps.specs.Folds.{put_both, current_task, stays_queued, queue_held, seen_state}
-use Rattle.word_steps.specs.Records.{Rec, Took, Gave, OutBody, HomeBody, Queued, Dequeued, Moved, SetBusy, ClearedBusy, StoredOwn, Claimed, Released, LoadedState, LoadedRq, LoadedBusy, LoadedCpu, LoadedCount, StoredCpu, Bumped, LoadedCond}
+use Rattle.word_steps.specs.Records.{Rec, Took, Gave, OutBody, HomeBody, Queued, Dequeued, Moved, SetBusy, ClearedBusy, StateSet, Claimed, MadeRunnable, LoadedState, LoadedRq, LoadedBusy, LoadedCpu, LoadedCount, StoredCpu, Bumped, LoadedCond}
 use Rattle.word_steps.specs.declared.val.Val.TheVariants as val
 
 same_some : (a b : State) → Some a ≡ Some b → a ≡ b
@@ -77,9 +77,9 @@ module _ (s t : ℕ) (state : State) (runs : is_runnable state ≡ true) (v : Qu
   seen_may (Moved u c m ∷ a) did current stays seen = other_first (Moved u c m ∷ since a) refl did
   seen_may (SetBusy u c n ∷ a) did current stays seen = other_first (SetBusy u c n ∷ since a) refl did
   seen_may (ClearedBusy u n ∷ a) did current stays seen = other_first (ClearedBusy u n ∷ since a) refl did
-  seen_may (StoredOwn u st ∷ a) did current stays seen = other_first (StoredOwn u st ∷ since a) refl did
+  seen_may (StateSet u st ∷ a) did current stays seen = other_first (StateSet u st ∷ since a) refl did
   seen_may (Claimed u m ∷ a) did current stays seen = other_first (Claimed u m ∷ since a) refl did
-  seen_may (Released u ∷ a) did current stays seen = other_first (Released u ∷ since a) refl did
+  seen_may (MadeRunnable u ∷ a) did current stays seen = other_first (MadeRunnable u ∷ since a) refl did
   seen_may (StoredCpu u c ∷ a) did current stays seen = other_first (StoredCpu u c ∷ since a) refl did
   seen_may (Bumped k n ∷ a) did current stays seen = other_first (Bumped k n ∷ since a) refl did
 

@@ -3,7 +3,7 @@ use Rattle.std.proofs.Common.{◌≡◌, ◌≢◌, ◌<◌, ◌≤◌, ◌⊎�
 use Rattle.std.specs.Prelude.{Option, Some, None, IsSome, is_some, slice_get, ◌==◌}
 use Rattle.std.proofs.lemmas.Bool.Decides.{nat_tests}
 use Rattle.core_data.specs.Entries.{has_entry}
-use Rattle.core_data.specs.Table.{Table}
+use Rattle.core_data.specs.Columns.{Columns}
 use Rattle.core_data.specs.declared.values.WaitEntry.{WaitEntry}
 use Rattle.core_gives.specs.Waits.{has_task}
 use Rattle.core_invariant.specs.Invariant.{Holds}
@@ -75,7 +75,7 @@ sleep_at (entry.Sleep t m c) = c
 sleep_at e = 0
 
 -- the seat of a sleeper is that of its processor
-module _ (core : Table) (holds : Holds core) (none : (s t : ℕ) → core.current s ≢ Some t) (t : ℕ)
+module _ (core : Columns) (holds : Holds core) (none : (s t : ℕ) → core.current_task s ≢ Some t) (t : ℕ)
     (asleep : is_sleep (core.state t) ≡ true) where
   off : core.on_rq t ≡ 0
   off =
@@ -116,9 +116,9 @@ module _ (core : Table) (holds : Holds core) (none : (s t : ℕ) → core.curren
       sym (ap sleep_at entries) ∙ (p.rules.in_range s at.slept.0 (entry.Sleep t at.number at.c) at.slept.1).2
 
 -- a safe sleeper with a test has the condition's value, or is owed a walk
-safe-tested : (core : Table) (k t v : ℕ) → is_sleep (core.state t) ≡ true → core.test (core.cpu t) t k ≡ Some v
+safe-tested : (core : Columns) (k t v : ℕ) → is_sleep (core.state t) ≡ true → core.tested (core.cpu t) t k ≡ Some v
     → IsSafeSleeper core k t
-    → (core.cond k ≡ v) ⊎ IsOwed core.owes core.retaken core.passed k t
+    → (core.cond k ≡ v) ⊎ IsOwed core.owes_walk core.has_retaken core.has_passed k t
 safe-tested core k t v asleep test safe = elim safe [
   | inl awake ↦ absurd (sleep-awake (core.state t) asleep awake)
   | inr (inl right) ↦ elim right [
@@ -131,7 +131,7 @@ safe-tested core k t v asleep test safe = elim safe [
 module _ {B : Type 0} {ended : B → Bool} {shape : Shape} {tokens : List TokenView} {bodies : List B}
     {states : List State} {conds : List ℕ} (end : IsEnd ended shape tokens bodies states conds)
     (idle : Each IsIdle tokens) where
-  abbrev core : Table
+  abbrev core : Columns
   core = core_of shape end.words end.homes (traces_of tokens)
 
   no_wait : (k s : ℕ) → wait_held (traces_of tokens s) k ≡ None
@@ -142,10 +142,10 @@ module _ {B : Type 0} {ended : B → Bool} {shape : Shape} {tokens : List TokenV
   waits_home k lt =
       let locks = end.kept.holds.locks.waits in
       let free = none_of (core.wait_lock k)
-      (λ q e. not_some (core.wait_out q k) (no_wait k q) (locks.held_out k q e)) in
+      (λ q e. not_some (core.wait_held q k) (no_wait k q) (locks.held_out k q e)) in
       value_of (core.wait k) (locks.free_home k lt free)
 
-  none : (q u : ℕ) → core.current q ≢ Some u
+  none : (q u : ℕ) → core.current_task q ≢ Some u
   none q u e = let no : false ≡ true = ap is_some
       (sym (no_current end idle q) ∙ e) in cc
 
@@ -174,9 +174,9 @@ module _ {B : Type 0} {ended : B → Bool} {shape : Shape} {tokens : List TokenV
       let rests = sleeping tasks t state is sleeps in
       let here : core.cpu t ≡ s = seat_is core holds none t rests s at in
       let home = waits_home k cond in
-      let there : core.asleep (core.cpu t) t k ≡ true = subst (λ (q : ℕ). is_asleep q (traces_of tokens q) t k ≡ true)
+      let there : core.is_asleep (core.cpu t) t k ≡ true = subst (λ (q : ℕ). is_asleep q (traces_of tokens q) t k ≡ true)
       (sym here) asleep in
-      let tests : core.test (core.cpu t) t k ≡ Some v = subst (λ (q : ℕ). tested q (traces_of tokens q) t k ≡ Some v)
+      let tests : core.tested (core.cpu t) t k ≡ Some v = subst (λ (q : ℕ). tested q (traces_of tokens q) t k ≡ Some v)
       (sym here) test in
       let entry = holds.sleepers.entry_home k t home.0 there rests home.1 in
       let counts : core.cond k ≡ count = some_same (core.cond k) count (sym (end.cond k cond) ∙ has) in

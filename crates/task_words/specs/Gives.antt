@@ -13,7 +13,7 @@ use Rattle.word_rule.specs.May.{number_of}
 use Rattle.word_rule.specs.Standing.{is_runnable}
 use Rattle.word_rule.specs.Told.{TakenQueue, TakenWait, IsOff}
 use Rattle.word_steps.specs.Folds.{task_held, current_task, stays_queued, body_held, task_to_clear, seen_state, is_claimed, is_moving}
-use Rattle.word_steps.specs.Records.{Rec, Took, Queued, Dequeued, Moved, SetBusy, StoredOwn, Released, LoadedState, LoadedRq, LoadedBusy, LoadedCpu, LoadedCount, LoadedCond}
+use Rattle.word_steps.specs.Records.{Rec, Took, Queued, Dequeued, Moved, SetBusy, StateSet, MadeRunnable, LoadedState, LoadedRq, LoadedBusy, LoadedCpu, LoadedCount, LoadedCond}
 use Rattle.word_steps.specs.declared.val.Val.TheVariants as val
 
 -- loads change nothing of a queue
@@ -28,7 +28,7 @@ is_load r = false
 
 -- nor does TASK_RUNNING stored of another task
 abbrev pub is_quiet : Rec → Bool
-is_quiet (Released t) = true
+is_quiet (MadeRunnable t) = true
 is_quiet r = is_load r
 
 abbrev pub takes_queue : Rec → Bool
@@ -78,7 +78,7 @@ module _ (shape : Shape) (s : ℕ) (trace : List Rec) (c : ℕ) where
     pub m : ℕ
     pub v : Queue
     pub rs : List Rec
-    pub did : since trace ≡ Released t ∷ Queued t c on m ∷ Took c (val.Queue v) ∷ rs
+    pub did : since trace ≡ MadeRunnable t ∷ Queued t c on m ∷ Took c (val.Queue v) ∷ rs
     pub told : TakenQueue shape s rs c v
     pub put : given ≡ record v { waiting = v.waiting ++ t ∷ [] }
 
@@ -189,7 +189,7 @@ pub record IsEntered (shape : Shape) (s : ℕ) (trace : List Rec) (k : ℕ) (giv
   pub put : given ≡ entered x v
   pub state : State
   pub rs : List Rec
-  pub did : trace ≡ StoredOwn x.t state ∷ Took k (val.Wait v) ∷ rs
+  pub did : trace ≡ StateSet x.t state ∷ Took k (val.Wait v) ∷ rs
   pub told : TakenWait shape v
   pub absent : has_task v x.t ≡ false
   pub current : current_task s rs ≡ Some x.t

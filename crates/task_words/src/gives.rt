@@ -11,13 +11,13 @@ ghost use Rattle.word_rule.specs.May.{IsPutHere};
 ghost use Rattle.word_rule.specs.Told.{TakenWait};
 ghost use Rattle.word_rule.specs.Standing.{may_run};
 ghost use Rattle.word_steps.specs.Folds.{current_task, level_known, queue_held, task_held, task_to_clear, wait_held};
-ghost use Rattle.word_steps.specs.Records.{Gave, Released, SetBusy};
+ghost use Rattle.word_steps.specs.Records.{Gave, MadeRunnable, SetBusy};
 ghost use Rattle.word_steps.specs.declared.val.Val.TheVariants as val;
 
 use crate::guards::{QueueGuard, TaskGuard, WaitGuard};
 use crate::pass::Pass;
 use crate::runs::set_busy;
-use crate::states::store_running;
+use crate::states::make_runnable;
 use crate::wk::Wk;
 use core_data::WaitEntry;
 use handoff_data::TaskNo;
@@ -119,14 +119,14 @@ impl<B: Kept> QueueGuard<B> {
     }
 
     /// Stores TASK_RUNNING as the state of a task that the seat has just queued here.
-    pub fn store_running(&self, wk: &Wk<B>, pass: &mut Pass, t: TaskNo)
+    pub fn make_runnable(&self, wk: &Wk<B>, pass: &mut Pass, t: TaskNo)
         requires of { IsOf wk.now pass.old }
         requires task { t < wk.now.shape.tasks }
         requires here { IsPutHere pass.old.seat pass.old.trace self.now.cpu t }
         ensures same { IsSame pass.old pass.new }
-        ensures trace { pass.new.trace ≡ Released t ∷ pass.old.trace }
+        ensures trace { pass.new.trace ≡ MadeRunnable t ∷ pass.old.trace }
     {
-        store_running(wk, pass, t);
+        make_runnable(wk, pass, t);
     }
 
     /// Gives the lock with the queue as it was taken.

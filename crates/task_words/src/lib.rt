@@ -38,7 +38,7 @@ pub use loads::{BusyWord, load_busy, load_count, load_cpu, load_rq, load_state};
 pub use locks::{lock_queue, lock_task, lock_wait, lock_works};
 pub use pass::{Pass, Turn};
 pub use runs::{clear_busy, dequeue_task, move_task, queue_task, set_busy};
-pub use states::{match_state, set_running, set_state, store_cpu, store_running, store_waking};
+pub use states::{claim_task, make_runnable, match_state, set_running, set_state, store_cpu};
 pub use waits::{rest_on_busy, rest_on_rq, wait_clear};
 pub use wk::Wk;
 pub use word_table::{BodyOut, Closed, Kept};

@@ -4,7 +4,7 @@ ghost use Rattle.task_words.specs.Views.{IsOf, IsSame};
 ghost use Rattle.core_kinds.specs.Steps.{dead};
 ghost use Rattle.handoff_data.specs.declared.state.State.{State};
 ghost use Rattle.word_rule.specs.Own.{IsOfCurrent, IsStill, last_own};
-ghost use Rattle.word_steps.specs.Folds.{task_held, is_matched_by, current_task, stays_queued, level_known};
+ghost use Rattle.word_steps.specs.Folds.{task_held, has_matched, current_task, stays_queued, level_known};
 ghost use Rattle.word_steps.specs.Records.{LoadedState, LoadedRq, LoadedBusy, LoadedCpu, LoadedCount};
 
 use crate::pass::Pass;
@@ -45,7 +45,7 @@ pub fn load_rq<B: Kept>(wk: &Wk<B>, pass: &mut Pass, t: TaskNo) -> Rq
     requires task { t < wk.now.shape.tasks }
     ensures same { IsSame pass.old pass.new }
     ensures trace { pass.new.trace ≡ LoadedRq t result.on result.m ∷ pass.old.trace }
-    ensures changed { IsSome (task_held pass.old.trace t) → is_matched_by pass.old.trace t ≡ true → result.m ≢ 0 }
+    ensures changed { IsSome (task_held pass.old.trace t) → has_matched pass.old.trace t ≡ true → result.m ≢ 0 }
 {
     let word = load::<B, LoadRq>(&wk.words, &mut pass.token, t);
     Rq {

@@ -5,18 +5,18 @@ ghost use Rattle.handoff_data.specs.declared.entry.Entry.TheVariants as entry;
 ghost use Rattle.task_words.specs.Needs.{need_step};
 ghost use Rattle.task_words.specs.Views.{IsOf, IsSame, IsSameSeat, logged};
 ghost use Rattle.task_words.specs.States.{IsOwnStore, IsWakeMask, tested};
-ghost use Rattle.word_rule.specs.May.{MayClaimWord, MayReleaseWord, MayCpuWord, number_of};
+ghost use Rattle.word_rule.specs.May.{MayClaimWord, MayMakeRunnableWord, MayCpuWord, number_of};
 ghost use Rattle.word_steps.specs.Folds.{current_task};
 ghost use Rattle.word_table.specs.Views.{IsOf as IsTokenOf, IsSame as IsSameToken};
-ghost use Rattle.word_steps.specs.Records.{StoredOwn, Claimed, Released, StoredCpu, LoadedState};
+ghost use Rattle.word_steps.specs.Records.{StateSet, Claimed, MadeRunnable, StoredCpu, LoadedState};
 
 use crate::guards::TaskGuard;
 use crate::pass::Pass;
 use crate::wk::Wk;
 use handoff_data::{CpuNo, Entry, State, TaskNo, matches};
 use word_kinds::{
-    Interruptible, InterruptibleKill, Killable, MatchState, NoBits, Normal, NormalKill, StoreOwn,
-    StoreRunning, StoreWaking, Uninterruptible, WakeKill,
+    ClaimTask, Interruptible, InterruptibleKill, Killable, MakeRunnable, MatchState, NoBits,
+    Normal, NormalKill, SetState, Uninterruptible, WakeKill,
 };
 use word_table::{Kept, Token, load, store};
 
@@ -26,14 +26,14 @@ pub fn set_state<B: Kept>(wk: &Wk<B>, pass: &mut Pass, state: State)
     requires of { IsOf wk.now pass.old }
     requires may { IsOwnStore pass.old.seat pass.old.trace state }
     ensures same { IsSame pass.old pass.new }
-    ensures trace { pass.new.trace ≡ StoredOwn (unwrap_or (current_task pass.old.seat pass.old.trace) 0) state ∷ pass.old.trace }
+    ensures trace { pass.new.trace ≡ StateSet (unwrap_or (current_task pass.old.seat pass.old.trace) 0) state ∷ pass.old.trace }
 {
     let Some(t) = pass.current else {
         unreachable!()
     };
     // A sleep state needs no lock, since its seat reads it again under its queue's lock before T leaves. TASK_DEAD
     // needs T's own: no waker is then between its match and its store (death under a wake).
-    store::<B, StoreOwn>(&wk.words, &mut pass.token, t, state.0 as u64);
+    store::<B, SetState>(&wk.words, &mut pass.token, t, state.0 as u64);
 }
 
 /// Stores TASK_RUNNING as the state of the seat's own current task, as Linux's `__set_current_state(TASK_RUNNING)`
@@ -42,14 +42,14 @@ pub fn set_running<B: Kept>(wk: &Wk<B>, pass: &mut Pass)
     requires of { IsOf wk.now pass.old }
     requires may { IsOwnStore pass.old.seat pass.old.trace running }
     ensures same { IsSame pass.old pass.new }
-    ensures trace { pass.new.trace ≡ StoredOwn (unwrap_or (current_task pass.old.seat pass.old.trace) 0) running ∷ pass.old.trace }
+    ensures trace { pass.new.trace ≡ StateSet (unwrap_or (current_task pass.old.seat pass.old.trace) 0) running ∷ pass.old.trace }
 {
     set_state(wk, pass, State::TASK_RUNNING);
 }
 
 /// Stores TASK_WAKING as the state of a task that the seat has found off its queue, under the task's lock; `m` is the
 /// number of its changes, as the seat last read it.
-pub fn store_waking<B: Kept>(wk: &Wk<B>, pass: &mut Pass, t: TaskNo, m: u64)
+pub fn claim_task<B: Kept>(wk: &Wk<B>, pass: &mut Pass, t: TaskNo, m: u64)
     requires of { IsOf wk.now pass.old }
     requires task { t < wk.now.shape.tasks }
     requires may { (x : ℕ) → MayClaimWord pass.old.seat pass.old.trace t x waking.0 }
@@ -61,21 +61,21 @@ pub fn store_waking<B: Kept>(wk: &Wk<B>, pass: &mut Pass, t: TaskNo, m: u64)
     ensures spare { pass.old.turn.spare ≤ pass.new.turn.spare + 1 }
 {
     // From here T is this seat's: no mask matches TASK_WAKING, and nobody queues T meanwhile (two wakers).
-    store::<B, StoreWaking>(&wk.words, &mut pass.token, t, 0x200);
+    store::<B, ClaimTask>(&wk.words, &mut pass.token, t, State::TASK_WAKING.0 as u64);
     pass.turn.log(Entry::Wake { t, m });
 }
 
 /// Stores TASK_RUNNING as the state of a task that the seat starts, wakes on its queue, or has just put there.
-pub fn store_running<B: Kept>(wk: &Wk<B>, pass: &mut Pass, t: TaskNo)
+pub fn make_runnable<B: Kept>(wk: &Wk<B>, pass: &mut Pass, t: TaskNo)
     requires of { IsOf wk.now pass.old }
     requires task { t < wk.now.shape.tasks }
-    requires may { (x : ℕ) → MayReleaseWord pass.old.seat pass.old.trace t x 0 }
+    requires may { (x : ℕ) → MayMakeRunnableWord pass.old.seat pass.old.trace t x 0 }
     ensures same { IsSame pass.old pass.new }
-    ensures trace { pass.new.trace ≡ Released t ∷ pass.old.trace }
+    ensures trace { pass.new.trace ≡ MadeRunnable t ∷ pass.old.trace }
 {
     // Under the lock of T's queue, or of a new T: the seat of T's processor is not between reading a sleep state and
     // taking T off by it (a bare TASK_RUNNING).
-    store::<B, StoreRunning>(&wk.words, &mut pass.token, t, 0);
+    store::<B, MakeRunnable>(&wk.words, &mut pass.token, t, State::TASK_RUNNING.0 as u64);
 }
 
 /// Stores the processor of a task that is on no queue, under its lock, as Linux's `set_task_cpu`

@@ -8,11 +8,11 @@ use Rattle.run_queue.specs.Queueing.{placed}
 use Rattle.task_words.specs.Views.{PassView}
 use Rattle.ttwu_core.specs.Claims.{busy_reads, awaited_clear}
 use Rattle.ttwu_core.specs.Finds.{Look, Left, rq_reads, looked, off_reads}
-use Rattle.ttwu_core.specs.Orders.{IsSince, IsReadAndReleased, IsReadAndStored, IsClaimedAndQueued}
+use Rattle.ttwu_core.specs.Orders.{IsSince, IsReadAndMadeRunnable, IsReadAndStored, IsClaimedAndQueued}
 use Rattle.ttwu_core.specs.Own.{IsOwnWoken}
 use Rattle.ttwu_core.specs.Wakes.{tested, IsRunnableStill, IsQueuedAgain}
 use Rattle.word_steps.specs.Folds.{current_task}
-use Rattle.word_steps.specs.Records.{Rec, Took, Gave, Claimed, Released, LoadedState, LoadedRq, LoadedCpu, LoadedBusy, StoredCpu}
+use Rattle.word_steps.specs.Records.{Rec, Took, Gave, Claimed, MadeRunnable, LoadedState, LoadedRq, LoadedCpu, LoadedBusy, StoredCpu}
 use Rattle.word_steps.specs.declared.val.Val.TheVariants as val
 
 none : (old : List Rec) → IsSince old old
@@ -54,7 +54,7 @@ off_more t m (Some x) old trace y =
     (looked_more t x.look old trace y)) x.waits)
 
 pub runnable_made : (t : ℕ) (mask : State) (old new : PassView) → IsRunnableStill t mask old new
-    → IsReadAndReleased t mask old.trace new.trace
+    → IsReadAndMadeRunnable t mask old.trace new.trace
 runnable_made t mask old new x =
     let before : List Rec = Took t (val.Task x.task) ∷ old.trace in
     let read : List Rec = LoadedState t (Some mask) x.seen ∷ before in
@@ -94,7 +94,7 @@ queued_made t c mask shape old new x =
         rest = record {
           added = Gave t (val.Task x.task) (val.Task (record x.task { wake_cpu = c }))
               ∷ Gave c (val.Queue x.queue) (val.Queue (record x.queue { waiting = x.queue.waiting ++ t ∷ [] }))
-              ∷ Released t ∷ [];
+              ∷ MadeRunnable t ∷ [];
           did = x.did;
         };
       };

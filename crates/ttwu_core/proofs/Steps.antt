@@ -5,7 +5,7 @@ use Rattle.std.proofs.lemmas.Bool.Decides.{nat_tests}
 use Rattle.core_data.specs.Queue.{Queue}
 use Rattle.handoff_data.specs.declared.shape.Shape.{Shape}
 use Rattle.word_rule.proofs.Uses.{gives_same}
-use Rattle.word_rule.specs.May.{MayReleaseWord, MayGiveQueueVal}
+use Rattle.word_rule.specs.May.{MayMakeRunnableWord, MayGiveQueueVal}
 use Rattle.word_rule.specs.Told.{TakenQueue}
 use Rattle.word_steps.specs.Folds.{current_task}
 use Rattle.word_steps.specs.Records.{Rec, Took, Queued, LoadedRq}
@@ -14,11 +14,11 @@ use Rattle.word_steps.specs.declared.val.Val.TheVariants as val
 -- The queueing of a claimed task
 
 module _ (shape : Shape) (s t c m : ℕ) (v : Queue) (rs : List Rec) where
-  pub release_woken_may : current_task s rs ≢ Some t → (x : ℕ)
-      → MayReleaseWord s (Queued t c 0 m ∷ Took c (val.Queue v) ∷ rs) t x 0
-  release_woken_may other x = record {
+  pub make_runnable_woken_may : current_task s rs ≢ Some t → (x : ℕ)
+      → MayMakeRunnableWord s (Queued t c 0 m ∷ Took c (val.Queue v) ∷ rs) t x 0
+  make_runnable_woken_may other x = record {
     after = refl;
-    release = inr (inr (
+    ready = inr (inr (
       c,
       record {
         queue = grind (arith, nat_tests);

@@ -7,16 +7,16 @@ use Rattle.core_data.specs.declared.pos.Rq.{Rq}
 use Rattle.core_data.specs.declared.values.TaskVal.{TaskVal}
 use Rattle.core_gives.specs.Queues.{gives_up}
 use Rattle.handoff_data.specs.declared.shape.Shape.{Shape}
-use Rattle.run_queue.proofs.Apart.{none_apart, apart_again, took_queue_apart, gave_queue_apart, queued_apart, rq_apart, busy_apart, cpu_apart, claimed_apart, released_apart}
+use Rattle.run_queue.proofs.Apart.{none_apart, apart_again, took_queue_apart, gave_queue_apart, queued_apart, rq_apart, busy_apart, cpu_apart, claimed_apart, made_runnable_apart}
 use Rattle.run_queue.proofs.Guards.{taken_current, taken_clear}
 use Rattle.run_queue.specs.Queueing.{pushed}
 use Rattle.run_queue.specs.Rests.{IsApart}
 use Rattle.ttwu_core.specs.Claims.{busy_reads, awaited_clear, queued_woken}
-use Rattle.ttwu_core.specs.Finds.{Look, Left, rq_reads, looked, off_reads, released_there}
+use Rattle.ttwu_core.specs.Finds.{Look, Left, rq_reads, looked, off_reads, made_runnable_there}
 use Rattle.ttwu_core.specs.Keeps.{Keeps}
 use Rattle.word_rule.specs.Told.{TakenQueue}
-use Rattle.word_steps.specs.Folds.{put_if, task_held, queue_held, current_task, task_to_clear, is_matched_by, is_unstored, is_claimed, is_moving, saw_off, saw_clear, number_read}
-use Rattle.word_steps.specs.Records.{Rec, Took, Gave, Queued, Claimed, Released, LoadedRq, LoadedBusy, LoadedCpu}
+use Rattle.word_steps.specs.Folds.{put_if, task_held, queue_held, current_task, task_to_clear, has_matched, is_unstored, is_claimed, is_moving, saw_off, saw_clear, number_read}
+use Rattle.word_steps.specs.Records.{Rec, Took, Gave, Queued, Claimed, MadeRunnable, LoadedRq, LoadedBusy, LoadedCpu}
 use Rattle.word_steps.specs.declared.val.Val.TheVariants as val
 
 module _ (t : ℕ) (trace : List Rec) where
@@ -28,7 +28,7 @@ module _ (t : ℕ) (trace : List Rec) where
   pub rq_locked : (rs : List Rq) → IsSome (task_held trace t) → IsSome (task_held (rq_reads t rs trace) t)
   rq_locked rs locked = subst (λ (h : ℕ → Option TaskVal). IsSome (h t)) (sym (rq_held rs)) locked
 
-  pub rq_matched : (rs : List Rq) → is_matched_by (rq_reads t rs trace) ≡ is_matched_by trace
+  pub rq_matched : (rs : List Rq) → has_matched (rq_reads t rs trace) ≡ has_matched trace
   rq_matched [] = refl
   rq_matched (r ∷ rs) = rq_matched rs
 
@@ -125,11 +125,11 @@ back_apart t x trace =
     let a = looked t x trace in
     apart_again trace a (given_back t x trace) (looked_apart t x trace) (gave_queue_apart a x.cpu x.queue x.queue)
 
-released_apart_there : (t : ℕ) (x : Look) (trace : List Rec) → IsApart trace (released_there t x trace)
-released_apart_there t x trace =
+made_runnable_apart_there : (t : ℕ) (x : Look) (trace : List Rec) → IsApart trace (made_runnable_there t x trace)
+made_runnable_apart_there t x trace =
     let a = looked t x trace in
-    let b = Released t ∷ a in
-    apart_again trace b (released_there t x trace) (apart_again trace a b (looked_apart t x trace) (released_apart a t))
+    let b = MadeRunnable t ∷ a in
+    apart_again trace b (made_runnable_there t x trace) (apart_again trace a b (looked_apart t x trace) (made_runnable_apart a t))
     (gave_queue_apart b x.cpu x.queue x.queue)
 
 off_apart : (t : ℕ) (left : Option Left) (m : ℕ) (trace : List Rec) → IsApart trace (off_reads t left m trace)
@@ -144,9 +144,9 @@ queued_woken_apart : (t c m : ℕ) (q : Queue) (trace : List Rec) → IsApart tr
 queued_woken_apart t c m q trace =
     let a = Took c (val.Queue q) ∷ trace in
     let b = Queued t c 0 m ∷ a in
-    let d = Released t ∷ b in
+    let d = MadeRunnable t ∷ b in
     apart_again trace d (queued_woken t c m q trace)
-    (apart_again trace b d (apart_again trace a b (took_queue_apart trace c q) (queued_apart a t c 0 m)) (released_apart b t))
+    (apart_again trace b d (apart_again trace a b (took_queue_apart trace c q) (queued_apart a t c 0 m)) (made_runnable_apart b t))
     (gave_queue_apart d c q (pushed t q))
 
 claim_apart : (t m n : ℕ) (ns : List ℕ) (trace : List Rec) → IsApart trace (awaited_clear t n ns (Claimed t m ∷ trace))
@@ -181,14 +181,14 @@ module _ (s t : ℕ) (trace : List Rec) where
   off_moving None m = refl
   off_moving (Some x) m = rq_moving t (given_back t x.look trace) x.waits
 
-  pub released_keeps : (x : Look)
-      → IsLeftAlone s x.cpu x.queue trace → Keeps s trace (released_there t x trace)
-  released_keeps x same = record {
+  pub made_runnable_keeps : (x : Look)
+      → IsLeftAlone s x.cpu x.queue trace → Keeps s trace (made_runnable_there t x trace)
+  made_runnable_keeps x same = record {
     held = refl;
     free = λ f c. back_free x f c;
     current = same.current;
     clear = same.clear;
-    apart = released_apart_there t x trace;
+    apart = made_runnable_apart_there t x trace;
   }
 
   pub queued_keeps : (shape : Shape) (c m : ℕ) (q : Queue) → TakenQueue shape s trace c q

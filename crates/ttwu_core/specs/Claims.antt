@@ -8,7 +8,7 @@ use Rattle.place_pick.specs.Placement.{IsPlaced}
 use Rattle.run_queue.specs.Queueing.{pushed}
 use Rattle.task_words.specs.Folds.{is_claimed, saw_clear}
 use Rattle.task_words.specs.Queue.{Queue}
-use Rattle.task_words.specs.Records.{Rec, Took, Gave, Queued, Claimed, Released, LoadedBusy}
+use Rattle.task_words.specs.Records.{Rec, Took, Gave, Queued, Claimed, MadeRunnable, LoadedBusy}
 use Rattle.task_words.specs.TaskVal.{TaskVal}
 use Rattle.task_words.specs.Val.TheVariants as val
 use Rattle.task_words.specs.Views.{PassView, logged}
@@ -53,7 +53,7 @@ pub record IsChosen (task : TaskVal) (shape : Shape) (c : ℕ) : Type 0 where
 -- t was put at the back of the queue of c under its lock, and TASK_RUNNING stored there
 abbrev pub queued_woken : ℕ → ℕ → ℕ → Queue → List Rec → List Rec
 queued_woken t c m queue trace =
-    Gave c (val.Queue queue) (val.Queue (pushed t queue)) ∷ Released t ∷ Queued t c 0 m ∷ Took c (val.Queue queue)
+    Gave c (val.Queue queue) (val.Queue (pushed t queue)) ∷ MadeRunnable t ∷ Queued t c 0 m ∷ Took c (val.Queue queue)
     ∷ trace
 
 pub record IsQueuedWoken (t c m : ℕ) (old new : PassView) : Type 0 where

@@ -3,7 +3,7 @@ use Rattle.std.specs.Prelude.{◌≡◌, ◌≢◌, ℕ, ◌∷◌, [], true, Li
 use Rattle.std.specs.List.{All}
 use Rattle.task_words.specs.Folds.{saw_off, number_read}
 use Rattle.task_words.specs.Queue.{Queue}
-use Rattle.task_words.specs.Records.{Rec, Took, Gave, Released, LoadedRq, LoadedCpu}
+use Rattle.task_words.specs.Records.{Rec, Took, Gave, MadeRunnable, LoadedRq, LoadedCpu}
 use Rattle.task_words.specs.Rq.{Rq}
 use Rattle.task_words.specs.Val.TheVariants as val
 use Rattle.ttwu_core.specs.declared.finding.Found.{Found}
@@ -60,15 +60,15 @@ pub record IsFoundOff (t m : ℕ) (old new : List Rec) : Type 0 where
   pub changed : m ≢ 0
 
 -- t was read as queued, also under the lock of its queue, and TASK_RUNNING stored there
-abbrev pub released_there : ℕ → Look → List Rec → List Rec
-released_there t x trace =
-    Gave x.cpu (val.Queue x.queue) (val.Queue x.queue) ∷ Released t ∷ looked t x trace
+abbrev pub made_runnable_there : ℕ → Look → List Rec → List Rec
+made_runnable_there t x trace =
+    Gave x.cpu (val.Queue x.queue) (val.Queue x.queue) ∷ MadeRunnable t ∷ looked t x trace
 
 pub record IsFoundQueued (t : ℕ) (old new : List Rec) : Type 0 where
   pub look : Look
   pub queued : look.first.on ≢ 0
   pub there : look.second.on ≡ 1
-  pub did : new ≡ released_there t look old
+  pub did : new ≡ made_runnable_there t look old
 
 abbrev pub DidFind : ℕ → List Rec → List Rec → Found → Type 0
 DidFind t old new (found.Off m) = IsFoundOff t m old new

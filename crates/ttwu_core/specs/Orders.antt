@@ -1,7 +1,7 @@
 -- Which steps a wake-up makes after which.
 use Rattle.std.specs.Prelude.{◌≡◌, ℕ, ◌++◌, ◌∷◌, true, List, Some}
 use Rattle.handoff_data.specs.declared.state.State.{State}
-use Rattle.task_words.specs.Records.{Rec, Queued, Claimed, Released, StoredOwn, LoadedState}
+use Rattle.task_words.specs.Records.{Rec, Queued, Claimed, MadeRunnable, StateSet, LoadedState}
 use Rattle.task_words.specs.Steps.{is_match, running}
 
 -- some steps, or none, were made from the old trace to the new one
@@ -18,16 +18,16 @@ pub record IsBothMade (first second : Rec) (old new : List Rec) : Type 0 where
   pub rest : IsSince (second ∷ between) new
 
 -- a state of t was read that has a bit of the mask, and later TASK_RUNNING was stored
-pub record IsReadAndReleased (t : ℕ) (mask : State) (old new : List Rec) : Type 0 where
+pub record IsReadAndMadeRunnable (t : ℕ) (mask : State) (old new : List Rec) : Type 0 where
   pub seen : State
   pub matched : is_match seen mask ≡ true
-  pub made : IsBothMade (LoadedState t (Some mask) seen) (Released t) old new
+  pub made : IsBothMade (LoadedState t (Some mask) seen) (MadeRunnable t) old new
 
 -- .. of the own current task
 pub record IsReadAndStored (t : ℕ) (mask : State) (old new : List Rec) : Type 0 where
   pub seen : State
   pub matched : is_match seen mask ≡ true
-  pub made : IsBothMade (LoadedState t (Some mask) seen) (StoredOwn t running) old new
+  pub made : IsBothMade (LoadedState t (Some mask) seen) (StateSet t running) old new
 
 -- t was claimed after its change m, and later queued on c by the next
 pub record IsClaimedAndQueued (t c : ℕ) (old new : List Rec) : Type 0 where

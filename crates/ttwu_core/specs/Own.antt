@@ -3,7 +3,7 @@ use Rattle.std.specs.Prelude.{◌≡◌, ℕ, ◌∷◌, true, false, Some}
 use Rattle.handoff_data.specs.declared.entry.Entry.TheVariants as entry
 use Rattle.handoff_data.specs.declared.state.State.{State}
 use Rattle.task_words.specs.Folds.{current_task}
-use Rattle.task_words.specs.Records.{StoredOwn, LoadedState}
+use Rattle.task_words.specs.Records.{StateSet, LoadedState}
 use Rattle.task_words.specs.Steps.{is_match, running}
 use Rattle.task_words.specs.Views.{PassView, logged}
 use Rattle.ttwu_core.specs.declared.answers.How.TheVariants as how
@@ -16,7 +16,7 @@ pub record IsOwnWoken (mask : State) (old new : PassView) : Type 0 where
   pub seen : State
   pub current : current_task old.seat old.trace ≡ Some task
   pub matched : is_match seen mask ≡ true
-  pub did : new.trace ≡ StoredOwn task running ∷ LoadedState task (Some mask) seen ∷ old.trace
+  pub did : new.trace ≡ StateSet task running ∷ LoadedState task (Some mask) seen ∷ old.trace
   pub turn : new.turn ≡ old.turn
 
 -- its state was read and has no bit of the mask, which the journal notes

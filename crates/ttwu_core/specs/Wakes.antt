@@ -11,7 +11,7 @@ use Rattle.task_words.specs.TaskVal.{TaskVal}
 use Rattle.task_words.specs.Val.TheVariants as val
 use Rattle.task_words.specs.Views.{PassView, logged}
 use Rattle.ttwu_core.specs.Claims.{awaited_clear, queued_woken, IsChosen}
-use Rattle.ttwu_core.specs.Finds.{Look, Left, IsLeft, off_reads, released_there}
+use Rattle.ttwu_core.specs.Finds.{Look, Left, IsLeft, off_reads, made_runnable_there}
 use Rattle.ttwu_core.specs.declared.answers.How.TheVariants as how
 use Rattle.ttwu_core.specs.declared.answers.Wake.{Wake}
 use Rattle.ttwu_core.specs.declared.answers.Wake.TheVariants as wake
@@ -36,7 +36,7 @@ pub record IsRunnableStill (t : ℕ) (mask : State) (old new : PassView) : Type 
   pub queued : look.first.on ≢ 0
   pub there : look.second.on ≡ 1
   pub did : new.trace
-      ≡ Gave t (val.Task task) (val.Task task) ∷ released_there t look (tested t task mask seen old.trace)
+      ≡ Gave t (val.Task task) (val.Task task) ∷ made_runnable_there t look (tested t task mask seen old.trace)
   pub turn : new.turn ≡ old.turn
 
 -- .. and t was off every queue after m changes, was claimed, read as clear, placed on c and queued there

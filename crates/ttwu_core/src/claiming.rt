@@ -13,7 +13,7 @@ use handoff_data::{CpuMask, CpuNo, TaskNo};
 use place_pick::fallback;
 use std::sync::Wait;
 use task_words::{
-    Kept, Pass, Wk, load_busy, lock_queue, queue_task, rest_on_busy, store_running, store_waking,
+    Kept, Pass, Wk, claim_task, load_busy, lock_queue, make_runnable, queue_task, rest_on_busy,
 };
 
 // Reads the busy word of a task again and again until it is clear. It answers the number of its changes.
@@ -67,7 +67,7 @@ pub fn claim<B: Kept, R: Wait>(rt: &R, wk: &Wk<B>, pass: &mut Pass, t: TaskNo, m
 {
     // The busy word counts only where it is read after TASK_WAKING: what was read before may be older than T's last run
     // (busy before `on_rq`). While it is set, T's last processor is still switching away from T (queued while busy).
-    store_waking(wk, pass, t, m);
+    claim_task(wk, pass, t, m);
     await_clear(rt, wk, pass, t);
 }
 
@@ -126,6 +126,6 @@ pub fn queue_woken<B: Kept, R: Wait>(
     queue.push(wk, pass, t);
     // TASK_RUNNING before the queue's lock goes back: else T is picked at TASK_WAKING, stores a sleep state, and this
     // store would wipe it out (picked while waking).
-    store_running(wk, pass, t);
+    make_runnable(wk, pass, t);
     queue.give_woken(wk, pass);
 }

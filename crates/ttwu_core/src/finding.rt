@@ -1,7 +1,7 @@
 //! Where a waker finds a task whose state matches.
 ghost use Rattle.std.specs.Prelude.{◌≡◌, ◌≢◌, ℕ, ◌<◌, ◌∷◌, true, false, None, Some, IsSome};
 ghost use Rattle.std.specs.List.{All};
-ghost use Rattle.task_words.specs.Folds.{is_claimed, is_moving, task_held, queue_held, is_matched_by, is_unstored, current_task};
+ghost use Rattle.task_words.specs.Folds.{is_claimed, is_moving, task_held, queue_held, has_matched, is_unstored, current_task};
 ghost use Rattle.task_words.specs.Rq.{Rq};
 ghost use Rattle.task_words.specs.Views.{IsOf, IsSame};
 ghost use Rattle.ttwu_core.specs.Finds.{DidFind, IsAwaited};
@@ -10,7 +10,7 @@ ghost use Rattle.ttwu_core.specs.Keeps.{Keeps};
 use crossbeam_utils::Backoff;
 use handoff_data::TaskNo;
 use std::sync::Wait;
-use task_words::{Kept, Pass, Wk, load_cpu, load_rq, lock_queue, rest_on_rq, store_running};
+use task_words::{Kept, Pass, Wk, load_cpu, load_rq, lock_queue, make_runnable, rest_on_rq};
 
 /// Where it is.
 #[derive(Clone, Copy, Debug, PartialEq, Eq)]
@@ -26,7 +26,7 @@ fn await_off<B: Kept, R: Wait>(rt: &R, wk: &Wk<B>, pass: &mut Pass, t: TaskNo) -
     requires of { IsOf wk.now pass.old }
     requires task { t < wk.now.shape.tasks }
     requires locked { IsSome (task_held pass.old.trace t) }
-    requires matched { is_matched_by pass.old.trace t ≡ true }
+    requires matched { has_matched pass.old.trace t ≡ true }
     ensures same { IsSame pass.old pass.new }
     ensures did { IsAwaited t result pass.old.trace pass.new.trace }
     ensures changed { result ≢ 0 }
@@ -48,7 +48,7 @@ pub fn find<B: Kept, R: Wait>(rt: &R, wk: &Wk<B>, pass: &mut Pass, t: TaskNo) ->
     requires of { IsOf wk.now pass.old }
     requires task { t < wk.now.shape.tasks }
     requires locked { IsSome (task_held pass.old.trace t) }
-    requires matched { is_matched_by pass.old.trace t ≡ true }
+    requires matched { has_matched pass.old.trace t ≡ true }
     requires unstored { is_unstored pass.old.trace t ≡ true }
     requires free { (c : ℕ) → queue_held pass.old.trace c ≡ None }
     requires other { current_task pass.old.seat pass.old.trace ≢ Some t }
@@ -71,7 +71,7 @@ pub fn find<B: Kept, R: Wait>(rt: &R, wk: &Wk<B>, pass: &mut Pass, t: TaskNo) ->
     // The same word again, now under the lock of T's queue: without it T may be leaving by a sleep state that its seat
     // has read already, and TASK_RUNNING would stand on a task off every queue (a bare TASK_RUNNING).
     if load_rq(wk, pass, t).on == 1 {
-        store_running(wk, pass, t);
+        make_runnable(wk, pass, t);
         queue.give(wk, pass);
         return Found::Runnable;
     }

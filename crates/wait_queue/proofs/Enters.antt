@@ -16,7 +16,7 @@ use Rattle.word_rule.specs.May.{MayGiveWaitVal}
 use Rattle.word_rule.specs.Told.{TakenWait}
 use Rattle.word_steps.specs.Entries.{is_of_other}
 use Rattle.word_steps.specs.Folds.{current_task, wait_held}
-use Rattle.word_steps.specs.Records.{Rec, Took, StoredOwn}
+use Rattle.word_steps.specs.Records.{Rec, Took, StateSet}
 use Rattle.word_steps.specs.declared.val.Val.TheVariants as val
 
 module _ (shape : Shape) (s k : ℕ) (v : List WaitEntry) (rs : List Rec) (told : TakenWait shape v) where
@@ -24,13 +24,13 @@ module _ (shape : Shape) (s k : ℕ) (v : List WaitEntry) (rs : List Rec) (told 
   held_there = grind (arith, nat_tests)
 
   pub prepared_gives : (x : WaitEntry) (state : State) → current_task s rs ≡ Some x.t → x.t < shape.tasks
-      → MayGiveWaitVal s (StoredOwn x.t state ∷ Took k (val.Wait v) ∷ rs) shape k (with_entry x v)
+      → MayGiveWaitVal s (StateSet x.t state ∷ Took k (val.Wait v) ∷ rs) shape k (with_entry x v)
   unfolding with_entry
   prepared_gives x state current task = elim (cases_Bool (has_task v x.t)) [
-    | inl q ↦ subst (λ (b : Bool). MayGiveWaitVal s (StoredOwn x.t state ∷ Took k (val.Wait v) ∷ rs) shape k (if b then v else entered x v)) (sym q)
-        (part_gives shape s (StoredOwn x.t state ∷ Took k (val.Wait v) ∷ rs) k v v told held_there (part_same _ v))
-    | inr q ↦ subst (λ (b : Bool). MayGiveWaitVal s (StoredOwn x.t state ∷ Took k (val.Wait v) ∷ rs) shape k (if b then v else entered x v)) (sym q)
-        (entered_gives shape s (StoredOwn x.t state ∷ Took k (val.Wait v) ∷ rs) k (entered x v) record {
+    | inl q ↦ subst (λ (b : Bool). MayGiveWaitVal s (StateSet x.t state ∷ Took k (val.Wait v) ∷ rs) shape k (if b then v else entered x v)) (sym q)
+        (part_gives shape s (StateSet x.t state ∷ Took k (val.Wait v) ∷ rs) k v v told held_there (part_same _ v))
+    | inr q ↦ subst (λ (b : Bool). MayGiveWaitVal s (StateSet x.t state ∷ Took k (val.Wait v) ∷ rs) shape k (if b then v else entered x v)) (sym q)
+        (entered_gives shape s (StateSet x.t state ∷ Took k (val.Wait v) ∷ rs) k (entered x v) record {
           v = v;
           x = x;
           put = refl;
@@ -55,14 +55,14 @@ module _ (shape : Shape) (s k : ℕ) (v : List WaitEntry) (rs : List Rec) (told 
 pub prepared_may : (shape : Shape) (s seat before k cond : ℕ) (v given : List WaitEntry) (rs between trace : List Rec) (x : WaitEntry) (state : State)
     → TakenWait shape v → current_task s rs ≡ Some x.t → x.t < shape.tasks
     → between ≡ Took k (val.Wait v) ∷ rs
-    → trace ≡ StoredOwn (unwrap_or (current_task before between) 0) state ∷ between
+    → trace ≡ StateSet (unwrap_or (current_task before between) 0) state ∷ between
     → before ≡ s → seat ≡ s → cond ≡ k → given ≡ with_entry x v
     → MayGiveWaitVal seat trace shape cond given
 prepared_may shape s seat before k cond v given rs between trace x state told current task took stored was same at put =
-    let all : trace ≡ StoredOwn x.t state ∷ Took k (val.Wait v) ∷ rs =
+    let all : trace ≡ StateSet x.t state ∷ Took k (val.Wait v) ∷ rs =
     stored
-    ∙ ap (λ (z : ℕ × List Rec). StoredOwn (unwrap_or (current_task z.0 z.1) 0) state ∷ z.1) (λ i. (was i, took i))
-    ∙ ap (λ (o : Option ℕ). StoredOwn (unwrap_or o 0) state ∷ Took k (val.Wait v) ∷ rs) current in
+    ∙ ap (λ (z : ℕ × List Rec). StateSet (unwrap_or (current_task z.0 z.1) 0) state ∷ z.1) (λ i. (was i, took i))
+    ∙ ap (λ (o : Option ℕ). StateSet (unwrap_or o 0) state ∷ Took k (val.Wait v) ∷ rs) current in
     subst (λ (z : (ℕ × List Rec) × (ℕ × List WaitEntry)). MayGiveWaitVal z.0.0 z.0.1 shape z.1.0 z.1.1)
     (λ i. ((sym same i, sym all i), (sym at i, sym put i)))
     (prepared_gives shape s k v rs told x state current task)

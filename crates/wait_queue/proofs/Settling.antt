@@ -15,7 +15,7 @@ use Rattle.wait_queue.specs.Entering.{IsPrepared, IsFinished, with_entry}
 use Rattle.wait_queue.specs.Settles.{Settles}
 use Rattle.word_steps.specs.Entries.{is_of_other}
 use Rattle.word_steps.specs.Folds.{put_column_if, has_passed, wait_held, owes_walk, has_retaken, task_to_clear}
-use Rattle.word_steps.specs.Records.{Rec, Took, StoredOwn, Bumped}
+use Rattle.word_steps.specs.Records.{Rec, Took, StateSet, Bumped}
 use Rattle.word_steps.specs.declared.val.Val.TheVariants as val
 
 pub none_to_clear : (s t : ℕ) (trace : List Rec) → task_to_clear s trace ≡ None → task_to_clear s trace ≢ Some t
@@ -27,7 +27,7 @@ passed_if true t h k u e = grind (arith, nat_tests, e)
 passed_if false t h k u e = e
 
 -- the own state was stored
-own_rests : (s t : ℕ) (state : State) (old : List Rec) → Rests s old (StoredOwn t state ∷ old)
+own_rests : (s t : ℕ) (state : State) (old : List Rec) → Rests s old (StateSet t state ∷ old)
 own_rests s t state old = record {
   tasks = λ u e. e;
   queues = λ e. e;
@@ -48,12 +48,12 @@ pub prepared_settles : (k : ℕ) (exclusive : Bool) (state : State) (s : ℕ) (o
 prepared_settles k exclusive state s old new free did =
     subst (Settles s old) (sym did.did)
     (around s k did.v did.v (with_entry (record { t = did.t; exclusive = exclusive }) did.v) old
-    (StoredOwn did.t state ∷ Took k (val.Wait did.v) ∷ old) free
+    (StateSet did.t state ∷ Took k (val.Wait did.v) ∷ old) free
     (own_rests s did.t state (Took k (val.Wait did.v) ∷ old)))
 
 pub finished_settles : (k s : ℕ) (old new : List Rec) → wait_held old k ≡ None → IsFinished k s old new → Settles s old new
 finished_settles k s old new free did =
-    let stored = StoredOwn did.t running ∷ old in
+    let stored = StateSet did.t running ∷ old in
     let first = own_rests s did.t running old in
     let then = around s k did.v did.v (filter (is_of_other did.t) did.v) stored (Took k (val.Wait did.v) ∷ stored) free
     (rests_none s (Took k (val.Wait did.v) ∷ stored)) in

@@ -5,7 +5,7 @@ use Rattle.handoff_data.specs.declared.state.State.{State}
 use Rattle.task_words.specs.EntryTasks.{is_of_other}
 use Rattle.task_words.specs.Folds.{current_task}
 use Rattle.task_words.specs.Gives.{entered}
-use Rattle.task_words.specs.Records.{Rec, Took, Gave, StoredOwn}
+use Rattle.task_words.specs.Records.{Rec, Took, Gave, StateSet}
 use Rattle.task_words.specs.Steps.{running}
 use Rattle.task_words.specs.Val.TheVariants as val
 use Rattle.task_words.specs.WaitEntry.{WaitEntry}
@@ -22,7 +22,7 @@ pub record IsPrepared (k : ℕ) (exclusive : Bool) (state : State) (s : ℕ) (ol
   pub current : current_task s old ≡ Some t
   pub did : new
       ≡ Gave k (val.Wait v) (val.Wait (with_entry (record { t = t; exclusive = exclusive }) v))
-      ∷ StoredOwn t state ∷ Took k (val.Wait v) ∷ old
+      ∷ StateSet t state ∷ Took k (val.Wait v) ∷ old
 
 -- TASK_RUNNING was stored as the current task's state, and then under the lock of k each entry of it was taken out
 pub record IsFinished (k : ℕ) (s : ℕ) (old new : List Rec) : Type 0 where
@@ -30,4 +30,4 @@ pub record IsFinished (k : ℕ) (s : ℕ) (old new : List Rec) : Type 0 where
   pub v : List WaitEntry
   pub current : current_task s old ≡ Some t
   pub did : new
-      ≡ Gave k (val.Wait v) (val.Wait (filter (is_of_other t) v)) ∷ Took k (val.Wait v) ∷ StoredOwn t running ∷ old
+      ≡ Gave k (val.Wait v) (val.Wait (filter (is_of_other t) v)) ∷ Took k (val.Wait v) ∷ StateSet t running ∷ old

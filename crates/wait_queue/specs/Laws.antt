@@ -5,7 +5,7 @@ use Rattle.handoff_data.specs.declared.shape.Shape.{Shape}
 use Rattle.handoff_data.specs.declared.state.State.{State}
 use Rattle.task_words.specs.Entries.{has_entry}
 use Rattle.task_words.specs.Folds.{current_task}
-use Rattle.task_words.specs.Records.{Rec, Took, Gave, StoredOwn}
+use Rattle.task_words.specs.Records.{Rec, Took, Gave, StateSet}
 use Rattle.task_words.specs.Val.TheVariants as val
 use Rattle.task_words.specs.Views.{PassView}
 use Rattle.task_words.specs.WaitEntry.{WaitEntry}
@@ -19,7 +19,7 @@ pub record IsStoredWithin (k : ℕ) (exclusive : Bool) (state : State) (s : ℕ)
   pub taken : List WaitEntry
   pub given : List WaitEntry
   pub current : current_task s old ≡ Some t
-  pub did : new ≡ Gave k (val.Wait taken) (val.Wait given) ∷ StoredOwn t state ∷ Took k (val.Wait taken) ∷ old
+  pub did : new ≡ Gave k (val.Wait taken) (val.Wait given) ∷ StateSet t state ∷ Took k (val.Wait taken) ∷ old
   pub within : has_task given t ≡ true
   pub stayed : has_task taken t ≡ true → given ≡ taken
   pub at_tail : has_task taken t ≡ false → exclusive ≡ true → given ≡ taken ++ record { t = t; exclusive = exclusive } ∷ []

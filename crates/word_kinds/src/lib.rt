@@ -18,4 +18,4 @@ pub use masks::{
     Uninterruptible, WakeKill,
 };
 pub use runs::{ClearBusy, DequeueTask, MoveTask, QueueTask, SetBusy};
-pub use stores::{BumpCond, StoreCpu, StoreOwn, StoreRunning, StoreWaking};
+pub use stores::{BumpCond, ClaimTask, MakeRunnable, SetState, StoreCpu};

@@ -34,7 +34,7 @@ impl Kind for LoadState {
     ghost keep = { load_state_law };
 
     fn column() -> usize {
-        10
+        word_table::STATE
     }
 }
 
@@ -46,7 +46,7 @@ impl Kind for LoadRq {
     ghost use Rattle.std.proofs.Common.{lit<};
     ghost use Rattle.word_kinds.specs.Rows.{tasks_rows};
     ghost use Rattle.word_rule.proofs.LoadLaws.{load_rq_law, load_rq_is_event};
-    ghost use Rattle.word_steps.specs.Folds.{task_held, is_matched_by};
+    ghost use Rattle.word_steps.specs.Folds.{task_held, has_matched};
     ghost use Rattle.word_steps.specs.Records.{LoadedRq};
     ghost use Rattle.word_steps.specs.Words.{RQ};
 
@@ -59,7 +59,7 @@ impl Kind for LoadRq {
     ghost may = { λ shape s trace t x y. y ≡ x };
 
     // A task that matched since the seat took its lock was queued before.
-    ghost told = { λ shape s trace t x. IsSome (task_held trace t) → is_matched_by trace t ≡ true → x / 4 ≢ 0 };
+    ghost told = { λ shape s trace t x. IsSome (task_held trace t) → has_matched trace t ≡ true → x / 4 ≢ 0 };
 
     ghost low = { lit< tt };
 
@@ -72,7 +72,7 @@ impl Kind for LoadRq {
     ghost keep = { load_rq_law };
 
     fn column() -> usize {
-        11
+        word_table::RQ
     }
 }
 
@@ -108,7 +108,7 @@ impl Kind for LoadBusy {
     ghost keep = { load_busy_law };
 
     fn column() -> usize {
-        12
+        word_table::BUSY
     }
 }
 
@@ -144,7 +144,7 @@ impl Kind for LoadCpu {
     ghost keep = { load_cpu_law };
 
     fn column() -> usize {
-        13
+        word_table::CPU
     }
 }
 
@@ -181,7 +181,7 @@ impl Kind for LoadCount {
     ghost keep = { load_count_law };
 
     fn column() -> usize {
-        14
+        word_table::COUNT
     }
 }
 
@@ -217,6 +217,6 @@ impl Kind for LoadCond {
     ghost keep = { load_cond_law };
 
     fn column() -> usize {
-        41
+        word_table::COND
     }
 }

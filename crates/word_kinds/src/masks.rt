@@ -48,7 +48,7 @@ impl<M: Mask> Kind for MatchState<M> {
     ghost keep = { load_masked_law (record { 0 = M.bits }) M.allowed };
 
     fn column() -> usize {
-        10
+        word_table::STATE
     }
 }
 

@@ -34,7 +34,7 @@ impl Kind for QueueTask {
     ghost keep = { queue_law };
 
     fn column() -> usize {
-        11
+        word_table::RQ
     }
 }
 
@@ -71,7 +71,7 @@ impl Kind for DequeueTask {
     ghost keep = { dequeue_law };
 
     fn column() -> usize {
-        11
+        word_table::RQ
     }
 }
 
@@ -108,7 +108,7 @@ impl Kind for MoveTask {
     ghost keep = { move_law };
 
     fn column() -> usize {
-        11
+        word_table::RQ
     }
 }
 
@@ -145,7 +145,7 @@ impl Kind for SetBusy {
     ghost keep = { set_busy_law };
 
     fn column() -> usize {
-        12
+        word_table::BUSY
     }
 }
 
@@ -182,6 +182,6 @@ impl Kind for ClearBusy {
     ghost keep = { clear_busy_law };
 
     fn column() -> usize {
-        12
+        word_table::BUSY
     }
 }

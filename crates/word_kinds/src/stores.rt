@@ -2,24 +2,24 @@
 use word_table::Kind;
 
 /// The state of the seat's own current task.
-pub struct StoreOwn;
+pub struct SetState;
 
-impl Kind for StoreOwn {
+impl Kind for SetState {
     ghost use Rattle.std.specs.Prelude.{refl};
     ghost use Rattle.std.proofs.Common.{lit<};
     ghost use Rattle.word_kinds.specs.Rows.{tasks_rows};
-    ghost use Rattle.word_rule.proofs.StoreLaws.{own_state_law, own_state_is_event};
-    ghost use Rattle.word_rule.specs.May.{MayOwnWord};
-    ghost use Rattle.word_steps.specs.Records.{StoredOwn};
+    ghost use Rattle.word_rule.proofs.StoreLaws.{set_state_law, set_state_is_event};
+    ghost use Rattle.word_rule.specs.May.{MaySetStateWord};
+    ghost use Rattle.word_steps.specs.Records.{StateSet};
     ghost use Rattle.word_steps.specs.Words.{STATE};
 
     ghost col = { STATE };
 
     ghost bound = { λ shape. shape.tasks };
 
-    ghost note = { λ s trace t y x. StoredOwn t (record { 0 = y }) };
+    ghost note = { λ s trace t y x. StateSet t (record { 0 = y }) };
 
-    ghost may = { λ shape s trace t x y. MayOwnWord s trace t x y };
+    ghost may = { λ shape s trace t x y. MaySetStateWord s trace t x y };
 
     ghost told = { λ shape s trace t x. Unit {0} };
 
@@ -29,19 +29,19 @@ impl Kind for StoreOwn {
 
     ghost quiet = { λ s trace t y x. record { task = refl; queue = refl; works = refl; wait = refl; body = refl } };
 
-    ghost event = { own_state_is_event };
+    ghost event = { set_state_is_event };
 
-    ghost keep = { own_state_law };
+    ghost keep = { set_state_law };
 
     fn column() -> usize {
-        10
+        word_table::STATE
     }
 }
 
 /// TASK_WAKING.
-pub struct StoreWaking;
+pub struct ClaimTask;
 
-impl Kind for StoreWaking {
+impl Kind for ClaimTask {
     ghost use Rattle.std.specs.Prelude.{refl};
     ghost use Rattle.std.proofs.Common.{lit<};
     ghost use Rattle.word_kinds.specs.Rows.{tasks_rows};
@@ -71,29 +71,29 @@ impl Kind for StoreWaking {
     ghost keep = { claim_law };
 
     fn column() -> usize {
-        10
+        word_table::STATE
     }
 }
 
 /// TASK_RUNNING, of a task that the seat starts or wakes.
-pub struct StoreRunning;
+pub struct MakeRunnable;
 
-impl Kind for StoreRunning {
+impl Kind for MakeRunnable {
     ghost use Rattle.std.specs.Prelude.{refl};
     ghost use Rattle.std.proofs.Common.{lit<};
     ghost use Rattle.word_kinds.specs.Rows.{tasks_rows};
-    ghost use Rattle.word_rule.proofs.StoreLaws.{release_law, release_is_event};
-    ghost use Rattle.word_rule.specs.May.{MayReleaseWord};
-    ghost use Rattle.word_steps.specs.Records.{Released};
+    ghost use Rattle.word_rule.proofs.StoreLaws.{make_runnable_law, make_runnable_is_event};
+    ghost use Rattle.word_rule.specs.May.{MayMakeRunnableWord};
+    ghost use Rattle.word_steps.specs.Records.{MadeRunnable};
     ghost use Rattle.word_steps.specs.Words.{STATE};
 
     ghost col = { STATE };
 
     ghost bound = { λ shape. shape.tasks };
 
-    ghost note = { λ s trace t y x. Released t };
+    ghost note = { λ s trace t y x. MadeRunnable t };
 
-    ghost may = { λ shape s trace t x y. MayReleaseWord s trace t x y };
+    ghost may = { λ shape s trace t x y. MayMakeRunnableWord s trace t x y };
 
     ghost told = { λ shape s trace t x. Unit {0} };
 
@@ -103,12 +103,12 @@ impl Kind for StoreRunning {
 
     ghost quiet = { λ s trace t y x. record { task = refl; queue = refl; works = refl; wait = refl; body = refl } };
 
-    ghost event = { release_is_event };
+    ghost event = { make_runnable_is_event };
 
-    ghost keep = { release_law };
+    ghost keep = { make_runnable_law };
 
     fn column() -> usize {
-        10
+        word_table::STATE
     }
 }
 
@@ -145,7 +145,7 @@ impl Kind for StoreCpu {
     ghost keep = { store_cpu_law };
 
     fn column() -> usize {
-        13
+        word_table::CPU
     }
 }
 
@@ -181,6 +181,6 @@ impl Kind for BumpCond {
     ghost keep = { bump_law };
 
     fn column() -> usize {
-        41
+        word_table::COND
     }
 }

@@ -2,7 +2,7 @@
 use Rattle.std.proofs.Common.{◌≡◌, ℕ, inl, inr, refl, sym, subst, ◌∙◌, List, [], ◌∷◌, arith}
 use Rattle.std.specs.Prelude.{Bool, Option, Some, IsSome}
 use Rattle.std.proofs.lemmas.Bool.{cases_eq}
-use Rattle.core_data.specs.Table.{put}
+use Rattle.core_data.specs.Columns.{put}
 use Rattle.core_stores.proofs.Columns.{put_there}
 use Rattle.word_rule.specs.Bodies.{BodiesKnown}
 use Rattle.word_steps.proofs.Puts.{fold_here, fold_else}

@@ -1,7 +1,7 @@
 -- Bodies taken out and put home keep the rule; and a new table keeps it.
 use Rattle.std.proofs.Common.{◌≡◌, ℕ, ◌<◌, ◌+◌, refl, List, [], ◌∷◌}
 use Rattle.std.specs.Prelude.{◌↔◌, Bool, true, false}
-use Rattle.core_data.specs.Table.{put}
+use Rattle.core_data.specs.Columns.{put}
 use Rattle.core_law.proofs.Reached.{Holds-opening, reached_opening}
 use Rattle.handoff_data.specs.Mask.{HasCpu}
 use Rattle.handoff_data.specs.Shape.{IsShape}
@@ -17,7 +17,7 @@ use Rattle.word_rule.proofs.PossibleGives.{take_body_possible, return_body_possi
 use Rattle.word_rule.proofs.Quiet.{still_kept}
 use Rattle.word_rule.proofs.RunsKept.{runs_start}
 use Rattle.word_rule.proofs.StandingKept.{standing_first}
-use Rattle.word_rule.specs.Kept.{Kept}
+use Rattle.word_rule.specs.WordsHold.{WordsHold}
 use Rattle.word_rule.specs.May.{MayTakeBody, MayReturnBody}
 use Rattle.word_steps.proofs.CurrentKept.{current_start}
 use Rattle.word_steps.proofs.EndedKept.{ended_start, body_out_ended, body_home_ended}
@@ -36,10 +36,10 @@ use Rattle.word_steps.specs.Records.{Rec, OutBody, HomeBody}
 
 module _ (shape : Shape) (words : ℕ → ℕ → ℕ) (homes : Homes) (traces : ℕ → List Rec) (s t : ℕ) where
   -- the body is home, and the record tells whether it has ended
-  pub take_body_law : Kept shape words homes traces → s < shape.cpus + shape.agents → t < shape.tasks
+  pub take_body_law : WordsHold shape words homes traces → s < shape.cpus + shape.agents → t < shape.tasks
       → MayTakeBody s (traces s) t
       → (homes.body t ≡ true)
-      × Kept shape words (record homes { body = put homes.body t false })
+      × WordsHold shape words (record homes { body = put homes.body t false })
       (put traces s (OutBody t (homes.ended t) ∷ traces s))
   take_body_law kept seat task may =
       let core = take_body_possible shape words homes traces s kept seat t task may in (
@@ -62,17 +62,17 @@ module _ (shape : Shape) (words : ℕ → ℕ → ℕ) (homes : Homes) (traces :
             (body_out_known traces s kept.known t (homes.ended t)),
       )
 
-  pub take_body_event : Kept shape words homes traces → s < shape.cpus + shape.agents → t < shape.tasks
+  pub take_body_event : WordsHold shape words homes traces → s < shape.cpus + shape.agents → t < shape.tasks
       → MayTakeBody s (traces s) t
       → IsEvent shape words homes traces s (OutBody t (homes.ended t)) words (record homes { body = put homes.body t false })
   take_body_event kept seat task may =
       body_out_event shape words homes traces s t (take_body_possible shape words homes traces s kept seat t task may)
 
   -- the body isn't home, and is told whether it has ended by now
-  pub return_body_law : (ended : Bool) → Kept shape words homes traces → s < shape.cpus + shape.agents → t < shape.tasks
+  pub return_body_law : (ended : Bool) → WordsHold shape words homes traces → s < shape.cpus + shape.agents → t < shape.tasks
       → MayReturnBody s (traces s) t ended
       → (homes.body t ≡ false)
-      × Kept shape words (record homes { body = put homes.body t true; ended = put homes.ended t ended })
+      × WordsHold shape words (record homes { body = put homes.body t true; ended = put homes.ended t ended })
       (put traces s (HomeBody t ended ∷ traces s))
   return_body_law ended kept seat task may =
       let core = return_body_possible shape words homes traces s kept seat t ended task may in (
@@ -96,7 +96,7 @@ module _ (shape : Shape) (words : ℕ → ℕ → ℕ) (homes : Homes) (traces :
             (body_home_known traces s kept.known t ended),
       )
 
-  pub return_body_event : (ended : Bool) → Kept shape words homes traces → s < shape.cpus + shape.agents → t < shape.tasks
+  pub return_body_event : (ended : Bool) → WordsHold shape words homes traces → s < shape.cpus + shape.agents → t < shape.tasks
       → MayReturnBody s (traces s) t ended
       → IsEvent shape words homes traces s (HomeBody t ended) words
       (record homes { body = put homes.body t true; ended = put homes.ended t ended })
@@ -106,7 +106,7 @@ module _ (shape : Shape) (words : ℕ → ℕ → ℕ) (homes : Homes) (traces :
 
 -- a new table keeps the rule, whichever bodies have ended
 pub start_law : (shape : Shape) (mask : CpuMask) (ended : ℕ → Bool) → IsShape shape → ((c : ℕ) → HasCpu mask c ↔ (c < shape.cpus))
-    → Kept shape (first_words shape) (record (first_homes shape mask) { ended = ended }) (λ s. [])
+    → WordsHold shape (first_words shape) (record (first_homes shape mask) { ended = ended }) (λ s. [])
 start_law shape mask ended is_shape all =
     let core = core_of shape (first_words shape) (record (first_homes shape mask) { ended = ended }) (λ s. []) in
     let opening = first_is_opening shape mask ended all in

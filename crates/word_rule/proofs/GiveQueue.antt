@@ -7,7 +7,7 @@ use Rattle.core_data.specs.Queue.{Queue, times_in}
 use Rattle.core_gives.specs.Queues.{MayGiveQueue, MayGiveUp, times, is_some_of}
 use Rattle.core_kinds.specs.Steps.{IsRunnable}
 use Rattle.handoff_data.specs.declared.shape.Shape.{Shape}
-use Rattle.word_rule.specs.Kept.{Kept}
+use Rattle.word_rule.specs.WordsHold.{WordsHold}
 use Rattle.word_rule.specs.May.{MayGiveQueueVal}
 use Rattle.word_steps.proofs.Conditions.{queue_locked, body_out_may}
 use Rattle.word_steps.proofs.MovingKept.{one_seat}
@@ -39,7 +39,7 @@ next_stands (Some j) t waits on at c e stands =
     (grind (arith, nat_tests, same, stands), grind (arith, nat_tests, same, stands))
 
 module _ (shape : Shape) (words : ℕ → ℕ → ℕ) (homes : Homes) (traces : ℕ → List Rec) (s c : ℕ) (given : Queue) where
-  pub give_queue_may : Kept shape words homes traces → s < shape.cpus + shape.agents → c < shape.cpus
+  pub give_queue_may : WordsHold shape words homes traces → s < shape.cpus + shape.agents → c < shape.cpus
       → MayGiveQueueVal s (traces s) shape c given
       → MayGiveQueue (core_of shape words homes traces) s c given
   give_queue_may kept seat processor may =

@@ -1,7 +1,7 @@
 -- Loads keep the rule. Beside it stands what is known of the word found.
 use Rattle.std.proofs.Common.{◌≡◌, ◌≢◌, ℕ, ◌<◌, ◌+◌, refl, sym, ap, subst, ◌∙◌, List, ◌∷◌}
 use Rattle.std.specs.Prelude.{◌/◌, ◌%◌, true, Option, Some, None, IsSome}
-use Rattle.core_data.specs.Table.{put, put_at}
+use Rattle.core_data.specs.Columns.{put, put_at}
 use Rattle.core_kinds.specs.Steps.{dead}
 use Rattle.core_kinds.specs.Waking.{IsMask}
 use Rattle.core_law.proofs.Reached.{Holds-step}
@@ -11,10 +11,10 @@ use Rattle.word_rule.proofs.BodiesKept.{known_still}
 use Rattle.word_rule.proofs.GrownKept.{grown_still, load_rq_grown}
 use Rattle.word_rule.proofs.OffKept.{off_still, load_rq_off}
 use Rattle.word_rule.proofs.OwnKept.{stays_dead}
-use Rattle.word_rule.proofs.Quiet.{IsQuiet, IsSteady, IsOutside, kept_after, still_kept}
+use Rattle.word_rule.proofs.Quiet.{IsQuiet, IsSteady, IsOutside, words_hold_after, still_kept}
 use Rattle.word_rule.proofs.RunsKept.{runs_still, load_state_runs}
 use Rattle.word_rule.proofs.StandingKept.{standing_still}
-use Rattle.word_rule.specs.Kept.{Kept}
+use Rattle.word_rule.specs.WordsHold.{WordsHold}
 use Rattle.word_rule.specs.Own.{StateTold}
 use Rattle.word_rule.specs.Standing.{may_run}
 use Rattle.word_steps.proofs.CurrentKept.{current_still}
@@ -30,17 +30,17 @@ use Rattle.word_steps.proofs.QueuedKept.{queued_still, load_rq_queued}
 use Rattle.word_steps.specs.Decode.{Homes, core_of, core_after}
 use Rattle.word_steps.specs.Events.{IsEvent}
 use Rattle.word_steps.specs.Exclusives.{ExclusivesHold}
-use Rattle.word_steps.specs.Folds.{task_held, is_matched_by}
+use Rattle.word_steps.specs.Folds.{task_held, has_matched}
 use Rattle.word_steps.specs.Records.{Rec, LoadedState, LoadedRq, LoadedBusy, LoadedCpu, LoadedCount, LoadedCond}
 use Rattle.word_steps.specs.Words.{STATE, RQ, BUSY, CPU, COUNT, COND, is_set}
 
 module _ (shape : Shape) (words : ℕ → ℕ → ℕ) (homes : Homes) (traces : ℕ → List Rec) (s n y : ℕ)
-    (kept : Kept shape words homes traces) (seat : s < shape.cpus + shape.agents) where
+    (kept : WordsHold shape words homes traces) (seat : s < shape.cpus + shape.agents) where
   -- a load leaves the word that it finds
-  as_found : (c : ℕ) (r : Rec) → y ≡ words n c → Kept shape words homes (put traces s (r ∷ traces s))
-      → Kept shape (put_at words n c y) homes (put traces s (r ∷ traces s))
+  as_found : (c : ℕ) (r : Rec) → y ≡ words n c → WordsHold shape words homes (put traces s (r ∷ traces s))
+      → WordsHold shape (put_at words n c y) homes (put traces s (r ∷ traces s))
   as_found c r same after =
-      subst (λ (w : ℕ → ℕ → ℕ). Kept shape w homes (put traces s (r ∷ traces s)))
+      subst (λ (w : ℕ → ℕ → ℕ). WordsHold shape w homes (put traces s (r ∷ traces s)))
       (sym (ap (put_at words n c) same ∙ word_same words n c)) after
 
   event_found : (c : ℕ) (r : Rec) → y ≡ words n c → IsEvent shape words homes traces s r words homes
@@ -53,7 +53,7 @@ module _ (shape : Shape) (words : ℕ → ℕ → ℕ) (homes : Homes) (traces :
   quiet_load : (c : ℕ) (r : Rec) → y ≡ words n c → IsQuiet r (traces s) → IsSteady r (traces s) → IsOutside r (traces s)
       → may_run s (r ∷ traces s) ≡ may_run s (traces s) → ExclusivesHold words homes.wait (put traces s (r ∷ traces s))
       → IsEvent shape words homes traces s r words homes
-      → Kept shape (put_at words n c y) homes (put traces s (r ∷ traces s))
+      → WordsHold shape (put_at words n c y) homes (put traces s (r ∷ traces s))
   quiet_load c r same quiet steady outside runs exclusives event =
       as_found c r same (still_kept shape words homes homes traces s kept r quiet steady runs exclusives event
       (ended_still homes.ended traces s kept.ended r steady.current outside.ended)
@@ -69,12 +69,12 @@ module _ (shape : Shape) (words : ℕ → ℕ → ℕ) (homes : Homes) (traces :
       (record { seat = seat; task = task; allowed = allowed })
 
   state_kept : (mask : Option State) → n < shape.tasks → IsMask mask
-      → Kept shape words homes (put traces s (state_note mask ∷ traces s))
+      → WordsHold shape words homes (put traces s (state_note mask ∷ traces s))
   state_kept mask task allowed =
       let event = state_event mask task allowed in
       let holds = Holds-step (core_of shape words homes traces) (record { seat = s; step = event.kind })
       (core_after shape words homes traces s (state_note mask)) kept.holds event.event in
-      kept_after shape words homes traces s kept (state_note mask) words homes event (record {
+      words_hold_after shape words homes traces s kept (state_note mask) words homes event (record {
         moving = moving_still shape words homes traces s kept.moving (state_note mask) (λ h. refl);
         current = current_still words traces s kept.current (state_note mask) (λ j. refl) refl;
         numbers = numbers_still words traces s kept.numbers (state_note mask) (λ h. refl);
@@ -108,16 +108,16 @@ module _ (shape : Shape) (words : ℕ → ℕ → ℕ) (homes : Homes) (traces :
   }
 
   pub load_state_law : n < shape.tasks → y ≡ words n STATE
-      → Kept shape (put_at words n STATE y) homes
+      → WordsHold shape (put_at words n STATE y) homes
       (put traces s (LoadedState n None (record { 0 = words n STATE }) ∷ traces s)) × StateTold s (traces s) n (words n STATE)
   load_state_law task same = (as_found STATE (state_note None) same (state_kept None task tt), state_told)
 
   abbrev rq_note : Rec
   rq_note = LoadedRq n (words n RQ % 4) (words n RQ / 4)
 
-  rq_kept : n < shape.tasks → Kept shape words homes (put traces s (rq_note ∷ traces s))
+  rq_kept : n < shape.tasks → WordsHold shape words homes (put traces s (rq_note ∷ traces s))
   rq_kept task =
-      kept_after shape words homes traces s kept rq_note words homes
+      words_hold_after shape words homes traces s kept rq_note words homes
       (load_rq_event shape words homes traces s n (record { seat = seat; task = task })) (record {
         moving = moving_still shape words homes traces s kept.moving rq_note (λ h. refl);
         current = current_still words traces s kept.current rq_note (λ j. refl) refl;
@@ -143,9 +143,9 @@ module _ (shape : Shape) (words : ℕ → ℕ → ℕ) (homes : Homes) (traces :
 
   -- a task that matched since the seat took its lock was queued before
   pub load_rq_law : n < shape.tasks → y ≡ words n RQ
-      → Kept shape (put_at words n RQ y) homes
+      → WordsHold shape (put_at words n RQ y) homes
       (put traces s (LoadedRq n (words n RQ % 4) (words n RQ / 4) ∷ traces s))
-      × (IsSome (task_held (traces s) n) → is_matched_by (traces s) n ≡ true → words n RQ / 4 ≢ 0)
+      × (IsSome (task_held (traces s) n) → has_matched (traces s) n ≡ true → words n RQ / 4 ≢ 0)
   load_rq_law task same = (
     as_found RQ rq_note same (rq_kept task),
     λ out matched. kept.matched s n (kept.holds.locks.tasks.out_held s n out) matched,
@@ -158,7 +158,7 @@ module _ (shape : Shape) (words : ℕ → ℕ → ℕ) (homes : Homes) (traces :
       (load_busy_event shape words homes traces s n (record { seat = seat; task = task }))
 
   pub load_busy_law : n < shape.tasks → y ≡ words n BUSY
-      → Kept shape (put_at words n BUSY y) homes
+      → WordsHold shape (put_at words n BUSY y) homes
       (put traces s (LoadedBusy n (is_set (words n BUSY)) (words n BUSY / 2) ∷ traces s)) × Unit {0}
   load_busy_law task same = (
     quiet_load BUSY (LoadedBusy n (is_set (words n BUSY)) (words n BUSY / 2)) same
@@ -184,7 +184,7 @@ module _ (shape : Shape) (words : ℕ → ℕ → ℕ) (homes : Homes) (traces :
       (load_cpu_event shape words homes traces s n (record { seat = seat; task = task }))
 
   pub load_cpu_law : n < shape.tasks → y ≡ words n CPU
-      → Kept shape (put_at words n CPU y) homes
+      → WordsHold shape (put_at words n CPU y) homes
       (put traces s (LoadedCpu n (words n CPU) ∷ traces s)) × (words n CPU < shape.cpus)
   load_cpu_law task same = (
     quiet_load CPU (LoadedCpu n (words n CPU)) same
@@ -211,7 +211,7 @@ module _ (shape : Shape) (words : ℕ → ℕ → ℕ) (homes : Homes) (traces :
 
   -- no step stores a level, so each is 0
   pub load_count_law : n < shape.tasks → y ≡ words n COUNT
-      → Kept shape (put_at words n COUNT y) homes
+      → WordsHold shape (put_at words n COUNT y) homes
       (put traces s (LoadedCount n (words n COUNT) ∷ traces s)) × (words n COUNT ≡ 0)
   load_count_law task same = (
     quiet_load COUNT (LoadedCount n (words n COUNT)) same
@@ -237,7 +237,7 @@ module _ (shape : Shape) (words : ℕ → ℕ → ℕ) (homes : Homes) (traces :
       (load_cond_event shape words homes traces s n (record { seat = seat; condition = condition }))
 
   pub load_cond_law : n < shape.conds → y ≡ words n COND
-      → Kept shape (put_at words n COND y) homes (put traces s (LoadedCond n (words n COND) ∷ traces s)) × Unit {0}
+      → WordsHold shape (put_at words n COND y) homes (put traces s (LoadedCond n (words n COND) ∷ traces s)) × Unit {0}
   load_cond_law condition same = (
     quiet_load COND (LoadedCond n (words n COND)) same
         (record {
@@ -258,7 +258,7 @@ module _ (shape : Shape) (words : ℕ → ℕ → ℕ) (homes : Homes) (traces :
 -- of the state, with a mask
 pub load_masked_is_event : (mask : State) → IsMask (Some mask)
     → (shape : Shape) (words : ℕ → ℕ → ℕ) (homes : Homes) (traces : ℕ → List Rec) (s n y : ℕ)
-    → Kept shape words homes traces → s < shape.cpus + shape.agents → n < shape.tasks → y ≡ words n STATE
+    → WordsHold shape words homes traces → s < shape.cpus + shape.agents → n < shape.tasks → y ≡ words n STATE
     → IsEvent shape words homes traces s (LoadedState n (Some mask) (record { 0 = words n STATE })) (put_at words n STATE y) homes
 load_masked_is_event mask allowed shape words homes traces s n y kept seat task same =
     event_found shape words homes traces s n y kept seat STATE
@@ -267,8 +267,8 @@ load_masked_is_event mask allowed shape words homes traces s n y kept seat task 
 
 pub load_masked_law : (mask : State) → IsMask (Some mask)
     → (shape : Shape) (words : ℕ → ℕ → ℕ) (homes : Homes) (traces : ℕ → List Rec) (s n y : ℕ)
-    → Kept shape words homes traces → s < shape.cpus + shape.agents → n < shape.tasks → y ≡ words n STATE
-    → Kept shape (put_at words n STATE y) homes
+    → WordsHold shape words homes traces → s < shape.cpus + shape.agents → n < shape.tasks → y ≡ words n STATE
+    → WordsHold shape (put_at words n STATE y) homes
     (put traces s (LoadedState n (Some mask) (record { 0 = words n STATE }) ∷ traces s)) × StateTold s (traces s) n (words n STATE)
 load_masked_law mask allowed shape words homes traces s n y kept seat task same = (
   as_found shape words homes traces s n y kept seat STATE

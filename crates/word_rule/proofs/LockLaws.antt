@@ -2,7 +2,7 @@
 use Rattle.std.proofs.Common.{◌≡◌, ◌≢◌, ℕ, zero, suc, ◌<◌, ◌+◌, refl, sym, ap, subst, ◌∙◌, List, ◌∷◌, arith}
 use Rattle.std.specs.Prelude.{false, Option, Some, None, IsSome, unwrap_or}
 use Rattle.core_data.specs.Queue.{Queue}
-use Rattle.core_data.specs.Table.{put, put_at}
+use Rattle.core_data.specs.Columns.{put, put_at}
 use Rattle.core_data.specs.declared.values.TaskVal.{TaskVal}
 use Rattle.core_data.specs.declared.values.WaitEntry.{WaitEntry}
 use Rattle.core_data.specs.declared.values.WorkItem.{WorkItem}
@@ -16,10 +16,10 @@ use Rattle.word_rule.proofs.GrownKept.{grown_beside, take_task_grown}
 use Rattle.word_rule.proofs.OffKept.{off_beside, take_task_off, give_task_off}
 use Rattle.word_rule.proofs.Possible.{value_of}
 use Rattle.word_rule.proofs.PossibleGives.{give_task_possible, give_works_possible, give_wait_possible}
-use Rattle.word_rule.proofs.Quiet.{IsQuiet, IsSteady, IsOutside, IsBeside, kept_after, quiet_beside, works_beside, wait_beside}
+use Rattle.word_rule.proofs.Quiet.{IsQuiet, IsSteady, IsOutside, IsBeside, words_hold_after, quiet_beside, works_beside, wait_beside}
 use Rattle.word_rule.proofs.RunsKept.{runs_beside, take_queue_runs, give_queue_runs}
 use Rattle.word_rule.proofs.StandingKept.{standing_beside, take_queue_standing, give_queue_standing}
-use Rattle.word_rule.specs.Kept.{Kept}
+use Rattle.word_rule.specs.WordsHold.{WordsHold}
 use Rattle.word_rule.specs.May.{MayGive}
 use Rattle.word_rule.specs.Sorts.{Sort, OfTask, OfQueue, OfWorks, OfWait, IsOf, lock_of, count_of, some_of, held_of, home_of, without, with_home}
 use Rattle.word_rule.specs.Standing.{may_run}
@@ -58,13 +58,13 @@ seat_word zero s e = absurd (grind (arith, e))
 seat_word (suc k) s e = ap (λ (o : Option ℕ). suc (unwrap_or o k)) e
 
 module _ (shape : Shape) (words : ℕ → ℕ → ℕ) (homes : Homes) (traces : ℕ → List Rec) (s n : ℕ)
-    (kept : Kept shape words homes traces) (seat : s < shape.cpus + shape.agents) where
+    (kept : WordsHold shape words homes traces) (seat : s < shape.cpus + shape.agents) where
   take_task_kept : (v : TaskVal) → homes.task n ≡ Some v → n < shape.tasks → words n LOCK ≡ 0
-      → Kept shape (put_at words n LOCK (suc s)) (record homes { task = put homes.task n None })
+      → WordsHold shape (put_at words n LOCK (suc s)) (record homes { task = put homes.task n None })
       (put traces s (Took n (val.Task v) ∷ traces s))
   take_task_kept v home near free =
       let may = take_task_may shape words homes traces s kept.holds seat n near free in
-      kept_after shape words homes traces s kept (Took n (val.Task v)) (put_at words n LOCK (suc s))
+      words_hold_after shape words homes traces s kept (Took n (val.Task v)) (put_at words n LOCK (suc s))
       (record homes { task = put homes.task n None })
       (take_task_event shape words homes traces s n v home may)
       (record {
@@ -91,11 +91,11 @@ module _ (shape : Shape) (words : ℕ → ℕ → ℕ) (homes : Homes) (traces :
       })
 
   take_queue_kept : (v : Queue) → homes.queue n ≡ Some v → n < shape.cpus → words n QUEUE_LOCK ≡ 0
-      → Kept shape (put_at words n QUEUE_LOCK (suc s)) (record homes { queue = put homes.queue n None })
+      → WordsHold shape (put_at words n QUEUE_LOCK (suc s)) (record homes { queue = put homes.queue n None })
       (put traces s (Took n (val.Queue v) ∷ traces s))
   take_queue_kept v home near free =
       let may = take_queue_may shape words homes traces s kept.holds seat n near free in
-      kept_after shape words homes traces s kept (Took n (val.Queue v)) (put_at words n QUEUE_LOCK (suc s))
+      words_hold_after shape words homes traces s kept (Took n (val.Queue v)) (put_at words n QUEUE_LOCK (suc s))
       (record homes { queue = put homes.queue n None })
       (take_queue_event shape words homes traces s n v home may)
       (record {
@@ -126,10 +126,10 @@ module _ (shape : Shape) (words : ℕ → ℕ → ℕ) (homes : Homes) (traces :
 
   give_task_kept : (taken given : TaskVal) → task_held (traces s) n ≡ Some taken
       → MayGiveTask (core_of shape words homes traces) s n given false false
-      → Kept shape (put_at words n LOCK 0) (record homes { task = put homes.task n (Some given) })
+      → WordsHold shape (put_at words n LOCK 0) (record homes { task = put homes.task n (Some given) })
       (put traces s (Gave n (val.Task taken) (val.Task given) ∷ traces s))
   give_task_kept taken given out may =
-      kept_after shape words homes traces s kept (Gave n (val.Task taken) (val.Task given)) (put_at words n LOCK 0)
+      words_hold_after shape words homes traces s kept (Gave n (val.Task taken) (val.Task given)) (put_at words n LOCK 0)
       (record homes { task = put homes.task n (Some given) })
       (give_task_event shape words homes traces s n taken given out may)
       (record {
@@ -158,10 +158,10 @@ module _ (shape : Shape) (words : ℕ → ℕ → ℕ) (homes : Homes) (traces :
 
   give_queue_kept : (taken given : Queue) → queue_held (traces s) n ≡ Some taken
       → MayGiveQueue (core_of shape words homes traces) s n given
-      → Kept shape (put_at words n QUEUE_LOCK 0) (record homes { queue = put homes.queue n (Some given) })
+      → WordsHold shape (put_at words n QUEUE_LOCK 0) (record homes { queue = put homes.queue n (Some given) })
       (put traces s (Gave n (val.Queue taken) (val.Queue given) ∷ traces s))
   give_queue_kept taken given out may =
-      kept_after shape words homes traces s kept (Gave n (val.Queue taken) (val.Queue given)) (put_at words n QUEUE_LOCK 0)
+      words_hold_after shape words homes traces s kept (Gave n (val.Queue taken) (val.Queue given)) (put_at words n QUEUE_LOCK 0)
       (record homes { queue = put homes.queue n (Some given) })
       (give_queue_event shape words homes traces s n taken given out may)
       (record {
@@ -195,14 +195,14 @@ module _ (shape : Shape) (words : ℕ → ℕ → ℕ) (homes : Homes) (traces :
       → may_run s (r ∷ traces s) ≡ may_run s (traces s)
       → ExclusivesHold (put_at words n c x) homes'.wait (put traces s (r ∷ traces s))
       → IsEvent shape words homes traces s r (put_at words n c x) homes'
-      → Kept shape (put_at words n c x) homes' (put traces s (r ∷ traces s))
+      → WordsHold shape (put_at words n c x) homes' (put traces s (r ∷ traces s))
   quiet_lock c x homes' r same at state quiet steady outside runs exclusives event =
       quiet_beside shape words homes homes' traces s kept same n c x r at
       (λ e. absurd (state (sym e))) quiet steady outside exclusives event
       (runs_beside words traces s kept.runs n c x r at.queue at.cpu at.rq state runs (steady.current s))
 
   take_works_kept : (v : List WorkItem) → homes.works n ≡ Some v → n < shape.cpus → words n WORKS_LOCK ≡ 0
-      → Kept shape (put_at words n WORKS_LOCK (suc s)) (record homes { works = put homes.works n None })
+      → WordsHold shape (put_at words n WORKS_LOCK (suc s)) (record homes { works = put homes.works n None })
       (put traces s (Took n (val.Works v) ∷ traces s))
   take_works_kept v home near free =
       quiet_lock WORKS_LOCK (suc s) (record homes { works = put homes.works n None })
@@ -223,7 +223,7 @@ module _ (shape : Shape) (words : ℕ → ℕ → ℕ) (homes : Homes) (traces :
       (take_works_may shape words homes traces s kept.holds seat n near free))
 
   take_wait_kept : (v : List WaitEntry) → homes.wait n ≡ Some v → n < shape.conds → words n WAIT_LOCK ≡ 0
-      → Kept shape (put_at words n WAIT_LOCK (suc s)) (record homes { wait = put homes.wait n None })
+      → WordsHold shape (put_at words n WAIT_LOCK (suc s)) (record homes { wait = put homes.wait n None })
       (put traces s (Took n (val.Wait v) ∷ traces s))
   take_wait_kept v home near free =
       quiet_lock WAIT_LOCK (suc s) (record homes { wait = put homes.wait n None })
@@ -244,7 +244,7 @@ module _ (shape : Shape) (words : ℕ → ℕ → ℕ) (homes : Homes) (traces :
 
   give_works_kept : (taken given : List WorkItem) → works_held (traces s) n ≡ Some taken
       → MayGiveWorks (core_of shape words homes traces) s n given
-      → Kept shape (put_at words n WORKS_LOCK 0) (record homes { works = put homes.works n (Some given) })
+      → WordsHold shape (put_at words n WORKS_LOCK 0) (record homes { works = put homes.works n (Some given) })
       (put traces s (Gave n (val.Works taken) (val.Works given) ∷ traces s))
   give_works_kept taken given out may =
       quiet_lock WORKS_LOCK 0 (record homes { works = put homes.works n (Some given) })
@@ -265,7 +265,7 @@ module _ (shape : Shape) (words : ℕ → ℕ → ℕ) (homes : Homes) (traces :
 
   give_wait_kept : (taken given : List WaitEntry) → wait_held (traces s) n ≡ Some taken
       → MayGiveWait (core_of shape words homes traces) s n given
-      → Kept shape (put_at words n WAIT_LOCK 0) (record homes { wait = put homes.wait n (Some given) })
+      → WordsHold shape (put_at words n WAIT_LOCK 0) (record homes { wait = put homes.wait n (Some given) })
       (put traces s (Gave n (val.Wait taken) (val.Wait given) ∷ traces s))
   give_wait_kept taken given out may =
       quiet_lock WAIT_LOCK 0 (record homes { wait = put homes.wait n (Some given) })
@@ -287,7 +287,7 @@ module _ (shape : Shape) (words : ℕ → ℕ → ℕ) (homes : Homes) (traces :
 
 -- a free lock has its value home
 pub home_there : (sort : Sort) (shape : Shape) (words : ℕ → ℕ → ℕ) (homes : Homes) (traces : ℕ → List Rec) (n : ℕ)
-    → Kept shape words homes traces → n < count_of sort shape → words n (lock_of sort) ≡ 0
+    → WordsHold shape words homes traces → n < count_of sort shape → words n (lock_of sort) ≡ 0
     → (v : Val) × (home_of sort homes n ≡ Some v) × IsOf sort v
 home_there OfTask shape words homes traces n kept near free =
     let v = value_of (homes.task n) (kept.holds.locks.tasks.free_home n near (ap holder free)) in
@@ -308,7 +308,7 @@ some_there f o v e = let w = of_sort f o v e in subst (λ (z : Option _). IsSome
 -- the lock of a value that a seat has out has that seat in its word
 pub held_locked : (sort : Sort) (shape : Shape) (words : ℕ → ℕ → ℕ) (homes : Homes) (traces : ℕ
     → List Rec) (s n : ℕ) (v : Val)
-    → Kept shape words homes traces → held_of sort (traces s) n ≡ Some v → words n (lock_of sort) ≡ suc s
+    → WordsHold shape words homes traces → held_of sort (traces s) n ≡ Some v → words n (lock_of sort) ≡ suc s
 held_locked OfTask shape words homes traces s n v kept held =
     seat_word (words n LOCK) s (kept.holds.locks.tasks.out_held s n
     (some_there val.Task (task_held (traces s) n) v held))
@@ -324,64 +324,64 @@ held_locked OfWait shape words homes traces s n v kept held =
 
 pub take_law : (sort : Sort) (shape : Shape) (words : ℕ → ℕ → ℕ) (homes : Homes) (traces : ℕ
     → List Rec) (s n : ℕ) (v : Val)
-    → Kept shape words homes traces → s < shape.cpus + shape.agents → n < count_of sort shape
+    → WordsHold shape words homes traces → s < shape.cpus + shape.agents → n < count_of sort shape
     → words n (lock_of sort) ≡ 0 → home_of sort homes n ≡ Some v
-    → Kept shape (put_at words n (lock_of sort) (suc s)) (without sort n homes) (put traces s (Took n v ∷ traces s))
+    → WordsHold shape (put_at words n (lock_of sort) (suc s)) (without sort n homes) (put traces s (Took n v ∷ traces s))
 take_law OfTask shape words homes traces s n v kept seat near free home =
     let w = of_sort val.Task (homes.task n) v home in
     subst
-    (λ (z : Val). Kept shape (put_at words n LOCK (suc s)) (without OfTask n homes)
+    (λ (z : Val). WordsHold shape (put_at words n LOCK (suc s)) (without OfTask n homes)
     (put traces s (Took n z ∷ traces s)))
     w.2 (take_task_kept shape words homes traces s n kept seat w.0 w.1 near free)
 take_law OfQueue shape words homes traces s n v kept seat near free home =
     let w = of_sort val.Queue (homes.queue n) v home in
     subst
-    (λ (z : Val). Kept shape (put_at words n QUEUE_LOCK (suc s)) (without OfQueue n homes)
+    (λ (z : Val). WordsHold shape (put_at words n QUEUE_LOCK (suc s)) (without OfQueue n homes)
     (put traces s (Took n z ∷ traces s)))
     w.2 (take_queue_kept shape words homes traces s n kept seat w.0 w.1 near free)
 take_law OfWorks shape words homes traces s n v kept seat near free home =
     let w = of_sort val.Works (homes.works n) v home in
     subst
-    (λ (z : Val). Kept shape (put_at words n WORKS_LOCK (suc s)) (without OfWorks n homes)
+    (λ (z : Val). WordsHold shape (put_at words n WORKS_LOCK (suc s)) (without OfWorks n homes)
     (put traces s (Took n z ∷ traces s)))
     w.2 (take_works_kept shape words homes traces s n kept seat w.0 w.1 near free)
 take_law OfWait shape words homes traces s n v kept seat near free home =
     let w = of_sort val.Wait (homes.wait n) v home in
     subst
-    (λ (z : Val). Kept shape (put_at words n WAIT_LOCK (suc s)) (without OfWait n homes)
+    (λ (z : Val). WordsHold shape (put_at words n WAIT_LOCK (suc s)) (without OfWait n homes)
     (put traces s (Took n z ∷ traces s)))
     w.2 (take_wait_kept shape words homes traces s n kept seat w.0 w.1 near free)
 
 pub give_law : (sort : Sort) (shape : Shape) (words : ℕ → ℕ → ℕ) (homes : Homes) (traces : ℕ
     → List Rec) (s n : ℕ) (taken given : Val)
-    → Kept shape words homes traces → s < shape.cpus + shape.agents → n < count_of sort shape
+    → WordsHold shape words homes traces → s < shape.cpus + shape.agents → n < count_of sort shape
     → held_of sort (traces s) n ≡ Some taken → MayGive s (traces s) shape sort n given
-    → Kept shape (put_at words n (lock_of sort) 0) (with_home n given homes)
+    → WordsHold shape (put_at words n (lock_of sort) 0) (with_home n given homes)
     (put traces s (Gave n taken given ∷ traces s))
 give_law OfTask shape words homes traces s n taken (val.Task v) kept seat near held may =
     subst
-    (λ (z : Val). Kept shape (put_at words n LOCK 0) (with_home n (val.Task v) homes)
+    (λ (z : Val). WordsHold shape (put_at words n LOCK 0) (with_home n (val.Task v) homes)
     (put traces s (Gave n z (val.Task v) ∷ traces s)))
     (one_value val.Task (task_held (traces s) n) may.taken taken may.held held)
     (give_task_kept shape words homes traces s n kept seat may.taken v may.held
     (give_task_possible shape words homes traces s kept seat n v near may))
 give_law OfQueue shape words homes traces s n taken (val.Queue v) kept seat near held may =
     subst
-    (λ (z : Val). Kept shape (put_at words n QUEUE_LOCK 0) (with_home n (val.Queue v) homes)
+    (λ (z : Val). WordsHold shape (put_at words n QUEUE_LOCK 0) (with_home n (val.Queue v) homes)
     (put traces s (Gave n z (val.Queue v) ∷ traces s)))
     (one_value val.Queue (queue_held (traces s) n) may.taken taken may.held held)
     (give_queue_kept shape words homes traces s n kept seat may.taken v may.held
     (give_queue_may shape words homes traces s n v kept seat near may))
 give_law OfWorks shape words homes traces s n taken (val.Works v) kept seat near held may =
     subst
-    (λ (z : Val). Kept shape (put_at words n WORKS_LOCK 0) (with_home n (val.Works v) homes)
+    (λ (z : Val). WordsHold shape (put_at words n WORKS_LOCK 0) (with_home n (val.Works v) homes)
     (put traces s (Gave n z (val.Works v) ∷ traces s)))
     (one_value val.Works (works_held (traces s) n) v taken may held)
     (give_works_kept shape words homes traces s n kept seat v v may
     (give_works_possible shape words homes traces s kept seat n v near may))
 give_law OfWait shape words homes traces s n taken (val.Wait v) kept seat near held may =
     subst
-    (λ (z : Val). Kept shape (put_at words n WAIT_LOCK 0) (with_home n (val.Wait v) homes)
+    (λ (z : Val). WordsHold shape (put_at words n WAIT_LOCK 0) (with_home n (val.Wait v) homes)
     (put traces s (Gave n z (val.Wait v) ∷ traces s)))
     (one_value val.Wait (wait_held (traces s) n) may.taken taken may.held held)
     (give_wait_kept shape words homes traces s n kept seat may.taken v may.held
@@ -392,7 +392,7 @@ give_law sort shape words homes traces s n taken given kept seat near held may =
 
 pub take_event : (sort : Sort) (shape : Shape) (words : ℕ → ℕ → ℕ) (homes : Homes) (traces : ℕ
     → List Rec) (s n : ℕ) (v : Val)
-    → Kept shape words homes traces → s < shape.cpus + shape.agents → n < count_of sort shape
+    → WordsHold shape words homes traces → s < shape.cpus + shape.agents → n < count_of sort shape
     → words n (lock_of sort) ≡ 0 → home_of sort homes n ≡ Some v
     → IsEvent shape words homes traces s (Took n v) (put_at words n (lock_of sort) (suc s)) (without sort n homes)
 take_event OfTask shape words homes traces s n v kept seat near free home =
@@ -424,7 +424,7 @@ take_event OfWait shape words homes traces s n v kept seat near free home =
 
 pub give_event : (sort : Sort) (shape : Shape) (words : ℕ → ℕ → ℕ) (homes : Homes) (traces : ℕ
     → List Rec) (s n : ℕ) (taken given : Val)
-    → Kept shape words homes traces → s < shape.cpus + shape.agents → n < count_of sort shape
+    → WordsHold shape words homes traces → s < shape.cpus + shape.agents → n < count_of sort shape
     → held_of sort (traces s) n ≡ Some taken → MayGive s (traces s) shape sort n given
     → IsEvent shape words homes traces s (Gave n taken given) (put_at words n (lock_of sort) 0) (with_home n given homes)
 give_event OfTask shape words homes traces s n taken (val.Task v) kept seat near held may =

@@ -3,7 +3,7 @@ use Rattle.std.proofs.Common.{◌≡◌, ℕ, ◌<◌, ◌≤◌, inl, inr, refl
 use Rattle.std.specs.Prelude.{◌↔◌, ◌&&◌, Bool, true, false, nat_lt, Option, Some, None, unwrap_or, IsSome, if◌then◌else◌}
 use Rattle.std.proofs.lemmas.Bool.{cases_eq}
 use Rattle.core_data.specs.Queue.{Queue}
-use Rattle.core_data.specs.Table.{Table, put, put_at}
+use Rattle.core_data.specs.Columns.{Columns, put, put_at}
 use Rattle.core_data.specs.declared.values.TaskVal.{TaskVal}
 use Rattle.core_data.specs.declared.values.WaitEntry.{WaitEntry}
 use Rattle.core_gives.specs.Queues.{give_up_if, gives_up}
@@ -12,7 +12,7 @@ use Rattle.core_kinds.specs.Locks.{IsKept, unseen}
 use Rattle.core_law.specs.Steps.{May, after}
 use Rattle.core_law.specs.declared.step.StepKind.{StepKind}
 use Rattle.core_law.specs.declared.step.StepKind.TheVariants as step
-use Rattle.core_locks.proofs.Branches.{IsLoadFree, load_state-keeps, load_rq-keeps, load_busy-keeps, load_cond-keeps, IsOwnFree, own_state-keeps}
+use Rattle.core_locks.proofs.Branches.{IsLoadFree, load_state-keeps, load_rq-keeps, load_busy-keeps, load_cond-keeps, IsOwnFree, set_state-keeps}
 use Rattle.core_stores.proofs.Columns.{put_there, put_other}
 use Rattle.handoff_data.specs.Mask.{HasCpu}
 use Rattle.handoff_data.specs.declared.mask.CpuMask.{CpuMask}
@@ -56,8 +56,8 @@ of_put_at h s n o now was j t v e = elim (cases_eq j s) [
 ]
 
 -- of a core
-abbrev Masks : Table → Type 0
-Masks core = HaveSome core.val core.task_out
+abbrev Masks : Columns → Type 0
+Masks core = HaveSome core.val core.task_held
 
 -- no load takes or gives a task's lock
 load_free : (s t : ℕ) → IsLoadFree Masks s t
@@ -83,20 +83,20 @@ own_free s t =
       passed = λ core p. assumption (p);
     }
 
-given_queue : (b : Bool) (core : Table) (s c : ℕ) (queue : Queue) → Masks core
-    → Masks (unseen (give_up_if b (record core { queue_lock = put core.queue_lock c None; queue = put core.queue c (Some queue); queue_out = put_at core.queue_out s c None }) s) s c)
+given_queue : (b : Bool) (core : Columns) (s c : ℕ) (queue : Queue) → Masks core
+    → Masks (unseen (give_up_if b (record core { queue_lock = put core.queue_lock c None; queue = put core.queue c (Some queue); queue_held = put_at core.queue_held s c None }) s) s c)
 given_queue true core s c queue masks = assumption (masks)
 given_queue false core s c queue masks = assumption (masks)
 
-walked : (b : Bool) (core : Table) (s k : ℕ) → Masks core → Masks (walked_if b core s k)
+walked : (b : Bool) (core : Columns) (s k : ℕ) → Masks core → Masks (walked_if b core s k)
 walked true core s k masks = assumption (masks)
 walked false core s k masks = masks
 
-given_wait : (core : Table) (s k : ℕ) (given : List WaitEntry) (o : Option (List WaitEntry)) → Masks core
+given_wait : (core : Columns) (s k : ℕ) (given : List WaitEntry) (o : Option (List WaitEntry)) → Masks core
     → Masks (give_by core s k given o)
 given_wait core s k given None masks = masks
 given_wait core s k given (Some taken) masks =
-    walked (core.owes s k && (core.retaken s k && is_walk (core.passed s k) taken)) _ s k (assumption (masks))
+    walked (core.owes_walk s k && (core.has_retaken s k && is_walk (core.has_passed s k) taken)) _ s k (assumption (masks))
 
 same_mask : (taken given : TaskVal) → IsKept taken given → HasSome taken → HasSome given
 same_mask taken given kept some = (some.0, subst (λ (m : CpuMask). HasCpu m some.0) (sym kept.mask) some.1)
@@ -107,33 +107,33 @@ some_value : (o : Option TaskVal) → ((v : TaskVal) → o ≡ Some v → HasSom
 some_value None some there given kept = absurd (grind (arith, there))
 some_value (Some v) some there given kept = same_mask v given (kept v refl) (some v refl)
 
-masks_after : (core : Table) (s : ℕ) (kind : StepKind) → May core s kind → Masks core → Masks (after core s kind)
+masks_after : (core : Columns) (s : ℕ) (kind : StepKind) → May core s kind → Masks core → Masks (after core s kind)
 masks_after core s (step.TakeTask t) may masks = record {
   at_home = of_put core.val t None (λ v e. absurd (grind (arith, e))) masks.at_home;
-  taken = of_put_at core.task_out s t (core.val t) (masks.at_home t) masks.taken;
+  taken = of_put_at core.task_held s t (core.val t) (masks.at_home t) masks.taken;
 }
 masks_after core s (step.GiveTask t given stood done) may masks = record {
   at_home = of_put core.val t (Some given)
-      (λ v e. subst HasSome (same_value given v e) (some_value (core.task_out s t) (masks.taken s t) may.out given may.kept))
+      (λ v e. subst HasSome (same_value given v e) (some_value (core.task_held s t) (masks.taken s t) may.out given may.kept))
       masks.at_home;
-  taken = of_put_at core.task_out s t None (λ v e. absurd (grind (arith, e))) masks.taken;
+  taken = of_put_at core.task_held s t None (λ v e. absurd (grind (arith, e))) masks.taken;
 }
 masks_after core s (step.TakeQueue c) may masks = assumption (masks)
 masks_after core s (step.GiveQueue c queue) may masks = given_queue (gives_up s c queue) core s c queue masks
 masks_after core s (step.TakeWait k) may masks = assumption (masks)
-masks_after core s (step.GiveWait k given) may masks = given_wait core s k given (core.wait_out s k) masks
+masks_after core s (step.GiveWait k given) may masks = given_wait core s k given (core.wait_held s k) masks
 masks_after core s (step.TakeWorks c) may masks = assumption (masks)
 masks_after core s (step.GiveWorks c works) may masks = assumption (masks)
 masks_after core s (step.BodyOut t) may masks = assumption (masks)
 masks_after core s (step.BodyHome t ended) may masks = assumption (masks)
-masks_after core s (step.StoreRqOn c t) may masks = assumption (masks)
-masks_after core s (step.StoreRqOff c t) may masks = assumption (masks)
-masks_after core s (step.StoreRqMoving c t queue) may masks = assumption (masks)
+masks_after core s (step.QueueTask c t) may masks = assumption (masks)
+masks_after core s (step.DequeueTask c t) may masks = assumption (masks)
+masks_after core s (step.MoveTask c t queue) may masks = assumption (masks)
 masks_after core s (step.SetBusy c t queue) may masks = assumption (masks)
 masks_after core s (step.ClearBusy t) may masks = assumption (masks)
-masks_after core s (step.OwnState t state) may masks = own_state-keeps Masks core s t state (own_free s t) (assumption (masks))
-masks_after core s (step.StoreWaking t) may masks = assumption (masks)
-masks_after core s (step.StoreRunning t) may masks = assumption (masks)
+masks_after core s (step.SetState t state) may masks = set_state-keeps Masks core s t state (own_free s t) (assumption (masks))
+masks_after core s (step.ClaimTask t) may masks = assumption (masks)
+masks_after core s (step.MakeRunnable t) may masks = assumption (masks)
 masks_after core s (step.LoadState t mask) may masks = load_state-keeps Masks core s t mask (load_free s t) masks
 masks_after core s (step.LoadRq t) may masks = load_rq-keeps Masks core s t (load_free s t) masks
 masks_after core s (step.LoadBusy t) may masks = load_busy-keeps Masks core s t (load_free s t) masks

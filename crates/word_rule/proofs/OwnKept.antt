@@ -3,12 +3,12 @@
 use Rattle.std.proofs.Common.{◌≡◌, ◌≢◌, ℕ, suc, inl, inr, refl, sym, ap, subst, ◌∙◌, List, [], ◌∷◌, arith}
 use Rattle.std.specs.Prelude.{◌+◌, ◌/◌, ◌%◌, ◌^◌, true, Option, Some, None, unwrap_or}
 use Rattle.std.proofs.lemmas.Bool.{cases_eq}
-use Rattle.core_data.specs.Table.{put, put_at}
+use Rattle.core_data.specs.Columns.{put, put_at}
 use Rattle.core_data.specs.Queue.{Queue}
 use Rattle.core_gives.specs.Queues.{gives_up}
 use Rattle.core_invariant.specs.Invariant.{Holds}
 use Rattle.core_kinds.specs.Steps.{running, dead, IsRunnable}
-use Rattle.core_kinds.specs.Waking.{MayOwnState, MayClaim, MayRelease}
+use Rattle.core_kinds.specs.Waking.{MaySetState, MayClaim, MayMakeRunnable}
 use Rattle.core_law.specs.Steps.{May}
 use Rattle.core_law.specs.declared.step.StepKind.{StepKind}
 use Rattle.core_law.specs.declared.step.StepKind.TheVariants as step
@@ -18,11 +18,11 @@ use Rattle.handoff_data.specs.declared.state.State.{State}
 use Rattle.word_rule.specs.Own.{OwnHolds, IsStill, last_own}
 use Rattle.word_steps.proofs.CurrentKept.{same_task, unless}
 use Rattle.word_steps.proofs.Puts.{word_here, word_apart, word_beside, fold_here, fold_else}
-use Rattle.word_steps.specs.Beside.{CurrentHolds}
+use Rattle.word_steps.specs.TraceFacts.{CurrentHolds}
 use Rattle.word_steps.specs.Decode.{Homes, core_of}
 use Rattle.word_steps.specs.Events.{IsEvent, IsNoted, Writes}
 use Rattle.word_steps.specs.Folds.{current_task, stays_queued}
-use Rattle.word_steps.specs.Records.{Rec, Took, Gave, OutBody, HomeBody, Queued, Dequeued, Moved, SetBusy, ClearedBusy, StoredOwn, Claimed, Released, LoadedState, LoadedRq, LoadedBusy, LoadedCpu, LoadedCount, StoredCpu, Bumped, LoadedCond}
+use Rattle.word_steps.specs.Records.{Rec, Took, Gave, OutBody, HomeBody, Queued, Dequeued, Moved, SetBusy, ClearedBusy, StateSet, Claimed, MadeRunnable, LoadedState, LoadedRq, LoadedBusy, LoadedCpu, LoadedCount, StoredCpu, Bumped, LoadedCond}
 use Rattle.word_steps.specs.Words.{LOCK, STATE, RQ, BUSY, CPU, COUNT, QUEUE_LOCK, WORKS_LOCK, WAIT_LOCK, COND, is_set}
 use Rattle.word_steps.specs.declared.val.Val.TheVariants as val
 
@@ -124,10 +124,10 @@ module _ (words : ℕ → ℕ → ℕ) (traces : ℕ → List Rec) (s : ℕ) (ho
       (holds j t stored is on last)
 
   module _ (shape : Shape) (homes : Homes) (core : Holds (core_of shape words homes traces)) where
-    pub own_state_own : (n : ℕ) (state : State) → MayOwnState (core_of shape words homes traces) s n state
-        → OwnHolds (put_at words n STATE state.0) (put traces s (StoredOwn n state ∷ traces s))
-    own_state_own n state may =
-        own_step (put_at words n STATE state.0) (StoredOwn n state)
+    pub set_state_own : (n : ℕ) (state : State) → MaySetState (core_of shape words homes traces) s n state
+        → OwnHolds (put_at words n STATE state.0) (put traces s (StateSet n state ∷ traces s))
+    set_state_own n state may =
+        own_step (put_at words n STATE state.0) (StateSet n state)
         (λ j t st ne is on last. apart_state n state.0 j t st (λ q. ne (mine j t q is)) is on last)
         (λ t st is on last. let same = same_task n t (sym may.current ∙ is) in
         now t st (sym same) (same_state state st
@@ -159,17 +159,17 @@ module _ (words : ℕ → ℕ → ℕ) (traces : ℕ → List Rec) (s : ℕ) (ho
             ))) is on last
 
     -- one that is woken while it is some seat's current task isn't dead
-    pub release_own : (n : ℕ) → MayRelease (core_of shape words homes traces) s n
-        → OwnHolds (put_at words n STATE 0) (put traces s (Released n ∷ traces s))
-    release_own n may =
-        own_step (put_at words n STATE 0) (Released n) (λ j t st ne is on last. as_was j t st is on last)
+    pub make_runnable_own : (n : ℕ) → MayMakeRunnable (core_of shape words homes traces) s n
+        → OwnHolds (put_at words n STATE 0) (put traces s (MadeRunnable n ∷ traces s))
+    make_runnable_own n may =
+        own_step (put_at words n STATE 0) (MadeRunnable n) (λ j t st ne is on last. as_was j t st is on last)
         (λ t st is on last. as_was s t st is on last)
       where
         alive : (j : ℕ) → current_task j (traces j) ≡ Some n → ◌≢◌ {A = State} (record { 0 = words n STATE }) dead
-        alive j is = elim may.release [
+        alive j is = elim may.ready [
           | inl new ↦ runs_alive (record { 0 = words n STATE }) (core.places.new_states.runnable n new.1)
           | inr rest ↦ elim rest [
-            | inl matched ↦ core.positions.released s n matched.0 matched.1 matched.2 matched.4
+            | inl matched ↦ core.positions.made_runnable s n matched.0 matched.1 matched.2 matched.4
             | inr there ↦ absurd (grind (arith, there.3, core.busy.runner.current_busy j n is))
           ]
         ]
@@ -224,13 +224,13 @@ module _ (shape : Shape) (words : ℕ → ℕ → ℕ) (homes : Homes) (traces :
       as_made traces s w words r (OutBody t (homes.ended t)) writes noted (own_still words traces s own (OutBody t (homes.ended t)) (λ u e. e) (λ e. e) refl)
   own_by (step.BodyHome t ended) r w noted writes may =
       as_made traces s w words r (HomeBody t ended) writes noted (own_still words traces s own (HomeBody t ended) (λ u e. e) (λ e. e) refl)
-  own_by (step.StoreRqOn c t) r w noted writes may =
+  own_by (step.QueueTask c t) r w noted writes may =
       as_made traces s w (put_at words t RQ writes.0) r (Queued t c (words t RQ % 4) (words t RQ / 4)) writes.1 noted
       (own_beside words traces s own t RQ writes.0 (Queued t c (words t RQ % 4) (words t RQ / 4)) (λ e. omega (arith, e)) (λ u e. e) (λ e. e) refl)
-  own_by (step.StoreRqOff c t) r w noted writes may =
+  own_by (step.DequeueTask c t) r w noted writes may =
       as_made traces s w (put_at words t RQ writes.0) r (Dequeued t c (words t RQ / 4)) writes.1 noted
       (dequeue_task_own words traces s own c t (words t RQ / 4) writes.0)
-  own_by (step.StoreRqMoving c t queue) r w noted writes may =
+  own_by (step.MoveTask c t queue) r w noted writes may =
       as_made traces s w (put_at words t RQ writes.0) r (Moved t c (words t RQ / 4)) writes.1 noted
       (own_beside words traces s own t RQ writes.0 (Moved t c (words t RQ / 4)) (λ e. omega (arith, e)) (λ u e. e) (λ e. e) refl)
   own_by (step.SetBusy c t queue) r w noted writes may =
@@ -239,15 +239,15 @@ module _ (shape : Shape) (words : ℕ → ℕ → ℕ) (homes : Homes) (traces :
   own_by (step.ClearBusy t) r w noted writes may =
       as_made traces s w (put_at words t BUSY writes.0) r (ClearedBusy t (words t BUSY / 2)) writes.1 noted
       (own_beside words traces s own t BUSY writes.0 (ClearedBusy t (words t BUSY / 2)) (λ e. omega (arith, e)) (λ u e. e) (λ e. e) refl)
-  own_by (step.OwnState t state) r w noted writes may =
-      as_made traces s w (put_at words t STATE state.0) r (StoredOwn t state) writes noted
-      (own_state_own words traces s own shape homes core t state may)
-  own_by (step.StoreWaking t) r w noted writes may =
+  own_by (step.SetState t state) r w noted writes may =
+      as_made traces s w (put_at words t STATE state.0) r (StateSet t state) writes noted
+      (set_state_own words traces s own shape homes core t state may)
+  own_by (step.ClaimTask t) r w noted writes may =
       as_made traces s w (put_at words t STATE 0x200) r (Claimed t (words t RQ / 4)) writes noted
       (claim_own words traces s own shape homes core t (words t RQ / 4) current may)
-  own_by (step.StoreRunning t) r w noted writes may =
-      as_made traces s w (put_at words t STATE 0) r (Released t) writes noted
-      (release_own words traces s own shape homes core t may)
+  own_by (step.MakeRunnable t) r w noted writes may =
+      as_made traces s w (put_at words t STATE 0) r (MadeRunnable t) writes noted
+      (make_runnable_own words traces s own shape homes core t may)
   own_by (step.LoadState t mask) r w noted writes may =
       as_made traces s w words r (LoadedState t mask (record { 0 = words t STATE })) writes noted (own_still words traces s own (LoadedState t mask (record { 0 = words t STATE })) (λ u e. e) (λ e. e) refl)
   own_by (step.LoadRq t) r w noted writes may =

@@ -6,18 +6,18 @@ use Rattle.std.proofs.lemmas.Bool.Decides.{nat_tests}
 use Rattle.core_data.specs.Queue.{Queue, times_in}
 use Rattle.core_gives.specs.Queues.{times}
 use Rattle.core_kinds.specs.Running.{MayQueue, MayDequeue, MayMove, MaySetBusy, MayClearBusy, MayLeave, IsReady}
-use Rattle.core_kinds.specs.Waking.{MayOwnState, MayClaim, MayRelease, MayStoreCpu, IsOwnState}
+use Rattle.core_kinds.specs.Waking.{MaySetState, MayClaim, MayMakeRunnable, MayStoreCpu, IsSettable}
 use Rattle.handoff_data.specs.declared.shape.Shape.{Shape}
 use Rattle.handoff_data.specs.declared.state.State.{State}
 use Rattle.word_rule.proofs.GrownKept.{same_number}
-use Rattle.word_rule.specs.Kept.{Kept}
-use Rattle.word_rule.specs.May.{MayQueueWord, MayDequeueWord, MayMoveWord, MaySetBusyWord, MayClearBusyWord, MayOwnWord, MayClaimWord, MayReleaseWord, MayCpuWord, IsMatchedHere, IsPutHere, on_of}
+use Rattle.word_rule.specs.WordsHold.{WordsHold}
+use Rattle.word_rule.specs.May.{MayQueueWord, MayDequeueWord, MayMoveWord, MaySetBusyWord, MayClearBusyWord, MaySetStateWord, MayClaimWord, MayMakeRunnableWord, MayCpuWord, IsMatchedHere, IsPutHere, on_of}
 use Rattle.word_steps.proofs.Conditions.{queue_locked, store_cpu_may, set_busy_may, move_may}
-use Rattle.word_steps.proofs.CurrentKept.{own_state_may}
+use Rattle.word_steps.proofs.CurrentKept.{set_state_may}
 use Rattle.word_steps.proofs.EndedKept.{dead_allowed}
-use Rattle.word_steps.proofs.NumbersKept.{release_new_may, store_cpu_new_may}
-use Rattle.word_steps.proofs.PutKept.{release_put_may}
-use Rattle.word_steps.proofs.QueuedKept.{release_queued_may}
+use Rattle.word_steps.proofs.NumbersKept.{make_runnable_new_may, store_cpu_new_may}
+use Rattle.word_steps.proofs.PutKept.{make_runnable_put_may}
+use Rattle.word_steps.proofs.QueuedKept.{make_runnable_queued_may}
 use Rattle.word_steps.specs.Decode.{Homes, core_of}
 use Rattle.word_steps.specs.Folds.{task_held, queue_held, current_task, task_to_clear, seen_state, is_claimed, saw_clear, is_moving, number_read, last_reads}
 use Rattle.word_steps.specs.Records.{Rec}
@@ -45,7 +45,7 @@ below_even : (n : ℕ) → n % 2 ≡ 1 → n ≤ 2 ^ 60 → n < 2 ^ 60
 below_even n odd most = omega (arith, odd, most)
 
 module _ (shape : Shape) (words : ℕ → ℕ → ℕ) (homes : Homes) (traces : ℕ → List Rec) (s : ℕ)
-    (kept : Kept shape words homes traces) (seat : s < shape.cpus + shape.agents) where
+    (kept : WordsHold shape words homes traces) (seat : s < shape.cpus + shape.agents) where
   task_locked : (t : ℕ) → IsSome (task_held (traces s) t) → holder (words t LOCK) ≡ Some s
   task_locked t out = kept.holds.locks.tasks.out_held s t out
 
@@ -201,15 +201,15 @@ module _ (shape : Shape) (words : ℕ → ℕ → ℕ) (homes : Homes) (traces :
             (is_odd t may.left) (kept.holds.journals.numbered.runs_end t);
       }
 
-  pub own_state_possible : (t y : ℕ) → t < shape.tasks → MayOwnWord s (traces s) t (words t STATE) y
-      → MayOwnState (core_of shape words homes traces) s t (record { 0 = y })
-  own_state_possible t y task may =
-      own_state_may words traces s kept.current shape homes kept.holds t
+  pub set_state_possible : (t y : ℕ) → t < shape.tasks → MaySetStateWord s (traces s) t (words t STATE) y
+      → MaySetState (core_of shape words homes traces) s t (record { 0 = y })
+  set_state_possible t y task may =
+      set_state_may words traces s kept.current shape homes kept.holds t
       (record { 0 = y }) seat task may.current may.stays (elim may.allowed [
         | inl runs ↦ inl runs
         | inr rest ↦ elim rest [
           | inl sleeps ↦ inr (inl sleeps)
-          | inr dies ↦ subst (λ (x : State). IsOwnState (core_of shape words homes traces) s t x) (sym dies.0)
+          | inr dies ↦ subst (λ (x : State). IsSettable (core_of shape words homes traces) s t x) (sym dies.0)
               (dead_allowed shape words homes traces s kept.holds kept.ended t
               (task_locked t dies.1) may.current dies.2)
         ]
@@ -220,28 +220,28 @@ module _ (shape : Shape) (words : ℕ → ℕ → ℕ) (homes : Homes) (traces :
   claim_possible t y task may =
       record { seat = seat; task = task; locked = task_locked t may.locked; saw_off = may.off }
 
-  pub release_possible : (t y : ℕ) → t < shape.tasks → MayReleaseWord s (traces s) t (words t STATE) y
-      → MayRelease (core_of shape words homes traces) s t
-  release_possible t y task may = elim may.release [
+  pub make_runnable_possible : (t y : ℕ) → t < shape.tasks → MayMakeRunnableWord s (traces s) t (words t STATE) y
+      → MayMakeRunnable (core_of shape words homes traces) s t
+  make_runnable_possible t y task may = elim may.ready [
     | inl new ↦ let out = value_of (task_held (traces s) t) new.0 in
-        release_new_may words traces s kept.numbers shape homes kept.holds t out.0 seat task out.1 new.1
+        make_runnable_new_may words traces s kept.numbers shape homes kept.holds t out.0 seat task out.1 new.1
     | inr rest ↦ elim rest [
       | inl matched ↦ by_match matched.0 matched.1
       | inr there ↦ by_put there.0 there.1
     ]
   ]
     where
-      by_match : (c : ℕ) → IsMatchedHere s (traces s) c t → MayRelease (core_of shape words homes traces) s t
+      by_match : (c : ℕ) → IsMatchedHere s (traces s) c t → MayMakeRunnable (core_of shape words homes traces) s t
       by_match c here =
           let out = value_of (task_held (traces s) t) here.locked in
           let queue = value_of (queue_held (traces s) c) here.queue in
-          release_queued_may words traces s kept.queued shape homes c t out.0 queue.0 kept.holds seat task out.1
+          make_runnable_queued_may words traces s kept.queued shape homes c t out.0 queue.0 kept.holds seat task out.1
           queue.1 (here_read t c here.locked here.read) here.matched here.queued here.other
 
-      by_put : (c : ℕ) → IsPutHere s (traces s) c t → MayRelease (core_of shape words homes traces) s t
+      by_put : (c : ℕ) → IsPutHere s (traces s) c t → MayMakeRunnable (core_of shape words homes traces) s t
       by_put c here =
           let queue = value_of (queue_held (traces s) c) here.queue in
-          release_put_may shape words homes traces s kept.holds kept.put_there c t queue.0 seat task queue.1
+          make_runnable_put_may shape words homes traces s kept.holds kept.put_there c t queue.0 seat task queue.1
           here.there here.added here.other
 
   pub store_cpu_possible : (t y : ℕ) → t < shape.tasks → MayCpuWord s (traces s) shape t (words t CPU) y

@@ -2,7 +2,7 @@
 use Rattle.std.proofs.Common.{◌≡◌, ◌≢◌, ℕ, suc, ◌<◌, ◌+◌, refl, sym, ap, subst, ◌∙◌, inl, inr, List, [], ◌∷◌, arith}
 use Rattle.std.specs.Prelude.{◌/◌, ◌==◌, ◌&&◌, Bool, true, false, Option, Some, None, IsSome, unwrap_or}
 use Rattle.std.proofs.lemmas.Bool.{cases_eq}
-use Rattle.core_data.specs.Table.{put}
+use Rattle.core_data.specs.Columns.{put}
 use Rattle.core_data.specs.declared.values.TaskVal.{TaskVal}
 use Rattle.core_data.specs.declared.values.WaitEntry.{WaitEntry}
 use Rattle.core_data.specs.declared.values.WorkItem.{WorkItem}
@@ -13,14 +13,14 @@ use Rattle.core_kinds.specs.Steps.{fresh}
 use Rattle.core_stores.proofs.Columns.{put_there, put_other}
 use Rattle.handoff_data.specs.declared.shape.Shape.{Shape}
 use Rattle.word_rule.proofs.Possible.{value_of}
-use Rattle.word_rule.specs.Kept.{Kept}
+use Rattle.word_rule.specs.WordsHold.{WordsHold}
 use Rattle.word_rule.specs.May.{MayGiveTaskVal, MayGiveWorksVal, MayGiveWaitVal, MayTakeBody, MayReturnBody, MayClaimWord, number_of}
 use Rattle.word_steps.proofs.Conditions.{task_locked, give_task_may, give_works_may, give_wait_may, settled_unstored, fresh_unstored, body_out_may}
 use Rattle.word_steps.proofs.EndedKept.{body_home_may}
 use Rattle.word_steps.proofs.MovingSteps.{settled_given}
 use Rattle.word_steps.specs.Decode.{Homes, core_of}
 use Rattle.word_steps.specs.Folds.{number_read, ended_known, saw_off, put_if, is_unstored}
-use Rattle.word_steps.specs.Records.{Rec, Took, Gave, OutBody, HomeBody, Queued, Dequeued, Moved, SetBusy, ClearedBusy, StoredOwn, Claimed, Released, LoadedState, LoadedRq, LoadedBusy, LoadedCpu, LoadedCount, StoredCpu, Bumped, LoadedCond}
+use Rattle.word_steps.specs.Records.{Rec, Took, Gave, OutBody, HomeBody, Queued, Dequeued, Moved, SetBusy, ClearedBusy, StateSet, Claimed, MadeRunnable, LoadedState, LoadedRq, LoadedBusy, LoadedCpu, LoadedCount, StoredCpu, Bumped, LoadedCond}
 use Rattle.word_steps.specs.Words.{LOCK, STATE, RQ, holder}
 use Rattle.word_steps.specs.declared.val.Val.TheVariants as val
 
@@ -66,9 +66,9 @@ off_read (Dequeued n c m ∷ rs) t e = renewed (saw_off rs) (number_read rs) n (
 off_read (Moved n c m ∷ rs) t e = renewed (saw_off rs) (number_read rs) n (Some (m + 1)) (off_read rs) t e
 off_read (SetBusy n c m ∷ rs) t e = unread (saw_off rs) (number_read rs) n (off_read rs) t e
 off_read (ClearedBusy n m ∷ rs) t e = unread (saw_off rs) (number_read rs) n (off_read rs) t e
-off_read (StoredOwn n state ∷ rs) t e = unread (saw_off rs) (number_read rs) n (off_read rs) t e
+off_read (StateSet n state ∷ rs) t e = unread (saw_off rs) (number_read rs) n (off_read rs) t e
 off_read (Claimed n m ∷ rs) t e = unread (saw_off rs) (number_read rs) n (off_read rs) t e
-off_read (Released n ∷ rs) t e = unread (saw_off rs) (number_read rs) n (off_read rs) t e
+off_read (MadeRunnable n ∷ rs) t e = unread (saw_off rs) (number_read rs) n (off_read rs) t e
 off_read (LoadedState n mask state ∷ rs) t e = off_read rs t e
 off_read (LoadedRq n on m ∷ rs) t e =
     read ((on == 0) && is_unstored rs n) (saw_off rs) (number_read rs) n m (off_read rs) t e
@@ -80,7 +80,7 @@ off_read (Bumped k v ∷ rs) t e = off_read rs t e
 off_read (LoadedCond k v ∷ rs) t e = off_read rs t e
 
 module _ (shape : Shape) (words : ℕ → ℕ → ℕ) (homes : Homes) (traces : ℕ → List Rec) (s : ℕ)
-    (kept : Kept shape words homes traces) (seat : s < shape.cpus + shape.agents) where
+    (kept : WordsHold shape words homes traces) (seat : s < shape.cpus + shape.agents) where
   -- the number that a seat has of a task which it may claim is that of its queue word
   pub claim_number : (t y : ℕ) → MayClaimWord s (traces s) t (words t STATE) y → words t RQ / 4 ≡ number_of (traces s) t
   claim_number t y may =

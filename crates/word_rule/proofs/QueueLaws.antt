@@ -2,17 +2,17 @@
 use Rattle.std.proofs.Common.{◌≡◌, ℕ, ◌<◌, ◌+◌, refl, sym, ap, subst, ◌∙◌, List, ◌∷◌, arith}
 use Rattle.std.specs.Prelude.{◌/◌, ◌%◌, Option, Some, unwrap_or}
 use Rattle.core_data.specs.Queue.{Queue}
-use Rattle.core_data.specs.Table.{put, put_at}
+use Rattle.core_data.specs.Columns.{put, put_at}
 use Rattle.core_kinds.specs.Running.{MayQueue, MayDequeue, MayMove}
 use Rattle.handoff_data.specs.declared.shape.Shape.{Shape}
 use Rattle.word_rule.proofs.BodiesKept.{known_still}
 use Rattle.word_rule.proofs.GrownKept.{next_grown}
 use Rattle.word_rule.proofs.OffKept.{queue_task_off, dequeue_task_off, move_task_off}
 use Rattle.word_rule.proofs.Possible.{queue_number, queue_on, queue_possible, dequeue_possible, move_possible}
-use Rattle.word_rule.proofs.Quiet.{kept_after}
+use Rattle.word_rule.proofs.Quiet.{words_hold_after}
 use Rattle.word_rule.proofs.RunsKept.{queue_task_runs, dequeue_task_runs, move_task_runs}
 use Rattle.word_rule.proofs.StandingKept.{queue_task_standing, dequeue_task_standing, move_task_standing}
-use Rattle.word_rule.specs.Kept.{Kept}
+use Rattle.word_rule.specs.WordsHold.{WordsHold}
 use Rattle.word_rule.specs.May.{MayQueueWord, MayDequeueWord, MayMoveWord, cpu_read_of, number_of, on_of}
 use Rattle.word_steps.proofs.CurrentKept.{queue_task_current, dequeue_task_current, move_task_current}
 use Rattle.word_steps.proofs.EndedKept.{ended_still, counts_put}
@@ -39,7 +39,7 @@ read_number : (trace : List Rec) (t m : ℕ) → number_read trace t ≡ Some m 
 read_number trace t m read = sym (ap (λ (o : Option ℕ). unwrap_or o 0) read)
 
 module _ (shape : Shape) (words : ℕ → ℕ → ℕ) (homes : Homes) (traces : ℕ → List Rec) (s n y : ℕ)
-    (kept : Kept shape words homes traces) (seat : s < shape.cpus + shape.agents) where
+    (kept : WordsHold shape words homes traces) (seat : s < shape.cpus + shape.agents) where
   -- what the word was
   abbrev on : ℕ
   on = words n RQ % 4
@@ -69,19 +69,19 @@ module _ (shape : Shape) (words : ℕ → ℕ → ℕ) (homes : Homes) (traces :
       (queue_possible shape words homes traces s kept seat n y task may))
 
   pub queue_law : n < shape.tasks → MayQueueWord s (traces s) n (words n RQ) y
-      → Kept shape (put_at words n RQ y) homes
+      → WordsHold shape (put_at words n RQ y) homes
       (put traces s (Queued n (cpu_read_of (traces s) n) (on_of (traces s) n) (number_of (traces s) n) ∷ traces s)) × Unit {0}
   queue_law task may = (
-    as_known (λ r. Kept shape (put_at words n RQ y) homes (put traces s (r ∷ traces s))) may
+    as_known (λ r. WordsHold shape (put_at words n RQ y) homes (put traces s (r ∷ traces s))) may
         (by_core may.cpu (omega (arith, may.after)) (next_of may)
         (queue_possible shape words homes traces s kept seat n y task may)),
     tt,
   )
     where
       by_core : (c : ℕ) → y % 4 ≡ 1 → y / 4 ≡ words n RQ / 4 + 1 → MayQueue (core_of shape words homes traces) s c n
-          → Kept shape (put_at words n RQ y) homes (put traces s (Queued n c on m ∷ traces s))
+          → WordsHold shape (put_at words n RQ y) homes (put traces s (Queued n c on m ∷ traces s))
       by_core c on_is next core =
-          kept_after shape words homes traces s kept (Queued n c on m) (put_at words n RQ y) homes
+          words_hold_after shape words homes traces s kept (Queued n c on m) (put_at words n RQ y) homes
           (queue_task_event shape words homes traces s c n y on_is next core)
           (record {
             moving = queue_task_moves shape words homes traces s kept.moving c n y on_is core;
@@ -110,7 +110,7 @@ module _ (shape : Shape) (words : ℕ → ℕ → ℕ) (homes : Homes) (traces :
       (dequeue_possible shape words homes traces s kept seat n y task may)
 
   pub dequeue_law : n < shape.tasks → MayDequeueWord s (traces s) n (words n RQ) y
-      → Kept shape (put_at words n RQ y) homes (put traces s (Dequeued n s (words n RQ / 4) ∷ traces s)) × Unit {0}
+      → WordsHold shape (put_at words n RQ y) homes (put traces s (Dequeued n s (words n RQ / 4) ∷ traces s)) × Unit {0}
   dequeue_law task may = (
     by_core (omega (arith, may.after)) (omega (arith, may.after))
         (dequeue_possible shape words homes traces s kept seat n y task may),
@@ -118,9 +118,9 @@ module _ (shape : Shape) (words : ℕ → ℕ → ℕ) (homes : Homes) (traces :
   )
     where
       by_core : y % 4 ≡ 0 → y / 4 ≡ words n RQ / 4 + 1 → MayDequeue (core_of shape words homes traces) s s n
-          → Kept shape (put_at words n RQ y) homes (put traces s (Dequeued n s m ∷ traces s))
+          → WordsHold shape (put_at words n RQ y) homes (put traces s (Dequeued n s m ∷ traces s))
       by_core on_is next core =
-          kept_after shape words homes traces s kept (Dequeued n s m) (put_at words n RQ y) homes
+          words_hold_after shape words homes traces s kept (Dequeued n s m) (put_at words n RQ y) homes
           (dequeue_task_event shape words homes traces s s n y on_is next core)
           (record {
             moving = dequeue_task_moves shape words homes traces s kept.moving s n y on_is core;
@@ -151,10 +151,10 @@ module _ (shape : Shape) (words : ℕ → ℕ → ℕ) (homes : Homes) (traces :
       (move_possible shape words homes traces s kept seat n y task may))
 
   pub move_law : n < shape.tasks → MayMoveWord s (traces s) n (words n RQ) y
-      → Kept shape (put_at words n RQ y) homes
+      → WordsHold shape (put_at words n RQ y) homes
       (put traces s (Moved n (cpu_read_of (traces s) n) (words n RQ / 4) ∷ traces s)) × Unit {0}
   move_law task may = (
-    subst (λ (c : ℕ). Kept shape (put_at words n RQ y) homes (put traces s (Moved n c m ∷ traces s)))
+    subst (λ (c : ℕ). WordsHold shape (put_at words n RQ y) homes (put traces s (Moved n c m ∷ traces s)))
         (read_of (traces s) n may.cpu may.read)
         (by_core may.cpu may.taken (omega (arith, may.after)) (omega (arith, may.after))
         (move_possible shape words homes traces s kept seat n y task may)),
@@ -163,9 +163,9 @@ module _ (shape : Shape) (words : ℕ → ℕ → ℕ) (homes : Homes) (traces :
     where
       by_core : (c : ℕ) (q : Queue) → y % 4 ≡ 2 → y / 4 ≡ words n RQ / 4 + 1
           → MayMove (core_of shape words homes traces) s c n q
-          → Kept shape (put_at words n RQ y) homes (put traces s (Moved n c m ∷ traces s))
+          → WordsHold shape (put_at words n RQ y) homes (put traces s (Moved n c m ∷ traces s))
       by_core c q on_is next core =
-          kept_after shape words homes traces s kept (Moved n c m) (put_at words n RQ y) homes
+          words_hold_after shape words homes traces s kept (Moved n c m) (put_at words n RQ y) homes
           (move_task_event shape words homes traces s c n y q on_is next core)
           (record {
             moving = move_task_moves shape words homes traces s kept.moving c n y q on_is core;

@@ -1,9 +1,9 @@
--- The rule is kept by one lemma, `kept_after`, on which the law of each kind of step builds. A sentence of `Kept` that few
+-- The rule is kept by one lemma, `words_hold_after`, on which the law of each kind of step builds. A sentence of `WordsHold` that few
 -- steps touch has a lemma of its own over any event, and a line here; one that many touch stands in `Touched`. Then steps
 -- that change little of what stands beside the invariant: what else they have to show.
 use Rattle.std.proofs.Common.{◌≡◌, ◌≢◌, ℕ, ◌<◌, List, ◌∷◌, sym, subst, arith}
 use Rattle.std.specs.Prelude.{◌^◌, Bool, true, Option}
-use Rattle.core_data.specs.Table.{put, put_at}
+use Rattle.core_data.specs.Columns.{put, put_at}
 use Rattle.core_law.proofs.Reached.{Holds-step, reached_step}
 use Rattle.handoff_data.specs.declared.shape.Shape.{Shape}
 use Rattle.word_rule.proofs.BodiesKept.{known_still}
@@ -15,7 +15,7 @@ use Rattle.word_rule.proofs.RunsKept.{runs_still}
 use Rattle.word_rule.proofs.StandingKept.{standing_beside, standing_still}
 use Rattle.word_rule.proofs.WaysKept.{ways_event}
 use Rattle.word_rule.specs.Bodies.{BodiesKnown}
-use Rattle.word_rule.specs.Kept.{Kept}
+use Rattle.word_rule.specs.WordsHold.{WordsHold}
 use Rattle.word_rule.specs.Standing.{StandingHolds, RunsHold, OffHolds, GrownHolds, standing, may_run}
 use Rattle.word_steps.proofs.CurrentKept.{current_quiet, current_still}
 use Rattle.word_steps.proofs.EndedKept.{ended_still, counts_put}
@@ -25,11 +25,11 @@ use Rattle.word_steps.proofs.MovingSteps.{moving_beside, moving_still}
 use Rattle.word_steps.proofs.NumbersKept.{numbers_beside, numbers_still}
 use Rattle.word_steps.proofs.PutKept.{put_beside, put_still}
 use Rattle.word_steps.proofs.QueuedKept.{queued_beside, queued_still}
-use Rattle.word_steps.specs.Beside.{MovingHolds, CurrentHolds, NumbersHold, MatchedHolds, QueuedHolds, PutHolds, EndedHolds, CountsZero, StatesFit}
+use Rattle.word_steps.specs.TraceFacts.{MovingHolds, CurrentHolds, NumbersHold, MatchedHolds, QueuedHolds, PutHolds, EndedHolds, CountsZero, StatesFit}
 use Rattle.word_steps.specs.Decode.{Homes, core_of, core_after}
 use Rattle.word_steps.specs.Events.{IsEvent}
 use Rattle.word_steps.specs.Exclusives.{ExclusivesHold}
-use Rattle.word_steps.specs.Folds.{moving_after, current_task, stays_queued, number_after, number_read, is_matched_by, saw_queued, has_put, ended_known, body_held, saw_off}
+use Rattle.word_steps.specs.Folds.{moving_after, current_task, stays_queued, number_after, number_read, has_matched, saw_queued, has_put, ended_known, body_held, saw_off}
 use Rattle.word_steps.specs.Records.{Rec}
 use Rattle.word_steps.specs.Words.{LOCK, QUEUE_LOCK, RQ, CPU, COUNT, STATE, BUSY, COND, WORKS_LOCK, WAIT_LOCK}
 
@@ -37,7 +37,7 @@ use Rattle.word_steps.specs.Words.{LOCK, QUEUE_LOCK, RQ, CPU, COUNT, STATE, BUSY
 pub record IsQuiet (r : Rec) (trace : List Rec) : Type 0 where
   pub moving : (h : ℕ → Bool) → moving_after r h ≡ h
   pub numbers : (h : ℕ → Option ℕ) → number_after r h ≡ h
-  pub matched : is_matched_by (r ∷ trace) ≡ is_matched_by trace
+  pub matched : has_matched (r ∷ trace) ≡ has_matched trace
   pub queued : (c t : ℕ) → saw_queued (r ∷ trace) c t ≡ true → saw_queued trace c t ≡ true
   pub put_there : has_put (r ∷ trace) ≡ has_put trace
   pub standing : standing (r ∷ trace) ≡ standing trace
@@ -124,11 +124,11 @@ pub record Touched (words : ℕ → ℕ → ℕ) (homes : Homes) (traces : ℕ �
   pub grown : GrownHolds words traces
   pub known : BodiesKnown traces
 
-module _ (shape : Shape) (words : ℕ → ℕ → ℕ) (homes : Homes) (traces : ℕ → List Rec) (s : ℕ) (kept : Kept shape words homes traces) where
+module _ (shape : Shape) (words : ℕ → ℕ → ℕ) (homes : Homes) (traces : ℕ → List Rec) (s : ℕ) (kept : WordsHold shape words homes traces) where
   -- the rule after an event: the core is reached, the sentences that are touched hold, and so does each that isn't
-  pub kept_after : (r : Rec) (words' : ℕ → ℕ → ℕ) (homes' : Homes) → IsEvent shape words homes traces s r words' homes'
-      → Touched words' homes' (put traces s (r ∷ traces s)) → Kept shape words' homes' (put traces s (r ∷ traces s))
-  kept_after r words' homes' event touched =
+  pub words_hold_after : (r : Rec) (words' : ℕ → ℕ → ℕ) (homes' : Homes) → IsEvent shape words homes traces s r words' homes'
+      → Touched words' homes' (put traces s (r ∷ traces s)) → WordsHold shape words' homes' (put traces s (r ∷ traces s))
+  words_hold_after r words' homes' event touched =
       record {
         reached = reached_step (core_of shape words homes traces) (record { seat = s; step = event.kind })
             (core_after shape words' homes' traces s r) kept.reached event.event;
@@ -156,18 +156,18 @@ module _ (shape : Shape) (words : ℕ → ℕ → ℕ) (homes : Homes) (traces :
 
 module _ (shape : Shape) (words : ℕ → ℕ → ℕ) (homes homes' : Homes) (traces : ℕ → List Rec) (s : ℕ) where
   -- a step on a word of such a column
-  pub beside_kept : Kept shape words homes traces → (n c x : ℕ) (r : Rec) → IsBeside c → (c ≡ STATE → x < 2 ^ 16)
+  pub beside_kept : WordsHold shape words homes traces → (n c x : ℕ) (r : Rec) → IsBeside c → (c ≡ STATE → x < 2 ^ 16)
       → IsQuiet r (traces s) → ExclusivesHold (put_at words n c x) homes'.wait (put traces s (r ∷ traces s))
       → IsEvent shape words homes traces s r (put_at words n c x) homes'
       → CurrentHolds (put_at words n c x) (put traces s (r ∷ traces s))
       → EndedHolds homes'.ended (put traces s (r ∷ traces s))
       → RunsHold (put_at words n c x) (put traces s (r ∷ traces s))
       → BodiesKnown (put traces s (r ∷ traces s))
-      → Kept shape (put_at words n c x) homes' (put traces s (r ∷ traces s))
+      → WordsHold shape (put_at words n c x) homes' (put traces s (r ∷ traces s))
   beside_kept kept n c x r at small quiet exclusives event current ended runs known =
       let numbers = quiet.numbers (number_read (traces s)) in
       let grows = grows_beside words traces s kept.matched n c x at.rq in
-      kept_after shape words homes traces s kept r (put_at words n c x) homes' event (record {
+      words_hold_after shape words homes traces s kept r (put_at words n c x) homes' event (record {
         moving = moving_beside shape words homes traces s kept.moving n c x r at.lock at.rq quiet.moving;
         current = current;
         numbers = numbers_beside words traces s kept.numbers n c x r at.lock at.rq quiet.numbers;
@@ -186,12 +186,12 @@ module _ (shape : Shape) (words : ℕ → ℕ → ℕ) (homes homes' : Homes) (t
       })
 
   -- .. that changes neither the current task nor a body
-  pub quiet_beside : Kept shape words homes traces → homes'.ended ≡ homes.ended → (n c x : ℕ) (r : Rec) → IsBeside c
+  pub quiet_beside : WordsHold shape words homes traces → homes'.ended ≡ homes.ended → (n c x : ℕ) (r : Rec) → IsBeside c
       → (c ≡ STATE → x < 2 ^ 16) → IsQuiet r (traces s) → IsSteady r (traces s) → IsOutside r (traces s)
       → ExclusivesHold (put_at words n c x) homes'.wait (put traces s (r ∷ traces s))
       → IsEvent shape words homes traces s r (put_at words n c x) homes'
       → RunsHold (put_at words n c x) (put traces s (r ∷ traces s))
-      → Kept shape (put_at words n c x) homes' (put traces s (r ∷ traces s))
+      → WordsHold shape (put_at words n c x) homes' (put traces s (r ∷ traces s))
   quiet_beside kept same n c x r at small quiet steady outside exclusives event runs =
       let before : EndedHolds homes'.ended traces
       = subst (λ (f : ℕ → Bool). EndedHolds f traces) (sym same) kept.ended in
@@ -202,15 +202,15 @@ module _ (shape : Shape) (words : ℕ → ℕ → ℕ) (homes homes' : Homes) (t
       (known_still traces s kept.known r outside.body outside.ended)
 
   -- a step that changes no word, and not the current task
-  pub still_kept : Kept shape words homes traces → (r : Rec) → IsQuiet r (traces s) → IsSteady r (traces s)
+  pub still_kept : WordsHold shape words homes traces → (r : Rec) → IsQuiet r (traces s) → IsSteady r (traces s)
       → may_run s (r ∷ traces s) ≡ may_run s (traces s)
       → ExclusivesHold words homes'.wait (put traces s (r ∷ traces s))
       → IsEvent shape words homes traces s r words homes'
       → EndedHolds homes'.ended (put traces s (r ∷ traces s))
       → BodiesKnown (put traces s (r ∷ traces s))
-      → Kept shape words homes' (put traces s (r ∷ traces s))
+      → WordsHold shape words homes' (put traces s (r ∷ traces s))
   still_kept kept r quiet steady same exclusives event ended known =
-      kept_after shape words homes traces s kept r words homes' event (record {
+      words_hold_after shape words homes traces s kept r words homes' event (record {
         moving = moving_still shape words homes traces s kept.moving r quiet.moving;
         current = current_still words traces s kept.current r steady.current steady.stays;
         numbers = numbers_still words traces s kept.numbers r quiet.numbers;

@@ -4,14 +4,14 @@ use Rattle.std.specs.Prelude.{◌+◌, ◌%◌, ◌/◌, ◌==◌, ◌&&◌, ◌
 use Rattle.std.proofs.lemmas.Bool.{cases_eq, cases_Bool}
 use Rattle.std.proofs.lemmas.Bool.Decides.{nat_tests}
 use mathlib.Core.Bool.{not}
-use Rattle.core_data.specs.Table.{put, put_at}
+use Rattle.core_data.specs.Columns.{put, put_at}
 use Rattle.core_data.specs.Queue.{Queue, times_in}
 use Rattle.core_gives.specs.Queues.{is_some_of, gives_up}
 use Rattle.core_invariant.specs.Invariant.{Holds}
 use Rattle.core_kinds.specs.Locks.{MayTakeQueue}
 use Rattle.core_kinds.specs.Running.{MayQueue, MayDequeue, MayMove, MaySetBusy}
 use Rattle.core_kinds.specs.Steps.{IsRunnable}
-use Rattle.core_kinds.specs.Waking.{MayStoreCpu, MayOwnState, MayClaim}
+use Rattle.core_kinds.specs.Waking.{MayStoreCpu, MaySetState, MayClaim}
 use Rattle.core_stores.proofs.Columns.{put_there, put_other}
 use Rattle.handoff_data.specs.declared.shape.Shape.{Shape}
 use Rattle.handoff_data.specs.declared.state.State.{State}
@@ -19,10 +19,10 @@ use Rattle.word_rule.specs.Standing.{RunsHold, MayRunThere, may_run, is_runnable
 use Rattle.word_steps.proofs.CurrentKept.{same_task, unless}
 use Rattle.word_steps.proofs.MovingKept.{one_seat}
 use Rattle.word_steps.proofs.Puts.{word_here, word_apart, word_beside, fold_here, fold_else}
-use Rattle.word_steps.specs.Beside.{CurrentHolds, PutHolds}
+use Rattle.word_steps.specs.TraceFacts.{CurrentHolds, PutHolds}
 use Rattle.word_steps.specs.Decode.{Homes, core_of}
 use Rattle.word_steps.specs.Folds.{current_task, stays_queued, queue_held, has_put, has_added, put_after, added_after, put_column, put_column_if, put_both}
-use Rattle.word_steps.specs.Records.{Rec, Took, Gave, Queued, Dequeued, Moved, SetBusy, StoredOwn, Claimed, Released, LoadedState, StoredCpu}
+use Rattle.word_steps.specs.Records.{Rec, Took, Gave, Queued, Dequeued, Moved, SetBusy, StateSet, Claimed, MadeRunnable, LoadedState, StoredCpu}
 use Rattle.word_steps.specs.Words.{STATE, BUSY, QUEUE_LOCK, RQ, CPU, holder, is_set}
 use Rattle.word_steps.specs.declared.val.Val.TheVariants as val
 
@@ -284,28 +284,28 @@ module _ (words : ℕ → ℕ → ℕ) (traces : ℕ → List Rec) (s : ℕ) (ho
             (λ is. mine j c t (lock j c locked) old.here (same_task n t is))
 
     -- a seat stores the state of its own current task, which no other seat knows to run
-    pub own_state_runs : (n : ℕ) (state : State) → MayOwnState (core_of shape words homes traces) s n state
-        → RunsHold (put_at words n STATE state.0) (put traces s (StoredOwn n state ∷ traces s))
-    own_state_runs n state may =
-        runs_step (put_at words n STATE state.0) (StoredOwn n state)
+    pub set_state_runs : (n : ℕ) (state : State) → MaySetState (core_of shape words homes traces) s n state
+        → RunsHold (put_at words n STATE state.0) (put traces s (StateSet n state ∷ traces s))
+    set_state_runs n state may =
+        runs_step (put_at words n STATE state.0) (StateSet n state)
         (λ j c t ne locked e. let old = holds j c t (state_lock n state.0 j c locked) e in
-        apart_state n state.0 (StoredOwn n state) j c t old
+        apart_state n state.0 (StateSet n state) j c t old
         (λ q. absurd (ne (sym (old.own s (subst (λ (k : ℕ). current_task s (traces s) ≡ Some k)
         (sym q) may.current))))) (λ is. is))
         (λ c t locked e. mine (cases_Bool (state.0 == 0)) c t (state_lock n state.0 s c locked) e)
       where
         mine : (state.0 == 0 ≡ true) ⊎ (state.0 == 0 ≡ false) → (c t : ℕ) → holder (words c QUEUE_LOCK) ≡ Some s
             → put_column_if (not (state.0 == 0)) n false (may_run s (traces s)) c t ≡ true
-            → MayRunThere (put_at words n STATE state.0) (put traces s (StoredOwn n state ∷ traces s)) s c t
+            → MayRunThere (put_at words n STATE state.0) (put traces s (StateSet n state ∷ traces s)) s c t
         mine (inl zero_is) c t locked e =
-            apart_state n state.0 (StoredOwn n state) s c t
+            apart_state n state.0 (StateSet n state) s c t
             (holds s c t locked (subst (λ (b : Bool). put_column_if (not b) n false
             (may_run s (traces s)) c t ≡ true) zero_is e))
             (λ q. inl (grind (arith, nat_tests, zero_is))) (λ is. is)
         mine (inr other) c t locked e =
             let off = off_column (may_run s (traces s)) n c t
             (subst (λ (b : Bool). put_column_if (not b) n false (may_run s (traces s)) c t ≡ true) other e) in
-            apart_state n state.0 (StoredOwn n state) s c t (holds s c t locked off.1) (λ q. absurd (off.0 q))
+            apart_state n state.0 (StateSet n state) s c t (holds s c t locked off.1) (λ q. absurd (off.0 q))
             (λ is. is)
 
     module _ (core : Holds (core_of shape words homes traces)) where
@@ -464,16 +464,16 @@ module _ (words : ℕ → ℕ → ℕ) (traces : ℕ → List Rec) (s : ℕ) (ho
               ))) (λ is. is)
 
       -- one that the seat has put on a queue, and then stored as running, is there and runs
-      pub release_runs : (n : ℕ) → PutHolds words traces
-          → RunsHold (put_at words n STATE 0) (put traces s (Released n ∷ traces s))
-      release_runs n puts =
-          runs_step (put_at words n STATE 0) (Released n)
+      pub make_runnable_runs : (n : ℕ) → PutHolds words traces
+          → RunsHold (put_at words n STATE 0) (put traces s (MadeRunnable n ∷ traces s))
+      make_runnable_runs n puts =
+          runs_step (put_at words n STATE 0) (MadeRunnable n)
           (λ j c t ne locked e. as_was j c t (holds j c t (state_lock n 0 j c locked) e))
           (λ c t locked e. mine c t (cases_Bool ((t == n) && has_put (traces s) c t)) (state_lock n 0 s c locked) e)
         where
           as_was : (j c t : ℕ) → MayRunThere words traces j c t
-              → MayRunThere (put_at words n STATE 0) (put traces s (Released n ∷ traces s)) j c t
-          as_was j c t old = apart_state n 0 (Released n) j c t old (λ q. inl refl) (λ is. is)
+              → MayRunThere (put_at words n STATE 0) (put traces s (MadeRunnable n ∷ traces s)) j c t
+          as_was j c t old = apart_state n 0 (MadeRunnable n) j c t old (λ q. inl refl) (λ is. is)
 
           runner : (c t : ℕ) → holder (words c QUEUE_LOCK) ≡ Some s → has_put (traces s) c t ≡ true → (k : ℕ)
               → current_task k (traces k) ≡ Some t → k ≡ s
@@ -484,22 +484,22 @@ module _ (words : ℕ → ℕ → ℕ) (traces : ℕ → List Rec) (s : ℕ) (ho
               ]
 
           now : (c : ℕ) → holder (words c QUEUE_LOCK) ≡ Some s → has_put (traces s) c n ≡ true
-              → MayRunThere (put_at words n STATE 0) (put traces s (Released n ∷ traces s)) s c n
+              → MayRunThere (put_at words n STATE 0) (put traces s (MadeRunnable n ∷ traces s)) s c n
           now c locked was = let at = puts s c n locked was in record {
             queued = ap (λ (z : ℕ). z % 4) (word_beside words n STATE 0 n RQ (λ q. omega (arith, q))) ∙ at.0;
             here = word_beside words n STATE 0 n CPU (λ q. omega (arith, q)) ∙ at.1;
             runnable = inl (word_here words n STATE 0);
-            own = runner_after (Released n) s n (runner c n locked was) (λ is. refl);
+            own = runner_after (MadeRunnable n) s n (runner c n locked was) (λ is. refl);
           }
 
           mine : (c t : ℕ) → ((t == n) && has_put (traces s) c t ≡ true) ⊎ ((t == n) && has_put (traces s) c t ≡ false)
               → holder (words c QUEUE_LOCK) ≡ Some s
               → (if (t == n) && has_put (traces s) c t then true else may_run s (traces s) c t) ≡ true
-              → MayRunThere (put_at words n STATE 0) (put traces s (Released n ∷ traces s)) s c t
+              → MayRunThere (put_at words n STATE 0) (put traces s (MadeRunnable n ∷ traces s)) s c t
           mine c t (inl h) locked e =
               let both = both_true (t == n) (has_put (traces s) c t) h in
               let same : t ≡ n = grind (arith, nat_tests, both.0) in
-              subst (λ (u : ℕ). MayRunThere (put_at words n STATE 0) (put traces s (Released n ∷ traces s)) s c u)
+              subst (λ (u : ℕ). MayRunThere (put_at words n STATE 0) (put traces s (MadeRunnable n ∷ traces s)) s c u)
               (sym same)
               (now c locked (subst (λ (u : ℕ). has_put (traces s) c u ≡ true) same both.1))
           mine c t (inr h) locked e = as_was s c t

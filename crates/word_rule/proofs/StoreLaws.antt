@@ -4,7 +4,7 @@ use Rattle.std.proofs.Common.{◌≡◌, ◌≢◌, ℕ, ◌<◌, ◌+◌, refl,
 use Rattle.std.specs.Prelude.{◌/◌, ◌%◌, ◌^◌, ◌⊎◌, true, Some, IsSome}
 use Rattle.std.proofs.lemmas.Bool.Decides.{nat_tests}
 use Rattle.core_data.specs.Queue.{Queue}
-use Rattle.core_data.specs.Table.{put, put_at}
+use Rattle.core_data.specs.Columns.{put, put_at}
 use Rattle.core_kinds.specs.Running.{MaySetBusy}
 use Rattle.core_kinds.specs.Steps.{is_sleep, dead, running}
 use Rattle.core_kinds.specs.Waking.{MayStoreCpu}
@@ -13,18 +13,18 @@ use Rattle.handoff_data.specs.declared.state.State.{State}
 use Rattle.word_rule.proofs.BodiesKept.{known_still, set_busy_known}
 use Rattle.word_rule.proofs.GrownKept.{grown_beside}
 use Rattle.word_rule.proofs.OffKept.{off_beside, renewed}
-use Rattle.word_rule.proofs.Possible.{next_queue, set_busy_possible, clear_busy_possible, own_state_possible, claim_possible, release_possible, store_cpu_possible}
+use Rattle.word_rule.proofs.Possible.{next_queue, set_busy_possible, clear_busy_possible, set_state_possible, claim_possible, make_runnable_possible, store_cpu_possible}
 use Rattle.word_rule.proofs.PossibleGives.{claim_number}
-use Rattle.word_rule.proofs.Quiet.{IsQuiet, IsSteady, IsOutside, kept_after, beside_kept, quiet_beside, state_beside, busy_beside, cond_beside}
-use Rattle.word_rule.proofs.RunsKept.{runs_beside, set_busy_runs, own_state_runs, claim_runs, release_runs, store_cpu_runs}
+use Rattle.word_rule.proofs.Quiet.{IsQuiet, IsSteady, IsOutside, words_hold_after, beside_kept, quiet_beside, state_beside, busy_beside, cond_beside}
+use Rattle.word_rule.proofs.RunsKept.{runs_beside, set_busy_runs, set_state_runs, claim_runs, make_runnable_runs, store_cpu_runs}
 use Rattle.word_rule.proofs.StandingKept.{store_cpu_standing}
-use Rattle.word_rule.specs.Kept.{Kept}
-use Rattle.word_rule.specs.May.{MaySetBusyWord, MayClearBusyWord, MayOwnWord, MayClaimWord, MayReleaseWord, MayCpuWord, number_of}
+use Rattle.word_rule.specs.WordsHold.{WordsHold}
+use Rattle.word_rule.specs.May.{MaySetBusyWord, MayClearBusyWord, MaySetStateWord, MayClaimWord, MayMakeRunnableWord, MayCpuWord, number_of}
 use Rattle.word_rule.specs.Standing.{RunsHold}
 use Rattle.word_steps.proofs.CurrentKept.{current_quiet, set_busy_current}
 use Rattle.word_steps.proofs.EndedKept.{ended_still, set_busy_ended, counts_put}
-use Rattle.word_steps.proofs.Events.{bump_event, set_busy_event, clear_busy_event, own_state_event, claim_event, release_event, store_cpu_event}
-use Rattle.word_steps.proofs.ExclusivesKept.{exclusives_beside, exclusives_state, set_busy_exclusives, own_state_exclusives, store_cpu_exclusives}
+use Rattle.word_steps.proofs.Events.{bump_event, set_busy_event, clear_busy_event, set_state_event, claim_event, make_runnable_event, store_cpu_event}
+use Rattle.word_steps.proofs.ExclusivesKept.{exclusives_beside, exclusives_state, set_busy_exclusives, set_state_exclusives, store_cpu_exclusives}
 use Rattle.word_steps.proofs.MatchedKept.{matched_beside, grows_beside}
 use Rattle.word_steps.proofs.MovingKept.{states_put}
 use Rattle.word_steps.proofs.MovingSteps.{moving_beside}
@@ -35,7 +35,7 @@ use Rattle.word_steps.specs.Decode.{Homes, core_of}
 use Rattle.word_steps.specs.Events.{IsEvent}
 use Rattle.word_steps.specs.Exclusives.{ExclusivesHold}
 use Rattle.word_steps.specs.Folds.{body_held, task_held, ended_known}
-use Rattle.word_steps.specs.Records.{Rec, SetBusy, ClearedBusy, StoredOwn, Claimed, Released, StoredCpu, Bumped}
+use Rattle.word_steps.specs.Records.{Rec, SetBusy, ClearedBusy, StateSet, Claimed, MadeRunnable, StoredCpu, Bumped}
 use Rattle.word_steps.specs.Words.{LOCK, STATE, RQ, BUSY, CPU, COND}
 
 -- a busy word that is set, and the one after it
@@ -43,7 +43,7 @@ busy_next : (x y : ℕ) → x % 2 ≡ 1 → x / 2 < 2 ^ 60 → y ≡ (x + 1) % 2
 busy_next x y odd room after = (omega (arith, odd, room, after), omega (arith, odd, room, after))
 
 module _ (shape : Shape) (words : ℕ → ℕ → ℕ) (homes : Homes) (traces : ℕ → List Rec) (s n y : ℕ)
-    (kept : Kept shape words homes traces) (seat : s < shape.cpus + shape.agents) where
+    (kept : WordsHold shape words homes traces) (seat : s < shape.cpus + shape.agents) where
   abbrev bump_note : Rec
   bump_note = Bumped n (words n COND)
 
@@ -54,9 +54,9 @@ module _ (shape : Shape) (words : ℕ → ℕ → ℕ) (homes : Homes) (traces :
       (bump_event shape words homes traces s n (record { seat = seat; condition = condition }))
 
   pub bump_law : n < shape.conds → y ≡ (words n COND + 1) % 2 ^ 64
-      → Kept shape (put_at words n COND y) homes (put traces s (Bumped n (words n COND) ∷ traces s)) × Unit {0}
+      → WordsHold shape (put_at words n COND y) homes (put traces s (Bumped n (words n COND) ∷ traces s)) × Unit {0}
   bump_law condition after = (
-    subst (λ (z : ℕ). Kept shape (put_at words n COND z) homes (put traces s (bump_note ∷ traces s))) (sym after)
+    subst (λ (z : ℕ). WordsHold shape (put_at words n COND z) homes (put traces s (bump_note ∷ traces s))) (sym after)
         (quiet_beside shape words homes homes traces s kept refl n COND
         ((words n COND + 1) % 2 ^ 64) bump_note cond_beside
         (λ e. absurd (omega (arith, e)))
@@ -87,16 +87,16 @@ module _ (shape : Shape) (words : ℕ → ℕ → ℕ) (homes : Homes) (traces :
       (set_busy_possible shape words homes traces s kept seat n y task may)
 
   pub set_busy_law : n < shape.tasks → MaySetBusyWord s (traces s) n (words n BUSY) y
-      → Kept shape (put_at words n BUSY y) homes (put traces s (SetBusy n s (words n BUSY / 2) ∷ traces s)) × Unit {0}
+      → WordsHold shape (put_at words n BUSY y) homes (put traces s (SetBusy n s (words n BUSY / 2) ∷ traces s)) × Unit {0}
   set_busy_law task may =
-      (kept_after (next_queue may.taken n) (set_busy_possible shape words homes traces s kept seat n y task may), tt)
+      (words_hold_after (next_queue may.taken n) (set_busy_possible shape words homes traces s kept seat n y task may), tt)
     where
       none : (u : ℕ) → body_held (traces s) ≡ Some u → ⊥
       none u e = absurd (grind (arith, kept.holds.busy.bodies.out_current s u e, may.none))
 
-      kept_after : (q : Queue) → MaySetBusy (core_of shape words homes traces) s s n q
-          → Kept shape (put_at words n BUSY y) homes (put traces s (SetBusy n s (words n BUSY / 2) ∷ traces s))
-      kept_after q core =
+      words_hold_after : (q : Queue) → MaySetBusy (core_of shape words homes traces) s s n q
+          → WordsHold shape (put_at words n BUSY y) homes (put traces s (SetBusy n s (words n BUSY / 2) ∷ traces s))
+      words_hold_after q core =
           beside_kept shape words homes homes traces s kept n BUSY y (SetBusy n s (words n BUSY / 2)) busy_beside
           (λ e. absurd (omega (arith, e)))
           (record {
@@ -132,7 +132,7 @@ module _ (shape : Shape) (words : ℕ → ℕ → ℕ) (homes : Homes) (traces :
       clear_busy_event shape words homes traces s n y next.0 next.1 core
 
   pub clear_busy_law : n < shape.tasks → MayClearBusyWord s (traces s) n (words n BUSY) y
-      → Kept shape (put_at words n BUSY y) homes (put traces s (ClearedBusy n (words n BUSY / 2) ∷ traces s))
+      → WordsHold shape (put_at words n BUSY y) homes (put traces s (ClearedBusy n (words n BUSY / 2) ∷ traces s))
       × ((words n BUSY % 2 ≡ 1) × (words n BUSY / 2 < 2 ^ 60))
   clear_busy_law task may = (
     quiet_beside shape words homes homes traces s kept refl n BUSY y clear_note busy_beside
@@ -162,22 +162,22 @@ module _ (shape : Shape) (words : ℕ → ℕ → ℕ) (homes : Homes) (traces :
       → ExclusivesHold (put_at words n STATE x) homes.wait (put traces s (r ∷ traces s))
       → IsEvent shape words homes traces s r (put_at words n STATE x) homes
       → RunsHold (put_at words n STATE x) (put traces s (r ∷ traces s))
-      → Kept shape (put_at words n STATE x) homes (put traces s (r ∷ traces s))
+      → WordsHold shape (put_at words n STATE x) homes (put traces s (r ∷ traces s))
   quiet_state x r small quiet steady outside exclusives event runs =
       quiet_beside shape words homes homes traces s kept refl n STATE x r state_beside
       (λ e. small) quiet steady outside exclusives event runs
 
-  pub own_state_is_event : n < shape.tasks → MayOwnWord s (traces s) n (words n STATE) y
-      → IsEvent shape words homes traces s (StoredOwn n (record { 0 = y })) (put_at words n STATE y) homes
-  own_state_is_event task may =
-      own_state_event shape words homes traces s n (record { 0 = y })
-      (own_state_possible shape words homes traces s kept seat n y task may)
+  pub set_state_is_event : n < shape.tasks → MaySetStateWord s (traces s) n (words n STATE) y
+      → IsEvent shape words homes traces s (StateSet n (record { 0 = y })) (put_at words n STATE y) homes
+  set_state_is_event task may =
+      set_state_event shape words homes traces s n (record { 0 = y })
+      (set_state_possible shape words homes traces s kept seat n y task may)
 
-  pub own_state_law : n < shape.tasks → MayOwnWord s (traces s) n (words n STATE) y
-      → Kept shape (put_at words n STATE y) homes (put traces s (StoredOwn n (record { 0 = y }) ∷ traces s)) × Unit {0}
-  own_state_law task may =
-      let core = own_state_possible shape words homes traces s kept seat n y task may in (
-        quiet_state y (StoredOwn n (record { 0 = y })) (narrow may.allowed)
+  pub set_state_law : n < shape.tasks → MaySetStateWord s (traces s) n (words n STATE) y
+      → WordsHold shape (put_at words n STATE y) homes (put traces s (StateSet n (record { 0 = y }) ∷ traces s)) × Unit {0}
+  set_state_law task may =
+      let core = set_state_possible shape words homes traces s kept seat n y task may in (
+        quiet_state y (StateSet n (record { 0 = y })) (narrow may.allowed)
             (record {
               moving = λ h. refl;
               numbers = λ h. refl;
@@ -188,9 +188,9 @@ module _ (shape : Shape) (words : ℕ → ℕ → ℕ) (homes : Homes) (traces :
               off = renewed words traces s kept.off n;
             })
             (record { current = λ j. refl; stays = refl }) (record { ended = refl; body = refl })
-            (own_state_exclusives words homes.wait traces s kept.exclusives shape homes kept.holds n y may.current)
-            (own_state_event shape words homes traces s n (record { 0 = y }) core)
-            (own_state_runs words traces s kept.runs shape homes n (record { 0 = y }) core),
+            (set_state_exclusives words homes.wait traces s kept.exclusives shape homes kept.holds n y may.current)
+            (set_state_event shape words homes traces s n (record { 0 = y }) core)
+            (set_state_runs words traces s kept.runs shape homes n (record { 0 = y }) core),
         tt,
       )
     where
@@ -211,19 +211,19 @@ module _ (shape : Shape) (words : ℕ → ℕ → ℕ) (homes : Homes) (traces :
       (claim_event shape words homes traces s n (claim_possible shape words homes traces s kept seat n y task may)))
 
   pub claim_law : n < shape.tasks → MayClaimWord s (traces s) n (words n STATE) y
-      → Kept shape (put_at words n STATE y) homes
+      → WordsHold shape (put_at words n STATE y) homes
       (put traces s (Claimed n (number_of (traces s) n) ∷ traces s)) × Unit {0}
   claim_law task may = (
-    subst (λ (m : ℕ). Kept shape (put_at words n STATE y) homes (put traces s (Claimed n m ∷ traces s)))
+    subst (λ (m : ℕ). WordsHold shape (put_at words n STATE y) homes (put traces s (Claimed n m ∷ traces s)))
         (claim_number shape words homes traces s kept seat n y may)
-        (subst (λ (z : ℕ). Kept shape (put_at words n STATE z) homes
+        (subst (λ (z : ℕ). WordsHold shape (put_at words n STATE z) homes
         (put traces s (Claimed n (words n RQ / 4) ∷ traces s)))
-        (sym may.after) kept_after),
+        (sym may.after) words_hold_after),
     tt,
   )
     where
-      kept_after : Kept shape (put_at words n STATE 0x200) homes (put traces s (Claimed n (words n RQ / 4) ∷ traces s))
-      kept_after =
+      words_hold_after : WordsHold shape (put_at words n STATE 0x200) homes (put traces s (Claimed n (words n RQ / 4) ∷ traces s))
+      words_hold_after =
           let core = claim_possible shape words homes traces s kept seat n y task may in
           quiet_state 0x200 (Claimed n (words n RQ / 4)) (lit< tt)
           (record {
@@ -241,19 +241,19 @@ module _ (shape : Shape) (words : ℕ → ℕ → ℕ) (homes : Homes) (traces :
           (claim_event shape words homes traces s n core)
           (claim_runs words traces s kept.runs shape homes kept.holds n (words n RQ / 4) core)
 
-  pub release_is_event : n < shape.tasks → MayReleaseWord s (traces s) n (words n STATE) y
-      → IsEvent shape words homes traces s (Released n) (put_at words n STATE y) homes
-  release_is_event task may =
-      subst (λ (z : ℕ). IsEvent shape words homes traces s (Released n) (put_at words n STATE z) homes) (sym may.after)
-      (release_event shape words homes traces s n (release_possible shape words homes traces s kept seat n y task may))
+  pub make_runnable_is_event : n < shape.tasks → MayMakeRunnableWord s (traces s) n (words n STATE) y
+      → IsEvent shape words homes traces s (MadeRunnable n) (put_at words n STATE y) homes
+  make_runnable_is_event task may =
+      subst (λ (z : ℕ). IsEvent shape words homes traces s (MadeRunnable n) (put_at words n STATE z) homes) (sym may.after)
+      (make_runnable_event shape words homes traces s n (make_runnable_possible shape words homes traces s kept seat n y task may))
 
-  pub release_law : n < shape.tasks → MayReleaseWord s (traces s) n (words n STATE) y
-      → Kept shape (put_at words n STATE y) homes (put traces s (Released n ∷ traces s)) × Unit {0}
-  release_law task may =
-      let core = release_possible shape words homes traces s kept seat n y task may in (
-        subst (λ (z : ℕ). Kept shape (put_at words n STATE z) homes (put traces s (Released n ∷ traces s)))
+  pub make_runnable_law : n < shape.tasks → MayMakeRunnableWord s (traces s) n (words n STATE) y
+      → WordsHold shape (put_at words n STATE y) homes (put traces s (MadeRunnable n ∷ traces s)) × Unit {0}
+  make_runnable_law task may =
+      let core = make_runnable_possible shape words homes traces s kept seat n y task may in (
+        subst (λ (z : ℕ). WordsHold shape (put_at words n STATE z) homes (put traces s (MadeRunnable n ∷ traces s)))
             (sym may.after)
-            (quiet_state 0 (Released n) (lit< tt)
+            (quiet_state 0 (MadeRunnable n) (lit< tt)
             (record {
               moving = λ h. refl;
               numbers = λ h. refl;
@@ -264,10 +264,10 @@ module _ (shape : Shape) (words : ℕ → ℕ → ℕ) (homes : Homes) (traces :
               off = renewed words traces s kept.off n;
             })
             (record { current = λ j. refl; stays = refl }) (record { ended = refl; body = refl })
-            (exclusives_state words homes.wait traces s kept.exclusives n 0 (Released n) (λ t k e. e) refl refl
+            (exclusives_state words homes.wait traces s kept.exclusives n 0 (MadeRunnable n) (λ t k e. e) refl refl
             (λ k e sleeps. absurd (grind (arith, nat_tests, e))))
-            (release_event shape words homes traces s n core)
-            (release_runs words traces s kept.runs shape homes kept.holds n kept.put_there)),
+            (make_runnable_event shape words homes traces s n core)
+            (make_runnable_runs words traces s kept.runs shape homes kept.holds n kept.put_there)),
         tt,
       )
 
@@ -279,9 +279,9 @@ module _ (shape : Shape) (words : ℕ → ℕ → ℕ) (homes : Homes) (traces :
       store_cpu_event shape words homes traces s n y (store_cpu_possible shape words homes traces s kept seat n y task may)
 
   pub store_cpu_law : n < shape.tasks → MayCpuWord s (traces s) shape n (words n CPU) y
-      → Kept shape (put_at words n CPU y) homes (put traces s (StoredCpu n y ∷ traces s)) × Unit {0}
+      → WordsHold shape (put_at words n CPU y) homes (put traces s (StoredCpu n y ∷ traces s)) × Unit {0}
   store_cpu_law task may = (
-    kept_after shape words homes traces s kept (StoredCpu n y) (put_at words n CPU y) homes
+    words_hold_after shape words homes traces s kept (StoredCpu n y) (put_at words n CPU y) homes
         (store_cpu_event shape words homes traces s n y core) (record {
           moving = moving_beside shape words homes traces s kept.moving n CPU y (StoredCpu n y) lock rq (λ h. refl);
           current = current_quiet words traces s kept.current n CPU y (StoredCpu n y) rq (λ j. refl) refl;

@@ -7,7 +7,7 @@ use Rattle.core_data.specs.declared.values.WaitEntry.{WaitEntry}
 use Rattle.core_gives.specs.Queues.{times}
 use Rattle.handoff_data.specs.declared.shape.Shape.{Shape}
 use Rattle.word_rule.proofs.Pigeons.{room_for, room_of_entries, room_for_entry}
-use Rattle.word_rule.specs.Kept.{Kept}
+use Rattle.word_rule.specs.WordsHold.{WordsHold}
 use Rattle.word_rule.specs.Sorts.{Sort, OfTask, OfQueue, OfWorks, OfWait, home_of, some_of}
 use Rattle.word_rule.specs.Told.{TakeTold, TakenQueue, TakenWait, IsOff}
 use Rattle.word_steps.specs.Decode.{Homes}
@@ -34,7 +34,7 @@ none_there : (on at c n : ℕ) → n ≡ (if (on == 1) && (at == c) then 1 else 
 none_there on at c n e off = grind (arith, nat_tests, e, off)
 
 module _ (shape : Shape) (words : ℕ → ℕ → ℕ) (homes : Homes) (traces : ℕ → List Rec) (s n : ℕ)
-    (kept : Kept shape words homes traces) where
+    (kept : WordsHold shape words homes traces) where
   taken_queue : (v : Queue) → homes.queue n ≡ Some v → TakenQueue shape s (traces s) n v
   taken_queue v home =
       let named = kept.holds.shapes.queue_values.at_home n v home in
@@ -93,7 +93,7 @@ module _ (shape : Shape) (words : ℕ → ℕ → ℕ) (homes : Homes) (traces :
       }
 
 module _ (shape : Shape) (words : ℕ → ℕ → ℕ) (homes : Homes) (traces : ℕ → List Rec) (s : ℕ)
-    (kept : Kept shape words homes traces) where
+    (kept : WordsHold shape words homes traces) where
   pub take_told : (sort : Sort) (n : ℕ) (v : Val) → home_of sort homes n ≡ Some v → TakeTold shape s (traces s) sort n v
   take_told OfTask n v home = of_some val.Task (TakeTold shape s (traces s) OfTask n) (homes.task n) v home (λ w is.
       let told = kept.holds.shapes.task_values.at_home n w is in

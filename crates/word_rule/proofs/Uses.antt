@@ -4,7 +4,7 @@ use Rattle.std.specs.Prelude.{◌+◌, ◌-◌, ◌==◌, ◌&&◌, ◌⊎◌, B
 use Rattle.std.proofs.lemmas.Bool.{cases_eq}
 use Rattle.std.proofs.lemmas.Bool.Decides.{nat_tests}
 use Rattle.core_data.specs.Queue.{Queue, times_in}
-use Rattle.core_data.specs.Table.{put}
+use Rattle.core_data.specs.Columns.{put}
 use Rattle.core_gives.specs.Queues.{is_some_of}
 use Rattle.handoff_data.specs.declared.shape.Shape.{Shape}
 use Rattle.handoff_data.specs.declared.state.State.{State}
@@ -12,7 +12,7 @@ use Rattle.word_rule.specs.May.{MayGiveQueueVal}
 use Rattle.word_rule.specs.Standing.{may_run, is_runnable}
 use Rattle.word_rule.specs.Told.{TakenQueue}
 use Rattle.word_steps.specs.Folds.{current_task, stays_queued, queue_held, body_held, has_added, task_to_clear, put_both}
-use Rattle.word_steps.specs.Records.{Rec, Took, Queued, Dequeued, Moved, SetBusy, Released, LoadedState, LoadedRq, LoadedBusy}
+use Rattle.word_steps.specs.Records.{Rec, Took, Queued, Dequeued, Moved, SetBusy, MadeRunnable, LoadedState, LoadedRq, LoadedBusy}
 use Rattle.word_steps.specs.declared.val.Val.TheVariants as val
 
 -- t stands once more in the new list, and each other task as often
@@ -83,7 +83,7 @@ module _ (shape : Shape) (s c : ℕ) (v : Queue) (rs : List Rec) (told : TakenQu
   -- t was woken: put at its back, and then stored as running
   pub gives_woken : (t on m : ℕ) (given : Queue) → IsPushed v.waiting given.waiting t → given.cur ≡ v.cur
       → given.left ≡ v.left
-      → MayGiveQueueVal s (Released t ∷ Queued t c on m ∷ Took c (val.Queue v) ∷ rs) shape c given
+      → MayGiveQueueVal s (MadeRunnable t ∷ Queued t c on m ∷ Took c (val.Queue v) ∷ rs) shape c given
   gives_woken t on m given pushed cur left = record {
     taken = v;
     held = grind (arith, nat_tests);
@@ -99,19 +99,19 @@ module _ (shape : Shape) (s c : ℕ) (v : Queue) (rs : List Rec) (told : TakenQu
   }
     where
       waits : (u : ℕ) → times_in given.waiting u ≢ 0
-          → may_run s (Released t ∷ Queued t c on m ∷ Took c (val.Queue v) ∷ rs) c u ≡ true
+          → may_run s (MadeRunnable t ∷ Queued t c on m ∷ Took c (val.Queue v) ∷ rs) c u ≡ true
       waits u w = grind (arith, nat_tests, w, pushed u)
 
-      next : (u : ℕ) → (may_run s (Released t ∷ Queued t c on m ∷ Took c (val.Queue v) ∷ rs) c u ≡ true)
-          ⊎ (has_added (Released t ∷ Queued t c on m ∷ Took c (val.Queue v) ∷ rs) c u ≡ false)
+      next : (u : ℕ) → (may_run s (MadeRunnable t ∷ Queued t c on m ∷ Took c (val.Queue v) ∷ rs) c u ≡ true)
+          ⊎ (has_added (MadeRunnable t ∷ Queued t c on m ∷ Took c (val.Queue v) ∷ rs) c u ≡ false)
       next u = elim (cases_eq u t) [
         | inl same ↦ inl (grind (arith, nat_tests, same))
         | inr apart ↦ inr (grind (arith, nat_tests, apart))
       ]
 
   -- one that was queued was woken, and the queue is given as it was
-  pub gives_released : (t m : ℕ) → MayGiveQueueVal s (Released t ∷ LoadedRq t 1 m ∷ Took c (val.Queue v) ∷ rs) shape c v
-  gives_released t m = record {
+  pub gives_made_runnable : (t m : ℕ) → MayGiveQueueVal s (MadeRunnable t ∷ LoadedRq t 1 m ∷ Took c (val.Queue v) ∷ rs) shape c v
+  gives_made_runnable t m = record {
     taken = v;
     held = grind (arith, nat_tests);
     stands = λ u. grind (arith, nat_tests);

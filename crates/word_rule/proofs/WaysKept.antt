@@ -3,7 +3,7 @@
 use Rattle.std.proofs.Common.{◌≡◌, ◌≢◌, ℕ, suc, inl, inr, refl, sym, ap, subst, ◌∙◌, List, [], ◌∷◌, arith}
 use Rattle.std.specs.Prelude.{◌+◌, ◌/◌, ◌%◌, ◌^◌, Bool, true, false, Option, Some, None}
 use Rattle.std.proofs.lemmas.Bool.{cases_eq}
-use Rattle.core_data.specs.Table.{Table, put, put_at}
+use Rattle.core_data.specs.Columns.{Columns, put, put_at}
 use Rattle.core_data.specs.Queue.{Queue}
 use Rattle.core_data.specs.declared.values.TaskVal.{TaskVal}
 use Rattle.core_invariant.specs.Invariant.{Holds}
@@ -19,11 +19,11 @@ use Rattle.word_rule.specs.Standing.{OffHolds}
 use Rattle.word_rule.specs.Ways.{WaysHold, IsOnWay}
 use Rattle.word_steps.proofs.MovingKept.{one_seat}
 use Rattle.word_steps.proofs.Puts.{word_here, word_apart, word_beside, fold_here, fold_else}
-use Rattle.word_steps.specs.Beside.{MovingHolds}
+use Rattle.word_steps.specs.TraceFacts.{MovingHolds}
 use Rattle.word_steps.specs.Decode.{Homes, core_of, core_after}
 use Rattle.word_steps.specs.Events.{IsEvent, IsNoted, Writes}
 use Rattle.word_steps.specs.Folds.{is_claimed, is_moving, number_read, saw_off}
-use Rattle.word_steps.specs.Records.{Rec, Took, Gave, OutBody, HomeBody, Queued, Dequeued, Moved, SetBusy, ClearedBusy, StoredOwn, Claimed, Released, LoadedState, LoadedRq, LoadedBusy, LoadedCpu, LoadedCount, StoredCpu, Bumped, LoadedCond}
+use Rattle.word_steps.specs.Records.{Rec, Took, Gave, OutBody, HomeBody, Queued, Dequeued, Moved, SetBusy, ClearedBusy, StateSet, Claimed, MadeRunnable, LoadedState, LoadedRq, LoadedBusy, LoadedCpu, LoadedCount, StoredCpu, Bumped, LoadedCond}
 use Rattle.word_steps.specs.Words.{LOCK, STATE, RQ, BUSY, CPU, COUNT, QUEUE_LOCK, WORKS_LOCK, WAIT_LOCK, COND, is_set, holder}
 use Rattle.word_steps.specs.declared.val.Val.TheVariants as val
 
@@ -248,30 +248,30 @@ module _ (shape : Shape) (words : ℕ → ℕ → ℕ) (homes : Homes) (traces :
       as_made traces s w words r (OutBody t (homes.ended t)) writes noted (ways_still words traces s ways (OutBody t (homes.ended t)) (λ u way. way) refl)
   ways_by (step.BodyHome t ended) r w h noted writes made =
       as_made traces s w words r (HomeBody t ended) writes noted (ways_still words traces s ways (HomeBody t ended) (λ u way. way) refl)
-  ways_by (step.StoreRqOn c t) r w h noted writes made =
+  ways_by (step.QueueTask c t) r w h noted writes made =
       as_made traces s w (put_at words t RQ writes.0) r (Queued t c (words t RQ % 4) (words t RQ / 4)) writes.1 noted
-      (queue_task_ways words traces s ways shape homes moving core c t (words t RQ % 4) writes.0 (next_word t writes.0 w writes.1 (ap (λ (c : Table). c.changes t) made.next_is ∙ put_there (λ u. words u RQ / 4) t (words t RQ / 4 + 1) t refl)) made.possible)
-  ways_by (step.StoreRqOff c t) r w h noted writes made =
+      (queue_task_ways words traces s ways shape homes moving core c t (words t RQ % 4) writes.0 (next_word t writes.0 w writes.1 (ap (λ (c : Columns). c.changes t) made.next_is ∙ put_there (λ u. words u RQ / 4) t (words t RQ / 4 + 1) t refl)) made.possible)
+  ways_by (step.DequeueTask c t) r w h noted writes made =
       as_made traces s w (put_at words t RQ writes.0) r (Dequeued t c (words t RQ / 4)) writes.1 noted
-      (dequeue_task_ways words traces s ways shape homes moving core c t writes.0 (next_word t writes.0 w writes.1 (ap (λ (c : Table). c.changes t) made.next_is ∙ put_there (λ u. words u RQ / 4) t (words t RQ / 4 + 1) t refl)) made.possible)
-  ways_by (step.StoreRqMoving c t queue) r w h noted writes made =
+      (dequeue_task_ways words traces s ways shape homes moving core c t writes.0 (next_word t writes.0 w writes.1 (ap (λ (c : Columns). c.changes t) made.next_is ∙ put_there (λ u. words u RQ / 4) t (words t RQ / 4 + 1) t refl)) made.possible)
+  ways_by (step.MoveTask c t queue) r w h noted writes made =
       as_made traces s w (put_at words t RQ writes.0) r (Moved t c (words t RQ / 4)) writes.1 noted
-      (move_task_ways words traces s ways shape homes moving core c t writes.0 queue (next_word t writes.0 w writes.1 (ap (λ (c : Table). c.changes t) made.next_is ∙ put_there (λ u. words u RQ / 4) t (words t RQ / 4 + 1) t refl)) made.possible)
+      (move_task_ways words traces s ways shape homes moving core c t writes.0 queue (next_word t writes.0 w writes.1 (ap (λ (c : Columns). c.changes t) made.next_is ∙ put_there (λ u. words u RQ / 4) t (words t RQ / 4 + 1) t refl)) made.possible)
   ways_by (step.SetBusy c t queue) r w h noted writes made =
       as_made traces s w (put_at words t BUSY writes.0) r (SetBusy t c (words t BUSY / 2)) writes.1 noted
       (ways_beside words traces s ways t BUSY writes.0 (SetBusy t c (words t BUSY / 2)) (λ e. omega (arith, e)) (λ u way. way) refl)
   ways_by (step.ClearBusy t) r w h noted writes made =
       as_made traces s w (put_at words t BUSY writes.0) r (ClearedBusy t (words t BUSY / 2)) writes.1 noted
       (ways_beside words traces s ways t BUSY writes.0 (ClearedBusy t (words t BUSY / 2)) (λ e. omega (arith, e)) (λ u way. way) refl)
-  ways_by (step.OwnState t state) r w h noted writes made =
-      as_made traces s w (put_at words t STATE (state.0)) r (StoredOwn t state) writes noted
-      (ways_beside words traces s ways t STATE (state.0) (StoredOwn t state) (λ e. omega (arith, e)) (λ u way. way) refl)
-  ways_by (step.StoreWaking t) r w h noted writes made =
+  ways_by (step.SetState t state) r w h noted writes made =
+      as_made traces s w (put_at words t STATE (state.0)) r (StateSet t state) writes noted
+      (ways_beside words traces s ways t STATE (state.0) (StateSet t state) (λ e. omega (arith, e)) (λ u way. way) refl)
+  ways_by (step.ClaimTask t) r w h noted writes made =
       as_made traces s w (put_at words t STATE 0x200) r (Claimed t (words t RQ / 4)) writes noted
       (claim_ways words traces s ways shape homes moving core t (words t RQ / 4) off made.possible)
-  ways_by (step.StoreRunning t) r w h noted writes made =
-      as_made traces s w (put_at words t STATE (0)) r (Released t) writes noted
-      (ways_beside words traces s ways t STATE (0) (Released t) (λ e. omega (arith, e)) (λ u way. way) refl)
+  ways_by (step.MakeRunnable t) r w h noted writes made =
+      as_made traces s w (put_at words t STATE (0)) r (MadeRunnable t) writes noted
+      (ways_beside words traces s ways t STATE (0) (MadeRunnable t) (λ e. omega (arith, e)) (λ u way. way) refl)
   ways_by (step.LoadState t mask) r w h noted writes made =
       as_made traces s w words r (LoadedState t mask (record { 0 = words t STATE })) writes noted (ways_still words traces s ways (LoadedState t mask (record { 0 = words t STATE })) (λ u way. way) refl)
   ways_by (step.LoadRq t) r w h noted writes made =

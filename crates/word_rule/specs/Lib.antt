@@ -1,5 +1,5 @@
 pub mod Bodies
-pub mod Kept
+pub mod WordsHold
 pub mod Masks
 pub mod May
 pub mod Own

@@ -14,7 +14,7 @@ use Rattle.core_kinds.specs.Steps.{is_sleep, dead, running, waking}
 use Rattle.handoff_data.specs.declared.shape.Shape.{Shape}
 use Rattle.word_rule.specs.Sorts.{Sort, OfTask, OfQueue, OfWorks, OfWait}
 use Rattle.word_rule.specs.Standing.{standing, may_run}
-use Rattle.word_steps.specs.Folds.{task_held, queue_held, works_held, wait_held, body_held, ended_known, current_task, stays_queued, task_to_clear, seen_state, is_matched_by, saw_off, is_claimed, saw_clear, has_stored, saw_idle, has_added, has_dropped, has_put, has_passed, has_own_stored, is_moving, number_read, last_reads, saw_queued}
+use Rattle.word_steps.specs.Folds.{task_held, queue_held, works_held, wait_held, body_held, ended_known, current_task, stays_queued, task_to_clear, seen_state, has_matched, saw_off, is_claimed, saw_clear, has_stored, saw_idle, has_added, has_dropped, has_put, has_passed, has_own_stored, is_moving, number_read, last_reads, saw_queued}
 use Rattle.word_steps.specs.Records.{Rec}
 use Rattle.word_steps.specs.declared.val.Val.{Val}
 use Rattle.word_steps.specs.declared.val.Val.TheVariants as val
@@ -94,7 +94,7 @@ module _ (s : ℕ) (trace : List Rec) where
     pub other : current_task s trace ≢ Some t
 
   -- the current task's own state; its death only under its lock, once its body has ended
-  pub record MayOwnWord (t x y : ℕ) : Type 0 where
+  pub record MaySetStateWord (t x y : ℕ) : Type 0 where
     pub current : current_task s trace ≡ Some t
     pub stays : stays_queued trace ≡ true
     pub allowed :
@@ -113,7 +113,7 @@ module _ (s : ℕ) (trace : List Rec) where
 
   pub record IsMatchedHere (c t : ℕ) : Type 0 where
     pub locked : IsSome (task_held trace t)
-    pub matched : is_matched_by trace t ≡ true
+    pub matched : has_matched trace t ≡ true
     pub queue : IsSome (queue_held trace c)
     pub read : (last_reads trace t).cpu ≡ Some c
     pub queued : saw_queued trace c t ≡ true
@@ -125,9 +125,9 @@ module _ (s : ℕ) (trace : List Rec) where
     pub added : has_added trace c t ≡ true
     pub other : current_task s trace ≢ Some t
 
-  pub record MayReleaseWord (t x y : ℕ) : Type 0 where
+  pub record MayMakeRunnableWord (t x y : ℕ) : Type 0 where
     pub after : y ≡ 0
-    pub release : IsNewHere t ⊎ (((c : ℕ) × IsMatchedHere c t) ⊎ ((c : ℕ) × IsPutHere c t))
+    pub ready : IsNewHere t ⊎ (((c : ℕ) × IsMatchedHere c t) ⊎ ((c : ℕ) × IsPutHere c t))
 
   -- the processor word: of a new task, of one that the seat has claimed, and of one that it moves
   pub record MayCpuWord (shape : Shape) (t x y : ℕ) : Type 0 where
@@ -147,7 +147,7 @@ module _ (s : ℕ) (trace : List Rec) where
     pub settled : (has_stored trace t ≡ false) ⊎ ((is_claimed trace t ≡ false) × (is_moving trace t ≡ false))
     -- a new task has no word stored
     pub begun :
-        (has_stored trace t ≡ false) ⊎ (((m : ℕ) × (number_read trace t ≡ Some (suc m))) ⊎ ((is_matched_by trace t ≡ true) ⊎ (current_task s trace ≡ Some t)))
+        (has_stored trace t ≡ false) ⊎ (((m : ℕ) × (number_read trace t ≡ Some (suc m))) ⊎ ((has_matched trace t ≡ true) ⊎ (current_task s trace ≡ Some t)))
 
   -- of a queue's lock: each task that stands there, once, and those who wait may run; only its own seat switches
   pub record MayGiveQueueVal (shape : Shape) (c : ℕ) (given : Queue) : Type 0 where

@@ -1,16 +1,16 @@
 -- What a seat knows of the state of its own current task, while that stays queued.
 use Rattle.std.specs.Prelude.{◌≡◌, ◌≢◌, ℕ, ◌<◌, ◌^◌, ◌⊎◌, true, List, [], ◌∷◌, Option, Some, None}
-use Rattle.core_data.specs.Table.{put}
+use Rattle.core_data.specs.Columns.{put}
 use Rattle.core_kinds.specs.Steps.{running, dead, is_sleep, IsRunnable}
 use Rattle.handoff_data.specs.declared.state.State.{State}
 use Rattle.word_steps.specs.Folds.{current_task, stays_queued}
-use Rattle.word_steps.specs.Records.{Rec, SetBusy, StoredOwn}
+use Rattle.word_steps.specs.Records.{Rec, SetBusy, StateSet}
 use Rattle.word_steps.specs.Words.{STATE}
 
 -- the state that the seat has stored last of each task since it picked it
 abbrev pub last_own_after : Rec → (ℕ → Option State) → ℕ → Option State
 last_own_after (SetBusy t c n) h = put h t None
-last_own_after (StoredOwn t state) h = put h t (Some state)
+last_own_after (StateSet t state) h = put h t (Some state)
 last_own_after r h = h
 
 abbrev pub last_own : List Rec → ℕ → Option State

@@ -1,6 +1,6 @@
 -- The four sorts of lock: their words, slots and values.
 use Rattle.std.specs.Prelude.{ℕ, List, Option, Some, None}
-use Rattle.core_data.specs.Table.{put}
+use Rattle.core_data.specs.Columns.{put}
 use Rattle.handoff_data.specs.declared.shape.Shape.{Shape}
 use Rattle.word_steps.specs.Decode.{Homes}
 use Rattle.word_steps.specs.Folds.{task_held, queue_held, works_held, wait_held}

@@ -2,12 +2,12 @@
 use Rattle.std.specs.Prelude.{◌≡◌, ℕ, ◌+◌, ◌-◌, ◌%◌, ◌/◌, ◌≤◌, ◌==◌, ◌&&◌, ◌||◌, nat_lt, Bool, true, false, List, [], ◌∷◌, Option, Some, if◌then◌else◌, is_some}
 use mathlib.Core.Bool.{not}
 use Rattle.core_data.specs.Queue.{times_in}
-use Rattle.core_data.specs.Table.{put}
+use Rattle.core_data.specs.Columns.{put}
 use Rattle.core_gives.specs.Queues.{times, is_at, is_some_of}
 use Rattle.core_kinds.specs.Steps.{IsRunnable, running, fresh}
 use Rattle.handoff_data.specs.declared.state.State.{State}
 use Rattle.word_steps.specs.Folds.{put_column_if, put_column, put_both, has_put, current_task, stays_queued, queue_held, saw_off, number_read}
-use Rattle.word_steps.specs.Records.{Rec, Took, Queued, Dequeued, Moved, StoredOwn, Released, LoadedState}
+use Rattle.word_steps.specs.Records.{Rec, Took, Queued, Dequeued, Moved, StateSet, MadeRunnable, LoadedState}
 use Rattle.word_steps.specs.Words.{LOCK, STATE, RQ, CPU, QUEUE_LOCK, holder}
 use Rattle.word_steps.specs.declared.val.Val.TheVariants as val
 
@@ -39,8 +39,8 @@ may_run_after s (Took c (val.Queue v)) current stays own were h = put h c (λ t.
 may_run_after s (Queued t c on m) current stays own were h = put_both h c t ((m == 0) || (on == 2))
 may_run_after s (Dequeued t c m) current stays own were h = put_column h t false
 may_run_after s (Moved t c m) current stays own were h = put_column h t false
-may_run_after s (StoredOwn t state) current stays own were h = put_column_if (not (state.0 == 0)) t false h
-may_run_after s (Released t) current stays own were h = λ c u. if (u == t) && were c u then true else h c u
+may_run_after s (StateSet t state) current stays own were h = put_column_if (not (state.0 == 0)) t false h
+may_run_after s (MadeRunnable t) current stays own were h = λ c u. if (u == t) && were c u then true else h c u
 may_run_after s (LoadedState t mask state) current stays own were h = if is_some_of current t && (stays && (own && is_runnable state)) then put_both h s t true else h
 may_run_after s r current stays own were h = h
 

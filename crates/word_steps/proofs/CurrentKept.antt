@@ -2,16 +2,16 @@
 use Rattle.std.proofs.Common.{◌≡◌, ◌≢◌, ℕ, ◌<◌, inl, inr, sym, ap, subst, ◌∙◌, List, [], ◌∷◌, arith}
 use Rattle.std.specs.Prelude.{◌+◌, ◌%◌, Bool, true, false, Option, Some, None, if◌then◌else◌}
 use Rattle.std.proofs.lemmas.Bool.{cases_eq}
-use Rattle.core_data.specs.Table.{put, put_at}
+use Rattle.core_data.specs.Columns.{put, put_at}
 use Rattle.core_data.specs.Queue.{Queue}
 use Rattle.core_gives.specs.Queues.{gives_up}
 use Rattle.core_invariant.specs.Invariant.{Holds}
 use Rattle.core_kinds.specs.Running.{MayDequeue, MayMove, MaySetBusy}
-use Rattle.core_kinds.specs.Waking.{MayOwnState, IsOwnState}
+use Rattle.core_kinds.specs.Waking.{MaySetState, IsSettable}
 use Rattle.handoff_data.specs.declared.shape.Shape.{Shape}
 use Rattle.handoff_data.specs.declared.state.State.{State}
 use Rattle.word_steps.proofs.Puts.{word_here, word_apart, word_beside, fold_here, fold_else}
-use Rattle.word_steps.specs.Beside.{CurrentHolds}
+use Rattle.word_steps.specs.TraceFacts.{CurrentHolds}
 use Rattle.word_steps.specs.Decode.{Homes, core_of}
 use Rattle.word_steps.specs.Folds.{current_task, stays_queued}
 use Rattle.word_steps.specs.Records.{Rec, Gave, Queued, Dequeued, Moved, SetBusy}
@@ -110,6 +110,6 @@ module _ (words : ℕ → ℕ → ℕ) (traces : ℕ → List Rec) (s : ℕ) (ho
         picked e = subst (λ (k : ℕ). words k RQ % 4 ≡ 1) (same_task t u e) may.queued
 
     -- the current task may store its state, but for its death, while it is queued
-    pub own_state_may : (t : ℕ) (state : State) → s < shape.cpus + shape.agents → t < shape.tasks → current_task s (traces s) ≡ Some t → stays_queued (traces s) ≡ true
-        → IsOwnState (core_of shape words homes traces) s t state → MayOwnState (core_of shape words homes traces) s t state
-    own_state_may t state seat task current stays allowed = record { seat = seat; task = task; current = current; queued = holds s t current stays; allowed = allowed }
+    pub set_state_may : (t : ℕ) (state : State) → s < shape.cpus + shape.agents → t < shape.tasks → current_task s (traces s) ≡ Some t → stays_queued (traces s) ≡ true
+        → IsSettable (core_of shape words homes traces) s t state → MaySetState (core_of shape words homes traces) s t state
+    set_state_may t state seat task current stays allowed = record { seat = seat; task = task; current = current; queued = holds s t current stays; allowed = allowed }

@@ -2,18 +2,18 @@
 use Rattle.std.proofs.Common.{◌≡◌, ◌≢◌, ℕ, ◌<◌, inl, inr, refl, sym, ap, subst, ◌∙◌, List, [], ◌∷◌, arith}
 use Rattle.std.specs.Prelude.{◌+◌, Bool, true, Option, Some, None}
 use Rattle.std.proofs.lemmas.Bool.{cases_eq}
-use Rattle.core_data.specs.Table.{put, put_at}
+use Rattle.core_data.specs.Columns.{put, put_at}
 use Rattle.core_data.specs.Queue.{Queue}
 use Rattle.core_gives.specs.Queues.{gives_up}
 use Rattle.core_invariant.specs.Invariant.{Holds}
 use Rattle.core_kinds.specs.Running.{MayBodyHome}
 use Rattle.core_kinds.specs.Steps.{dead}
-use Rattle.core_kinds.specs.Waking.{IsOwnState}
+use Rattle.core_kinds.specs.Waking.{IsSettable}
 use Rattle.core_stores.proofs.Columns.{put_there, put_other}
 use Rattle.handoff_data.specs.declared.shape.Shape.{Shape}
 use Rattle.word_steps.proofs.CurrentKept.{same_task, unless}
 use Rattle.word_steps.proofs.Puts.{word_beside, fold_here, fold_else}
-use Rattle.word_steps.specs.Beside.{EndedHolds, CountsZero}
+use Rattle.word_steps.specs.TraceFacts.{EndedHolds, CountsZero}
 use Rattle.word_steps.specs.Decode.{Homes, core_of}
 use Rattle.word_steps.specs.Folds.{current_task, ended_known, body_held}
 use Rattle.word_steps.specs.Records.{Rec, Gave, OutBody, HomeBody, SetBusy}
@@ -107,5 +107,5 @@ module _ (shape : Shape) (words : ℕ → ℕ → ℕ) (homes : Homes) (traces :
 
   -- the current task may die under its own lock where its body has ended
   pub dead_allowed : (t : ℕ) → holder (words t LOCK) ≡ Some s → current_task s (traces s) ≡ Some t → ended_known (traces s) t ≡ Some true
-      → IsOwnState (core_of shape words homes traces) s t dead
+      → IsSettable (core_of shape words homes traces) s t dead
   dead_allowed t locked current known = inr (inr (refl, locked, holds s t true current known))

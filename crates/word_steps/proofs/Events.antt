@@ -2,7 +2,7 @@
 use Rattle.std.proofs.Common.{◌≡◌, ℕ, suc, refl, List}
 use Rattle.std.specs.Prelude.{◌+◌, ◌/◌, ◌%◌, ◌^◌, Bool, true, false, Option, Some, None}
 use Rattle.core_data.specs.Queue.{Queue}
-use Rattle.core_data.specs.Table.{put, put_at}
+use Rattle.core_data.specs.Columns.{put, put_at}
 use Rattle.core_data.specs.declared.values.TaskVal.{TaskVal}
 use Rattle.core_data.specs.declared.values.WaitEntry.{WaitEntry}
 use Rattle.core_data.specs.declared.values.WorkItem.{WorkItem}
@@ -11,20 +11,20 @@ use Rattle.core_gives.specs.Waits.{MayGiveWait}
 use Rattle.core_invariant.specs.Invariant.{Holds}
 use Rattle.core_kinds.specs.Locks.{MayTakeTask, MayGiveTask, MayTakeQueue, MayTakeWait, MayTakeWorks, MayGiveWorks}
 use Rattle.core_kinds.specs.Running.{MayQueue, MayDequeue, MayMove, MaySetBusy, MayClearBusy, MayBodyOut, MayBodyHome}
-use Rattle.core_kinds.specs.Waking.{MayOwnState, MayClaim, MayRelease, MayLoad, MayLoadState, MayStoreCpu, MayBump}
+use Rattle.core_kinds.specs.Waking.{MaySetState, MayClaim, MayMakeRunnable, MayLoad, MayLoadState, MayStoreCpu, MayBump}
 use Rattle.core_law.specs.declared.step.StepKind.TheVariants as step
 use Rattle.handoff_data.specs.declared.shape.Shape.{Shape}
 use Rattle.handoff_data.specs.declared.state.State.{State}
 use Rattle.word_steps.proofs.Takes.{take_task_shown, take_queue_shown, take_works_shown, take_wait_shown}
 use Rattle.word_steps.proofs.Gives.{give_task_shown, give_queue_shown, give_works_shown, give_wait_shown}
-use Rattle.word_steps.proofs.Stores.{store_cpu_shown, own_state_shown, claim_shown, release_shown, bump_shown}
+use Rattle.word_steps.proofs.Stores.{store_cpu_shown, set_state_shown, claim_shown, make_runnable_shown, bump_shown}
 use Rattle.word_steps.proofs.Loads.{load_cpu_shown, load_count_shown, load_state_shown, load_rq_shown, load_busy_shown, load_cond_shown}
 use Rattle.word_steps.proofs.Runs.{queue_task_shown, dequeue_task_shown, move_task_shown, set_busy_shown, clear_busy_shown, body_out_shown, body_home_shown}
 use Rattle.word_steps.proofs.OwnRead.{own_read}
 use Rattle.word_steps.specs.Decode.{Homes, core_of}
 use Rattle.word_steps.specs.Events.{IsEvent}
 use Rattle.word_steps.specs.Folds.{task_held, queue_held, works_held, wait_held}
-use Rattle.word_steps.specs.Records.{Rec, Took, Gave, OutBody, HomeBody, Queued, Dequeued, Moved, SetBusy, ClearedBusy, StoredOwn, Claimed, Released, LoadedState, LoadedRq, LoadedBusy, LoadedCpu, LoadedCount, StoredCpu, Bumped, LoadedCond}
+use Rattle.word_steps.specs.Records.{Rec, Took, Gave, OutBody, HomeBody, Queued, Dequeued, Moved, SetBusy, ClearedBusy, StateSet, Claimed, MadeRunnable, LoadedState, LoadedRq, LoadedBusy, LoadedCpu, LoadedCount, StoredCpu, Bumped, LoadedCond}
 use Rattle.word_steps.specs.Words.{LOCK, STATE, RQ, BUSY, CPU, COUNT, QUEUE_LOCK, WORKS_LOCK, WAIT_LOCK, COND, is_set}
 use Rattle.word_steps.specs.declared.val.Val.TheVariants as val
 
@@ -79,20 +79,20 @@ module _ (shape : Shape) (words : ℕ → ℕ → ℕ) (homes : Homes) (traces :
   store_cpu_event t c may =
       record { kind = step.StoreCpu t c; noted = refl; writes = refl; event = record { possible = may; next_is = store_cpu_shown shape words homes traces s t c } }
 
-  pub own_state_event : (t : ℕ) (state : State) → MayOwnState (core_of shape words homes traces) s t state
-      → IsEvent shape words homes traces s (StoredOwn t state) (put_at words t STATE state.0) homes
-  own_state_event t state may =
-      record { kind = step.OwnState t state; noted = refl; writes = refl; event = record { possible = may; next_is = own_state_shown shape words homes traces s t state } }
+  pub set_state_event : (t : ℕ) (state : State) → MaySetState (core_of shape words homes traces) s t state
+      → IsEvent shape words homes traces s (StateSet t state) (put_at words t STATE state.0) homes
+  set_state_event t state may =
+      record { kind = step.SetState t state; noted = refl; writes = refl; event = record { possible = may; next_is = set_state_shown shape words homes traces s t state } }
 
   pub claim_event : (t : ℕ) → MayClaim (core_of shape words homes traces) s t
       → IsEvent shape words homes traces s (Claimed t (words t RQ / 4)) (put_at words t STATE 0x200) homes
   claim_event t may =
-      record { kind = step.StoreWaking t; noted = refl; writes = refl; event = record { possible = may; next_is = claim_shown shape words homes traces s t } }
+      record { kind = step.ClaimTask t; noted = refl; writes = refl; event = record { possible = may; next_is = claim_shown shape words homes traces s t } }
 
-  pub release_event : (t : ℕ) → MayRelease (core_of shape words homes traces) s t
-      → IsEvent shape words homes traces s (Released t) (put_at words t STATE 0) homes
-  release_event t may =
-      record { kind = step.StoreRunning t; noted = refl; writes = refl; event = record { possible = may; next_is = release_shown shape words homes traces s t } }
+  pub make_runnable_event : (t : ℕ) → MayMakeRunnable (core_of shape words homes traces) s t
+      → IsEvent shape words homes traces s (MadeRunnable t) (put_at words t STATE 0) homes
+  make_runnable_event t may =
+      record { kind = step.MakeRunnable t; noted = refl; writes = refl; event = record { possible = may; next_is = make_runnable_shown shape words homes traces s t } }
 
   pub bump_event : (k : ℕ) → MayBump (core_of shape words homes traces) s k
       → IsEvent shape words homes traces s (Bumped k (words k COND)) (put_at words k COND ((words k COND + 1) % 2 ^ 64)) homes
@@ -137,17 +137,17 @@ module _ (shape : Shape) (words : ℕ → ℕ → ℕ) (homes : Homes) (traces :
   pub queue_task_event : (c : ℕ) (t : ℕ) (x : ℕ) → x % 4 ≡ 1 → x / 4 ≡ words t RQ / 4 + 1 → MayQueue (core_of shape words homes traces) s c t
       → IsEvent shape words homes traces s (Queued t c (words t RQ % 4) (words t RQ / 4)) (put_at words t RQ x) homes
   queue_task_event c t x on_is next may =
-      record { kind = step.StoreRqOn c t; noted = refl; writes = (x, refl); event = record { possible = may; next_is = queue_task_shown shape words homes traces s c t x on_is next } }
+      record { kind = step.QueueTask c t; noted = refl; writes = (x, refl); event = record { possible = may; next_is = queue_task_shown shape words homes traces s c t x on_is next } }
 
   pub dequeue_task_event : (c : ℕ) (t : ℕ) (x : ℕ) → x % 4 ≡ 0 → x / 4 ≡ words t RQ / 4 + 1 → MayDequeue (core_of shape words homes traces) s c t
       → IsEvent shape words homes traces s (Dequeued t c (words t RQ / 4)) (put_at words t RQ x) homes
   dequeue_task_event c t x on_is next may =
-      record { kind = step.StoreRqOff c t; noted = refl; writes = (x, refl); event = record { possible = may; next_is = dequeue_task_shown shape words homes traces s c t x on_is next } }
+      record { kind = step.DequeueTask c t; noted = refl; writes = (x, refl); event = record { possible = may; next_is = dequeue_task_shown shape words homes traces s c t x on_is next } }
 
   pub move_task_event : (c : ℕ) (t : ℕ) (x : ℕ) (queue : Queue) → x % 4 ≡ 2 → x / 4 ≡ words t RQ / 4 + 1 → MayMove (core_of shape words homes traces) s c t queue
       → IsEvent shape words homes traces s (Moved t c (words t RQ / 4)) (put_at words t RQ x) homes
   move_task_event c t x queue on_is next may =
-      record { kind = step.StoreRqMoving c t queue; noted = refl; writes = (x, refl); event = record { possible = may; next_is = move_task_shown shape words homes traces s c t x on_is next } }
+      record { kind = step.MoveTask c t queue; noted = refl; writes = (x, refl); event = record { possible = may; next_is = move_task_shown shape words homes traces s c t x on_is next } }
 
   pub set_busy_event : (c : ℕ) (t : ℕ) (x : ℕ) (queue : Queue) → x % 2 ≡ 1 → x / 2 ≡ words t BUSY / 2 + 1 → MaySetBusy (core_of shape words homes traces) s c t queue
       → IsEvent shape words homes traces s (SetBusy t c (words t BUSY / 2)) (put_at words t BUSY x) homes

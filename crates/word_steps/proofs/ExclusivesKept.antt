@@ -6,7 +6,7 @@ use Rattle.std.proofs.lemmas.Bool.Decides.{nat_tests}
 use mathlib.Core.Bool.{not}
 use Rattle.core_data.specs.Entries.{has_entry, is_gone}
 use Rattle.core_data.specs.Noted.{given_asleep}
-use Rattle.core_data.specs.Table.{put, put_at}
+use Rattle.core_data.specs.Columns.{put, put_at}
 use Rattle.core_data.specs.declared.values.WaitEntry.{WaitEntry}
 use Rattle.core_gives.specs.Waits.{MayGiveWait, sleeper_of, has_task}
 use Rattle.core_invariant.specs.Invariant.{Holds}
@@ -20,7 +20,7 @@ use Rattle.word_steps.proofs.Puts.{word_here, word_apart, word_beside, fold_here
 use Rattle.word_steps.specs.Decode.{Homes, core_of}
 use Rattle.word_steps.specs.Exclusives.{exclusive_entry, give_own, gave_exclusively, IsAsleepAt, IsWaiting, ExclusivesHold}
 use Rattle.word_steps.specs.Folds.{put_row_if, put_both, current_task, wait_held, is_asleep, has_slept_in}
-use Rattle.word_steps.specs.Records.{Rec, Took, Gave, SetBusy, StoredOwn, StoredCpu}
+use Rattle.word_steps.specs.Records.{Rec, Took, Gave, SetBusy, StateSet, StoredCpu}
 use Rattle.word_steps.specs.Words.{STATE, CPU, WAIT_LOCK}
 use Rattle.word_steps.specs.declared.val.Val.TheVariants as val
 
@@ -140,20 +140,20 @@ module _ (words : ℕ → ℕ → ℕ) (wait : ℕ → Option (List WaitEntry)) 
       exclusives_beside n b x (SetBusy n c m) state cpu (λ t k e. less_row true (is_asleep s (traces s)) n t k e) refl refl
 
   module _ (shape : Shape) (homes : Homes) (core : Holds (core_of shape words homes traces)) where
-    pub own_state_exclusives : (n x : ℕ) → current_task s (traces s) ≡ Some n
-        → ExclusivesHold (put_at words n STATE x) wait (put traces s (StoredOwn n (record { 0 = x }) ∷ traces s))
-    own_state_exclusives n x current =
-        exclusives_state n x (StoredOwn n (record { 0 = x }))
+    pub set_state_exclusives : (n x : ℕ) → current_task s (traces s) ≡ Some n
+        → ExclusivesHold (put_at words n STATE x) wait (put traces s (StateSet n (record { 0 = x }) ∷ traces s))
+    set_state_exclusives n x current =
+        exclusives_state n x (StateSet n (record { 0 = x }))
         (λ t k e. less_row (is_sleep (record { 0 = x })) (is_asleep s (traces s)) n t k e) refl refl
         (λ k sleeps e. no_row (is_sleep (record { 0 = x })) (is_asleep s (traces s)) n k sleeps (sym (own k) ∙ e))
       where
         here : words n CPU ≡ s
         here = core.busy.runner.current_here s n current
 
-        own : (k : ℕ) → is_asleep (words n CPU) (put traces s (StoredOwn n (record { 0 = x }) ∷ traces s) (words n CPU)) n k
-            ≡ is_asleep s (StoredOwn n (record { 0 = x }) ∷ traces s) n k
-        own k = ap (λ (j : ℕ). is_asleep j (put traces s (StoredOwn n (record { 0 = x }) ∷ traces s) j) n k) here
-            ∙ ap (λ (f : ℕ → ℕ → Bool). f n k) (fold_here (is_asleep s) traces s (StoredOwn n (record { 0 = x })) s refl)
+        own : (k : ℕ) → is_asleep (words n CPU) (put traces s (StateSet n (record { 0 = x }) ∷ traces s) (words n CPU)) n k
+            ≡ is_asleep s (StateSet n (record { 0 = x }) ∷ traces s) n k
+        own k = ap (λ (j : ℕ). is_asleep j (put traces s (StateSet n (record { 0 = x }) ∷ traces s) j) n k) here
+            ∙ ap (λ (f : ℕ → ℕ → Bool). f n k) (fold_here (is_asleep s) traces s (StateSet n (record { 0 = x })) s refl)
 
     -- a task that a seat places doesn't sleep
     placed_awake : (n : ℕ) → IsPlaceable (core_of shape words homes traces) s n → is_sleep (record { 0 = words n STATE }) ≡ true → ⊥

@@ -5,7 +5,7 @@ use Rattle.std.proofs.lemmas.Bool.{cases_lt}
 use Rattle.std.proofs.lemmas.List.{length-replicate}
 use Rattle.core_data.specs.Found.{no_reads}
 use Rattle.core_data.specs.Opening.{IsStart, first_task, first_cpu, first_cond, first_seat, no_tasks}
-use Rattle.core_data.specs.Table.{Table, table_of, column, unserved, mark_of, done_of, refs_of, current_of, task_out_of, queue_out_of, list_out_of, works_out_of, wait_out_of, body_out_of, to_clear_of, seen_of, level_known_of, matched_of, unstored_of, saw_off_of, claimed_of, clear_of, stored_of, rest_state_of, rest_off_of, rest_idle_of, slept_of, requeued_of, idle_of, added_of, dropped_of, passed_of, own_stored_of, slept_in_of, owes_of, retaken_of, test_of, asleep_of, reads_of, hand_of, actives_of, counts_of, lowered_of, given_up_of, due_of, ticket_of, zeroed_of, joined_of, refs_zero_of, completing_of, posted_of, works_hand_of, phases_of, unmarked_of, alive_of, turns_of, served_of, journal_of}
+use Rattle.core_data.specs.Columns.{Columns, columns_of, column, unserved, mark_of, done_of, refs_of, current_task_of, task_held_of, queue_held_of, list_held_of, works_held_of, wait_held_of, body_held_of, task_to_clear_of, seen_state_of, level_known_of, has_matched_of, is_unstored_of, saw_off_of, is_claimed_of, saw_clear_of, has_stored_of, saw_rest_of, saw_rest_off_of, saw_rest_idle_of, has_slept_of, is_requeued_of, saw_idle_of, has_added_of, has_dropped_of, has_passed_of, has_own_stored_of, has_slept_in_of, owes_walk_of, has_retaken_of, tested_of, is_asleep_of, last_reads_of, hand_of, actives_of, counts_of, lowered_of, given_up_of, due_of, ticket_of, zeroed_of, joined_of, refs_zero_of, completing_of, posted_of, works_hand_of, phases_of, unmarked_of, alive_of, turns_of, served_of, journal_of}
 use Rattle.core_data.specs.declared.words.CondWords.{CondWords}
 use Rattle.core_data.specs.declared.words.CpuWords.{CpuWords}
 use Rattle.core_data.specs.declared.words.TaskWords.{TaskWords}
@@ -32,10 +32,10 @@ column_is g f d n x k a b = elim (cases_lt k n) [
   | inr h ↦ ap g (le-ltb k n h) ∙ b ∙ column_past f d n x k h
 ]
 
-abbrev opening : Shape → CpuMask → Table
-opening shape mask = table_of shape (replicate shape.tasks (first_task mask)) (replicate shape.cpus first_cpu) (replicate shape.conds first_cond) (replicate (shape.cpus + shape.agents) first_seat)
+abbrev opening : Shape → CpuMask → Columns
+opening shape mask = columns_of shape (replicate shape.tasks (first_task mask)) (replicate shape.cpus first_cpu) (replicate shape.conds first_cond) (replicate (shape.cpus + shape.agents) first_seat)
 
-abbrev first_core : Shape → CpuMask → Table
+abbrev first_core : Shape → CpuMask → Columns
 first_core shape mask = core_of shape (first_words shape) (first_homes shape mask) (λ s. [])
 
 words_are : (shape : Shape) (mask : CpuMask) (n : ℕ) → word_row (first_core shape mask) n ≡ word_row (opening shape mask) n
@@ -77,38 +77,38 @@ words_are shape mask n = λ i. record {
 
 seats_are : (shape : Shape) (mask : CpuMask) (s : ℕ) → seat_row (first_core shape mask) s ≡ seat_row (opening shape mask) s
 seats_are shape mask s = λ i. record {
-  current = column_is (λ b. None) current_of None (shape.cpus + shape.agents) first_seat s refl refl i;
-  task_out = column_is (λ b. λ t. None) task_out_of (λ t. None) (shape.cpus + shape.agents) first_seat s refl refl i;
-  queue_out = column_is (λ b. λ c. None) queue_out_of (λ c. None) (shape.cpus + shape.agents) first_seat s refl refl i;
-  list_out = column_is (λ b. λ c. None) list_out_of (λ c. None) (shape.cpus + shape.agents) first_seat s refl refl i;
-  works_out = column_is (λ b. λ c. None) works_out_of (λ c. None) (shape.cpus + shape.agents) first_seat s refl refl i;
-  wait_out = column_is (λ b. λ k. None) wait_out_of (λ k. None) (shape.cpus + shape.agents) first_seat s refl refl i;
-  body_out = column_is (λ b. None) body_out_of None (shape.cpus + shape.agents) first_seat s refl refl i;
-  to_clear = column_is (λ b. None) to_clear_of None (shape.cpus + shape.agents) first_seat s refl refl i;
-  seen = column_is (λ b. None) seen_of None (shape.cpus + shape.agents) first_seat s refl refl i;
+  current_task = column_is (λ b. None) current_task_of None (shape.cpus + shape.agents) first_seat s refl refl i;
+  task_held = column_is (λ b. λ t. None) task_held_of (λ t. None) (shape.cpus + shape.agents) first_seat s refl refl i;
+  queue_held = column_is (λ b. λ c. None) queue_held_of (λ c. None) (shape.cpus + shape.agents) first_seat s refl refl i;
+  list_held = column_is (λ b. λ c. None) list_held_of (λ c. None) (shape.cpus + shape.agents) first_seat s refl refl i;
+  works_held = column_is (λ b. λ c. None) works_held_of (λ c. None) (shape.cpus + shape.agents) first_seat s refl refl i;
+  wait_held = column_is (λ b. λ k. None) wait_held_of (λ k. None) (shape.cpus + shape.agents) first_seat s refl refl i;
+  body_held = column_is (λ b. None) body_held_of None (shape.cpus + shape.agents) first_seat s refl refl i;
+  task_to_clear = column_is (λ b. None) task_to_clear_of None (shape.cpus + shape.agents) first_seat s refl refl i;
+  seen_state = column_is (λ b. None) seen_state_of None (shape.cpus + shape.agents) first_seat s refl refl i;
   level_known = column_is (λ b. None) level_known_of None (shape.cpus + shape.agents) first_seat s refl refl i;
-  matched = column_is (λ b. λ t. false) matched_of (λ t. false) (shape.cpus + shape.agents) first_seat s refl refl i;
-  unstored = column_is (λ b. λ t. false) unstored_of (λ t. false) (shape.cpus + shape.agents) first_seat s refl refl i;
+  has_matched = column_is (λ b. λ t. false) has_matched_of (λ t. false) (shape.cpus + shape.agents) first_seat s refl refl i;
+  is_unstored = column_is (λ b. λ t. false) is_unstored_of (λ t. false) (shape.cpus + shape.agents) first_seat s refl refl i;
   saw_off = column_is (λ b. λ t. false) saw_off_of (λ t. false) (shape.cpus + shape.agents) first_seat s refl refl i;
-  claimed = column_is (λ b. λ t. false) claimed_of (λ t. false) (shape.cpus + shape.agents) first_seat s refl refl i;
-  clear = column_is (λ b. λ t. false) clear_of (λ t. false) (shape.cpus + shape.agents) first_seat s refl refl i;
-  stored = column_is (λ b. λ t. false) stored_of (λ t. false) (shape.cpus + shape.agents) first_seat s refl refl i;
-  rest_state = column_is (λ b. λ t. false) rest_state_of (λ t. false) (shape.cpus + shape.agents) first_seat s refl refl i;
-  rest_off = column_is (λ b. λ t. false) rest_off_of (λ t. false) (shape.cpus + shape.agents) first_seat s refl refl i;
-  rest_idle = column_is (λ b. λ t. false) rest_idle_of (λ t. false) (shape.cpus + shape.agents) first_seat s refl refl i;
-  slept = column_is (λ b. λ t. false) slept_of (λ t. false) (shape.cpus + shape.agents) first_seat s refl refl i;
-  requeued = column_is (λ b. λ t. false) requeued_of (λ t. false) (shape.cpus + shape.agents) first_seat s refl refl i;
-  idle = column_is (λ b. λ c t. false) idle_of (λ c t. false) (shape.cpus + shape.agents) first_seat s refl refl i;
-  added = column_is (λ b. λ c t. false) added_of (λ c t. false) (shape.cpus + shape.agents) first_seat s refl refl i;
-  dropped = column_is (λ b. λ c t. false) dropped_of (λ c t. false) (shape.cpus + shape.agents) first_seat s refl refl i;
-  passed = column_is (λ b. λ c t. false) passed_of (λ c t. false) (shape.cpus + shape.agents) first_seat s refl refl i;
-  own_stored = column_is (λ b. λ c t. false) own_stored_of (λ c t. false) (shape.cpus + shape.agents) first_seat s refl refl i;
-  slept_in = column_is (λ b. λ c t. false) slept_in_of (λ c t. false) (shape.cpus + shape.agents) first_seat s refl refl i;
-  owes = column_is (λ b. λ k. false) owes_of (λ k. false) (shape.cpus + shape.agents) first_seat s refl refl i;
-  retaken = column_is (λ b. λ k. false) retaken_of (λ k. false) (shape.cpus + shape.agents) first_seat s refl refl i;
-  test = column_is (λ b. λ t k. None) test_of (λ t k. None) (shape.cpus + shape.agents) first_seat s refl refl i;
-  asleep = column_is (λ b. λ t k. false) asleep_of (λ t k. false) (shape.cpus + shape.agents) first_seat s refl refl i;
-  reads = column_is (λ b. λ t. no_reads t) reads_of (λ t. no_reads t) (shape.cpus + shape.agents) first_seat s refl refl i;
+  is_claimed = column_is (λ b. λ t. false) is_claimed_of (λ t. false) (shape.cpus + shape.agents) first_seat s refl refl i;
+  saw_clear = column_is (λ b. λ t. false) saw_clear_of (λ t. false) (shape.cpus + shape.agents) first_seat s refl refl i;
+  has_stored = column_is (λ b. λ t. false) has_stored_of (λ t. false) (shape.cpus + shape.agents) first_seat s refl refl i;
+  saw_rest = column_is (λ b. λ t. false) saw_rest_of (λ t. false) (shape.cpus + shape.agents) first_seat s refl refl i;
+  saw_rest_off = column_is (λ b. λ t. false) saw_rest_off_of (λ t. false) (shape.cpus + shape.agents) first_seat s refl refl i;
+  saw_rest_idle = column_is (λ b. λ t. false) saw_rest_idle_of (λ t. false) (shape.cpus + shape.agents) first_seat s refl refl i;
+  has_slept = column_is (λ b. λ t. false) has_slept_of (λ t. false) (shape.cpus + shape.agents) first_seat s refl refl i;
+  is_requeued = column_is (λ b. λ t. false) is_requeued_of (λ t. false) (shape.cpus + shape.agents) first_seat s refl refl i;
+  saw_idle = column_is (λ b. λ c t. false) saw_idle_of (λ c t. false) (shape.cpus + shape.agents) first_seat s refl refl i;
+  has_added = column_is (λ b. λ c t. false) has_added_of (λ c t. false) (shape.cpus + shape.agents) first_seat s refl refl i;
+  has_dropped = column_is (λ b. λ c t. false) has_dropped_of (λ c t. false) (shape.cpus + shape.agents) first_seat s refl refl i;
+  has_passed = column_is (λ b. λ c t. false) has_passed_of (λ c t. false) (shape.cpus + shape.agents) first_seat s refl refl i;
+  has_own_stored = column_is (λ b. λ c t. false) has_own_stored_of (λ c t. false) (shape.cpus + shape.agents) first_seat s refl refl i;
+  has_slept_in = column_is (λ b. λ c t. false) has_slept_in_of (λ c t. false) (shape.cpus + shape.agents) first_seat s refl refl i;
+  owes_walk = column_is (λ b. λ k. false) owes_walk_of (λ k. false) (shape.cpus + shape.agents) first_seat s refl refl i;
+  has_retaken = column_is (λ b. λ k. false) has_retaken_of (λ k. false) (shape.cpus + shape.agents) first_seat s refl refl i;
+  tested = column_is (λ b. λ t k. None) tested_of (λ t k. None) (shape.cpus + shape.agents) first_seat s refl refl i;
+  is_asleep = column_is (λ b. λ t k. false) is_asleep_of (λ t k. false) (shape.cpus + shape.agents) first_seat s refl refl i;
+  last_reads = column_is (λ b. λ t. no_reads t) last_reads_of (λ t. no_reads t) (shape.cpus + shape.agents) first_seat s refl refl i;
   hand = column_is (λ b. []) hand_of [] (shape.cpus + shape.agents) first_seat s refl refl i;
   actives = column_is (λ b. []) actives_of [] (shape.cpus + shape.agents) first_seat s refl refl i;
   counts = column_is (λ b. []) counts_of [] (shape.cpus + shape.agents) first_seat s refl refl i;

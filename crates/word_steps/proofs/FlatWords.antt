@@ -4,7 +4,7 @@ use Rattle.std.proofs.Math.ListN.{set}
 use Rattle.std.proofs.lemmas.Bool.{cases_eq, cases_lt}
 use Rattle.std.proofs.lemmas.List.{get_or-set_same, get_or-set_other}
 use mathlib.Core.Path.{fun_ext}
-use Rattle.core_data.specs.Table.{put, put_at}
+use Rattle.core_data.specs.Columns.{put, put_at}
 use Rattle.core_stores.proofs.Columns.{put_there, put_other}
 use Rattle.word_steps.specs.Words.{words_of}
 

@@ -3,7 +3,7 @@ use Rattle.std.proofs.Common.{◌≡◌, ◌≢◌, ℕ, eq-eqb, ne_eqb, refl, L
 use Rattle.std.specs.Prelude.{◌==◌, ◌&&◌, Some, None}
 use Rattle.core_data.specs.Noted.{given_asleep}
 use Rattle.core_data.specs.Queue.{Queue}
-use Rattle.core_data.specs.Table.{Table, put, put_at}
+use Rattle.core_data.specs.Columns.{Columns, put, put_at}
 use Rattle.core_data.specs.declared.values.TaskVal.{TaskVal}
 use Rattle.core_data.specs.declared.values.WaitEntry.{WaitEntry}
 use Rattle.core_data.specs.declared.values.WorkItem.{WorkItem}
@@ -21,7 +21,7 @@ use Rattle.word_steps.specs.Words.{LOCK, QUEUE_LOCK, WORKS_LOCK, WAIT_LOCK}
 use Rattle.word_steps.specs.declared.val.Val.TheVariants as val
 
 module _ (shape : Shape) (words : ℕ → ℕ → ℕ) (homes : Homes) (traces : ℕ → List Rec) (s : ℕ) where
-  abbrev now : Table
+  abbrev now : Columns
   now = core_of shape words homes traces
 
   pub give_task_shown : (t : ℕ) (taken : TaskVal) (given : TaskVal)
@@ -43,11 +43,11 @@ module _ (shape : Shape) (words : ℕ → ℕ → ℕ) (homes : Homes) (traces :
       others : (j : ℕ) → j ≢ s → known shape j (traces j) ≡ seat_row (give_task now s t given) j
       others j ne = rw (ne_eqb j s ne)
 
-  abbrev give_queue_core : (c : ℕ) (taken : Queue) (given : Queue) → Table
+  abbrev give_queue_core : (c : ℕ) (taken : Queue) (given : Queue) → Columns
   give_queue_core c taken given = unseen_by (s == c) (give_up_by (gives_up s c given) (record now {
     queue_lock = put now.queue_lock c None;
     queue = put now.queue c (Some given);
-    queue_out = put_at now.queue_out s c None;
+    queue_held = put_at now.queue_held s c None;
   }) s) s
 
   pub give_queue_shown : (c : ℕ) (taken : Queue) (given : Queue)
@@ -58,9 +58,9 @@ module _ (shape : Shape) (words : ℕ → ℕ → ℕ) (homes : Homes) (traces :
       here elsewhere mine others ∙ sym (unseen_flat (give_up_if (gives_up s c given) (record now {
         queue_lock = put now.queue_lock c None;
         queue = put now.queue c (Some given);
-        queue_out = put_at now.queue_out s c None;
-      }) s) s c ∙ ap (λ (z : Table). unseen_by (s == c) z s) (give_up_flat (gives_up s c given)
-      (record now { queue_lock = put now.queue_lock c None; queue = put now.queue c (Some given); queue_out = put_at now.queue_out s c None }) s))
+        queue_held = put_at now.queue_held s c None;
+      }) s) s c ∙ ap (λ (z : Columns). unseen_by (s == c) z s) (give_up_flat (gives_up s c given)
+      (record now { queue_lock = put now.queue_lock c None; queue = put now.queue c (Some given); queue_held = put_at now.queue_held s c None }) s))
     where
       here : word_row (core_of shape (put_at words c QUEUE_LOCK 0) (record homes { queue = put homes.queue c (Some given) }) traces) c ≡ word_row (give_queue_core c taken given) c
       here = rw (eq-eqb c c refl)
@@ -94,13 +94,13 @@ module _ (shape : Shape) (words : ℕ → ℕ → ℕ) (homes : Homes) (traces :
       others : (j : ℕ) → j ≢ s → known shape j (traces j) ≡ seat_row (give_works now s c given) j
       others j ne = rw (ne_eqb j s ne)
 
-  abbrev give_wait_core : (k : ℕ) (taken : List WaitEntry) (given : List WaitEntry) → Table
-  give_wait_core k taken given = walked_by (now.owes s k && (now.retaken s k && is_walk (now.passed s k) taken))
+  abbrev give_wait_core : (k : ℕ) (taken : List WaitEntry) (given : List WaitEntry) → Columns
+  give_wait_core k taken given = walked_by (now.owes_walk s k && (now.has_retaken s k && is_walk (now.has_passed s k) taken))
       (record now {
         wait_lock = put now.wait_lock k None;
         wait = put now.wait k (Some given);
-        wait_out = put_at now.wait_out s k None;
-        asleep = put now.asleep s (given_asleep k taken given (sleeper_of (now.current s) (now.slept_in s k) given) (now.asleep s));
+        wait_held = put_at now.wait_held s k None;
+        is_asleep = put now.is_asleep s (given_asleep k taken given (sleeper_of (now.current_task s) (now.has_slept_in s k) given) (now.is_asleep s));
       }) s k
 
   pub give_wait_shown : (k : ℕ) (taken : List WaitEntry) (given : List WaitEntry) → wait_held (traces s) k ≡ Some taken
@@ -108,12 +108,12 @@ module _ (shape : Shape) (words : ℕ → ℕ → ℕ) (homes : Homes) (traces :
       ≡ give_wait (core_of shape words homes traces) s k given
   give_wait_shown k taken given out =
       shown_at shape (put_at words k WAIT_LOCK 0) (record homes { wait = put homes.wait k (Some given) }) traces s (Gave k (val.Wait taken) (val.Wait given)) (give_wait_core k taken given) k here
-      elsewhere mine others ∙ sym (ap (give_by now s k given) out ∙ walked_flat (now.owes s k && (now.retaken s k && is_walk (now.passed s k) taken))
+      elsewhere mine others ∙ sym (ap (give_by now s k given) out ∙ walked_flat (now.owes_walk s k && (now.has_retaken s k && is_walk (now.has_passed s k) taken))
       (record now {
         wait_lock = put now.wait_lock k None;
         wait = put now.wait k (Some given);
-        wait_out = put_at now.wait_out s k None;
-        asleep = put now.asleep s (given_asleep k taken given (sleeper_of (now.current s) (now.slept_in s k) given) (now.asleep s));
+        wait_held = put_at now.wait_held s k None;
+        is_asleep = put now.is_asleep s (given_asleep k taken given (sleeper_of (now.current_task s) (now.has_slept_in s k) given) (now.is_asleep s));
       }) s k)
     where
       here : word_row (core_of shape (put_at words k WAIT_LOCK 0) (record homes { wait = put homes.wait k (Some given) }) traces) k ≡ word_row (give_wait_core k taken given) k

@@ -4,7 +4,7 @@ use Rattle.std.specs.Prelude.{◌/◌, ◌%◌, ◌==◌, ◌&&◌, Bool, Option
 use mathlib.Core.Bool.{not}
 use Rattle.core_data.specs.declared.act.Act.TheVariants.{Matched, SawRest, Passed, SawOff, SawClear}
 use Rattle.handoff_data.specs.declared.entry.Entry.TheVariants as entry
-use Rattle.core_data.specs.Table.{Table, put_at}
+use Rattle.core_data.specs.Columns.{Columns, put_at}
 use Rattle.core_kinds.specs.Steps.{is_match, normal}
 use Rattle.core_kinds.specs.Waking.{load_state, load_rq, load_busy, load_cpu, load_count, load_cond, state_read, rq_read, busy_read, seen_if, noted_if, is_matched, is_refused, load_this, is_own_read, is_some_of}
 use Rattle.handoff_data.specs.declared.shape.Shape.{Shape}
@@ -17,7 +17,7 @@ use Rattle.word_steps.specs.Records.{Rec, LoadedState, LoadedRq, LoadedBusy, Loa
 use Rattle.word_steps.specs.Words.{STATE, RQ, BUSY, CPU, COUNT, COND, is_set}
 
 module _ (shape : Shape) (words : ℕ → ℕ → ℕ) (homes : Homes) (traces : ℕ → List Rec) (s : ℕ) where
-  abbrev now : Table
+  abbrev now : Columns
   now = core_of shape words homes traces
 
   pub load_cpu_shown : (t : ℕ)
@@ -44,45 +44,45 @@ module _ (shape : Shape) (words : ℕ → ℕ → ℕ) (homes : Homes) (traces :
       others : (j : ℕ) → j ≢ s → known shape j (traces j) ≡ seat_row (load_count now s t) j
       others j ne = rw (ne_eqb j s ne)
 
-  abbrev load_state_core : (t : ℕ) (mask : Option State) → Table
+  abbrev load_state_core : (t : ℕ) (mask : Option State) → Columns
   load_state_core t mask = logged_by (is_refused (record { 0 = words t STATE }) mask) (passed_by (not (is_match
       (record { 0 = words t STATE }) normal)) (rest_by (not (words t STATE == 0x200)) (matched_by (is_matched
-      (record { 0 = words t STATE }) mask) (seen_by (is_some_of (now.current s) t && is_some (now.queue_out s s)) (record now {
-        reads = put_at now.reads s t (state_read t
-            (record { 0 = words t STATE }) (now.reads s t));
+      (record { 0 = words t STATE }) mask) (seen_by (is_some_of (now.current_task s) t && is_some (now.queue_held s s)) (record now {
+        last_reads = put_at now.last_reads s t (state_read t
+            (record { 0 = words t STATE }) (now.last_reads s t));
       }) s (record { 0 = words t STATE })) s t) s t) s t) s (entry.Refused t (record { 0 = words t STATE }))
 
   pub load_state_shown : (t : ℕ) (mask : Option State) → is_own_read (core_of shape words homes traces) s t
-      ≡ is_some_of ((core_of shape words homes traces).current s) t && is_some ((core_of shape words homes traces).queue_out s s)
+      ≡ is_some_of ((core_of shape words homes traces).current_task s) t && is_some ((core_of shape words homes traces).queue_held s s)
       → core_after shape words homes traces s (LoadedState t mask (record { 0 = words t STATE }))
       ≡ load_state (core_of shape words homes traces) s t mask
   load_state_shown t mask own =
       shown shape words homes traces s (LoadedState t mask (record { 0 = words t STATE })) (load_state_core t mask) (λ n. refl) mine others
-      ∙ sym (ap (λ (own : Bool). load_this now s t mask own (now.reads s t) (record { 0 = words t STATE })) own
+      ∙ sym (ap (λ (own : Bool). load_this now s t mask own (now.last_reads s t) (record { 0 = words t STATE })) own
       ∙ logged_flat (is_refused (record { 0 = words t STATE }) mask) (noted_if (not (is_match
       (record { 0 = words t STATE }) normal)) (noted_if (not (words t STATE == 0x200)) (noted_if (is_matched
-      (record { 0 = words t STATE }) mask) (seen_if (is_some_of (now.current s) t && is_some (now.queue_out s s)) (record now {
-        reads = put_at now.reads s t (state_read t
-            (record { 0 = words t STATE }) (now.reads s t));
+      (record { 0 = words t STATE }) mask) (seen_if (is_some_of (now.current_task s) t && is_some (now.queue_held s s)) (record now {
+        last_reads = put_at now.last_reads s t (state_read t
+            (record { 0 = words t STATE }) (now.last_reads s t));
       }) s (record { 0 = words t STATE })) s (Matched t)) s (SawRest t)) s (Passed t)) s (entry.Refused t (record { 0 = words t STATE }))
-      ∙ ap (λ (z : Table). logged_by (is_refused (record { 0 = words t STATE }) mask) z s (entry.Refused t (record { 0 = words t STATE }))) (passed_flat (not (is_match
+      ∙ ap (λ (z : Columns). logged_by (is_refused (record { 0 = words t STATE }) mask) z s (entry.Refused t (record { 0 = words t STATE }))) (passed_flat (not (is_match
       (record { 0 = words t STATE }) normal)) (noted_if (not (words t STATE == 0x200)) (noted_if (is_matched
-      (record { 0 = words t STATE }) mask) (seen_if (is_some_of (now.current s) t && is_some (now.queue_out s s)) (record now {
-        reads = put_at now.reads s t (state_read t
-            (record { 0 = words t STATE }) (now.reads s t));
+      (record { 0 = words t STATE }) mask) (seen_if (is_some_of (now.current_task s) t && is_some (now.queue_held s s)) (record now {
+        last_reads = put_at now.last_reads s t (state_read t
+            (record { 0 = words t STATE }) (now.last_reads s t));
       }) s (record { 0 = words t STATE })) s (Matched t)) s (SawRest t)) s t
-      ∙ ap (λ (z : Table). passed_by (not (is_match (record { 0 = words t STATE }) normal)) z s t) (rest_flat (not (words t STATE == 0x200)) (noted_if (is_matched
-      (record { 0 = words t STATE }) mask) (seen_if (is_some_of (now.current s) t && is_some (now.queue_out s s)) (record now {
-        reads = put_at now.reads s t (state_read t
-            (record { 0 = words t STATE }) (now.reads s t));
+      ∙ ap (λ (z : Columns). passed_by (not (is_match (record { 0 = words t STATE }) normal)) z s t) (rest_flat (not (words t STATE == 0x200)) (noted_if (is_matched
+      (record { 0 = words t STATE }) mask) (seen_if (is_some_of (now.current_task s) t && is_some (now.queue_held s s)) (record now {
+        last_reads = put_at now.last_reads s t (state_read t
+            (record { 0 = words t STATE }) (now.last_reads s t));
       }) s (record { 0 = words t STATE })) s (Matched t)) s t
-      ∙ ap (λ (z : Table). rest_by (not (words t STATE == 0x200)) z s t) (matched_flat (is_matched
-      (record { 0 = words t STATE }) mask) (seen_if (is_some_of (now.current s) t && is_some (now.queue_out s s)) (record now {
-        reads = put_at now.reads s t (state_read t
-            (record { 0 = words t STATE }) (now.reads s t));
+      ∙ ap (λ (z : Columns). rest_by (not (words t STATE == 0x200)) z s t) (matched_flat (is_matched
+      (record { 0 = words t STATE }) mask) (seen_if (is_some_of (now.current_task s) t && is_some (now.queue_held s s)) (record now {
+        last_reads = put_at now.last_reads s t (state_read t
+            (record { 0 = words t STATE }) (now.last_reads s t));
       }) s (record { 0 = words t STATE })) s t
-      ∙ ap (λ (z : Table). matched_by (is_matched (record { 0 = words t STATE }) mask) z s t) (seen_flat (is_some_of (now.current s) t && is_some (now.queue_out s s))
-      (record now { reads = put_at now.reads s t (state_read t (record { 0 = words t STATE }) (now.reads s t)) }) s (record { 0 = words t STATE }))))))
+      ∙ ap (λ (z : Columns). matched_by (is_matched (record { 0 = words t STATE }) mask) z s t) (seen_flat (is_some_of (now.current_task s) t && is_some (now.queue_held s s))
+      (record now { last_reads = put_at now.last_reads s t (state_read t (record { 0 = words t STATE }) (now.last_reads s t)) }) s (record { 0 = words t STATE }))))))
     where
       mine : known shape s (LoadedState t mask (record { 0 = words t STATE }) ∷ traces s) ≡ seat_row (load_state_core t mask) s
       mine = rw (eq-eqb s s refl)
@@ -90,19 +90,19 @@ module _ (shape : Shape) (words : ℕ → ℕ → ℕ) (homes : Homes) (traces :
       others : (j : ℕ) → j ≢ s → known shape j (traces j) ≡ seat_row (load_state_core t mask) j
       others j ne = rw (ne_eqb j s ne)
 
-  abbrev load_rq_core : (t : ℕ) → Table
-  load_rq_core t = rest_off_by ((words t RQ % 4 == 0) && now.rest_state s t) (off_by ((words t RQ % 4 == 0) && now.unstored s t)
-      (record now { reads = put_at now.reads s t (rq_read t (words t RQ % 4) (words t RQ / 4) (now.reads s t)) }) s t) s t
+  abbrev load_rq_core : (t : ℕ) → Columns
+  load_rq_core t = rest_off_by ((words t RQ % 4 == 0) && now.saw_rest s t) (off_by ((words t RQ % 4 == 0) && now.is_unstored s t)
+      (record now { last_reads = put_at now.last_reads s t (rq_read t (words t RQ % 4) (words t RQ / 4) (now.last_reads s t)) }) s t) s t
 
   pub load_rq_shown : (t : ℕ)
       → core_after shape words homes traces s (LoadedRq t (words t RQ % 4) (words t RQ / 4))
       ≡ load_rq (core_of shape words homes traces) s t
   load_rq_shown t =
       shown shape words homes traces s (LoadedRq t (words t RQ % 4) (words t RQ / 4)) (load_rq_core t) (λ n. refl) mine others
-      ∙ sym (rest_off_flat ((words t RQ % 4 == 0) && now.rest_state s t) (noted_if ((words t RQ % 4 == 0) && now.unstored s t)
-      (record now { reads = put_at now.reads s t (rq_read t (words t RQ % 4) (words t RQ / 4) (now.reads s t)) }) s (SawOff t)) s t
-      ∙ ap (λ (z : Table). rest_off_by ((words t RQ % 4 == 0) && now.rest_state s t) z s t) (off_flat ((words t RQ % 4 == 0) && now.unstored s t)
-      (record now { reads = put_at now.reads s t (rq_read t (words t RQ % 4) (words t RQ / 4) (now.reads s t)) }) s t))
+      ∙ sym (rest_off_flat ((words t RQ % 4 == 0) && now.saw_rest s t) (noted_if ((words t RQ % 4 == 0) && now.is_unstored s t)
+      (record now { last_reads = put_at now.last_reads s t (rq_read t (words t RQ % 4) (words t RQ / 4) (now.last_reads s t)) }) s (SawOff t)) s t
+      ∙ ap (λ (z : Columns). rest_off_by ((words t RQ % 4 == 0) && now.saw_rest s t) z s t) (off_flat ((words t RQ % 4 == 0) && now.is_unstored s t)
+      (record now { last_reads = put_at now.last_reads s t (rq_read t (words t RQ % 4) (words t RQ / 4) (now.last_reads s t)) }) s t))
     where
       mine : known shape s (LoadedRq t (words t RQ % 4) (words t RQ / 4) ∷ traces s) ≡ seat_row (load_rq_core t) s
       mine = rw (eq-eqb s s refl)
@@ -110,19 +110,19 @@ module _ (shape : Shape) (words : ℕ → ℕ → ℕ) (homes : Homes) (traces :
       others : (j : ℕ) → j ≢ s → known shape j (traces j) ≡ seat_row (load_rq_core t) j
       others j ne = rw (ne_eqb j s ne)
 
-  abbrev load_busy_core : (t : ℕ) → Table
-  load_busy_core t = rest_idle_by (not (is_set (words t BUSY)) && now.rest_off s t) (clear_by (not (is_set (words t BUSY)))
-      (record now { reads = put_at now.reads s t (busy_read t (is_set (words t BUSY)) (now.reads s t)) }) s t) s t
+  abbrev load_busy_core : (t : ℕ) → Columns
+  load_busy_core t = rest_idle_by (not (is_set (words t BUSY)) && now.saw_rest_off s t) (clear_by (not (is_set (words t BUSY)))
+      (record now { last_reads = put_at now.last_reads s t (busy_read t (is_set (words t BUSY)) (now.last_reads s t)) }) s t) s t
 
   pub load_busy_shown : (t : ℕ)
       → core_after shape words homes traces s (LoadedBusy t (is_set (words t BUSY)) (words t BUSY / 2))
       ≡ load_busy (core_of shape words homes traces) s t
   load_busy_shown t =
       shown shape words homes traces s (LoadedBusy t (is_set (words t BUSY)) (words t BUSY / 2)) (load_busy_core t) (λ n. refl) mine others
-      ∙ sym (rest_idle_flat (not (is_set (words t BUSY)) && now.rest_off s t) (noted_if (not (is_set (words t BUSY)))
-      (record now { reads = put_at now.reads s t (busy_read t (is_set (words t BUSY)) (now.reads s t)) }) s (SawClear t)) s t
-      ∙ ap (λ (z : Table). rest_idle_by (not (is_set (words t BUSY)) && now.rest_off s t) z s t) (clear_flat (not (is_set (words t BUSY)))
-      (record now { reads = put_at now.reads s t (busy_read t (is_set (words t BUSY)) (now.reads s t)) }) s t))
+      ∙ sym (rest_idle_flat (not (is_set (words t BUSY)) && now.saw_rest_off s t) (noted_if (not (is_set (words t BUSY)))
+      (record now { last_reads = put_at now.last_reads s t (busy_read t (is_set (words t BUSY)) (now.last_reads s t)) }) s (SawClear t)) s t
+      ∙ ap (λ (z : Columns). rest_idle_by (not (is_set (words t BUSY)) && now.saw_rest_off s t) z s t) (clear_flat (not (is_set (words t BUSY)))
+      (record now { last_reads = put_at now.last_reads s t (busy_read t (is_set (words t BUSY)) (now.last_reads s t)) }) s t))
     where
       mine : known shape s (LoadedBusy t (is_set (words t BUSY)) (words t BUSY / 2) ∷ traces s) ≡ seat_row (load_busy_core t) s
       mine = rw (eq-eqb s s refl)
@@ -130,14 +130,14 @@ module _ (shape : Shape) (words : ℕ → ℕ → ℕ) (homes : Homes) (traces :
       others : (j : ℕ) → j ≢ s → known shape j (traces j) ≡ seat_row (load_busy_core t) j
       others j ne = rw (ne_eqb j s ne)
 
-  abbrev load_cond_core : (k : ℕ) → Table
-  load_cond_core k = tested_by (now.current s) now s k
+  abbrev load_cond_core : (k : ℕ) → Columns
+  load_cond_core k = tested_by (now.current_task s) now s k
 
   pub load_cond_shown : (k : ℕ)
       → core_after shape words homes traces s (LoadedCond k (words k COND))
       ≡ load_cond (core_of shape words homes traces) s k
   load_cond_shown k =
-      shown shape words homes traces s (LoadedCond k (words k COND)) (load_cond_core k) (λ n. refl) mine others ∙ sym (test_flat (now.current s) now s k)
+      shown shape words homes traces s (LoadedCond k (words k COND)) (load_cond_core k) (λ n. refl) mine others ∙ sym (test_flat (now.current_task s) now s k)
     where
       mine : known shape s (LoadedCond k (words k COND) ∷ traces s) ≡ seat_row (load_cond_core k) s
       mine = rw (eq-eqb s s refl)

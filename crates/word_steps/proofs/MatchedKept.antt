@@ -2,7 +2,7 @@
 use Rattle.std.proofs.Common.{◌≡◌, ◌≢◌, ℕ, suc, inl, inr, refl, sym, ap, subst, ◌∙◌, List, [], ◌∷◌, arith}
 use Rattle.std.specs.Prelude.{◌+◌, ◌/◌, Bool, true, false, Option, Some}
 use Rattle.std.proofs.lemmas.Bool.{cases_eq}
-use Rattle.core_data.specs.Table.{put, put_at}
+use Rattle.core_data.specs.Columns.{put, put_at}
 use Rattle.core_data.specs.declared.values.TaskVal.{TaskVal}
 use Rattle.core_invariant.specs.Invariant.{Holds}
 use Rattle.core_kinds.specs.Waking.{is_matched}
@@ -11,9 +11,9 @@ use Rattle.handoff_data.specs.declared.shape.Shape.{Shape}
 use Rattle.handoff_data.specs.declared.state.State.{State}
 use Rattle.word_steps.proofs.MovingKept.{one_seat}
 use Rattle.word_steps.proofs.Puts.{word_here, word_apart, word_beside, fold_here, fold_else}
-use Rattle.word_steps.specs.Beside.{MatchedHolds}
+use Rattle.word_steps.specs.TraceFacts.{MatchedHolds}
 use Rattle.word_steps.specs.Decode.{Homes, core_after}
-use Rattle.word_steps.specs.Folds.{is_matched_by, is_unstored, put_if}
+use Rattle.word_steps.specs.Folds.{has_matched, is_unstored, put_if}
 use Rattle.word_steps.specs.Records.{Rec, Took, Gave, LoadedState}
 use Rattle.word_steps.specs.Words.{LOCK, RQ, holder}
 use Rattle.word_steps.specs.declared.val.Val.TheVariants as val
@@ -25,16 +25,16 @@ module _ (words : ℕ → ℕ → ℕ) (traces : ℕ → List Rec) (s : ℕ) (ho
   -- a step by which no number of changes falls, and which gives no other seat a lock
   pub matched_step : (words' : ℕ → ℕ → ℕ) (r : Rec) → ((t : ℕ) → words t RQ / 4 ≢ 0 → words' t RQ / 4 ≢ 0)
       → ((j t : ℕ) → j ≢ s → holder (words' t LOCK) ≡ Some j → holder (words t LOCK) ≡ Some j)
-      → ((t : ℕ) → holder (words' t LOCK) ≡ Some s → is_matched_by (r ∷ traces s) t ≡ true → words' t RQ / 4 ≢ 0)
+      → ((t : ℕ) → holder (words' t LOCK) ≡ Some s → has_matched (r ∷ traces s) t ≡ true → words' t RQ / 4 ≢ 0)
       → MatchedHolds words' (put traces s (r ∷ traces s))
   matched_step words' r grows others mine j t locked m = elim (cases_eq j s) [
-    | inl e ↦ mine t (locked ∙ ap Some e) (ap (λ (f : ℕ → Bool). f t) (sym (fold_here is_matched_by traces s r j e)) ∙ m)
-    | inr ne ↦ grows t (holds j t (others j t ne locked) (ap (λ (f : ℕ → Bool). f t) (sym (fold_else is_matched_by traces s r j ne)) ∙ m))
+    | inl e ↦ mine t (locked ∙ ap Some e) (ap (λ (f : ℕ → Bool). f t) (sym (fold_here has_matched traces s r j e)) ∙ m)
+    | inr ne ↦ grows t (holds j t (others j t ne locked) (ap (λ (f : ℕ → Bool). f t) (sym (fold_else has_matched traces s r j ne)) ∙ m))
   ]
 
   -- one that changes no lock of a task, and by which nothing more matches
   pub matched_beside : (n c x : ℕ) (r : Rec) → LOCK ≢ c → ((t : ℕ) → words t RQ / 4 ≢ 0 → put_at words n c x t RQ / 4 ≢ 0)
-      → is_matched_by (r ∷ traces s) ≡ is_matched_by (traces s) → MatchedHolds (put_at words n c x) (put traces s (r ∷ traces s))
+      → has_matched (r ∷ traces s) ≡ has_matched (traces s) → MatchedHolds (put_at words n c x) (put traces s (r ∷ traces s))
   matched_beside n c x r lock grows same =
       matched_step (put_at words n c x) r grows (λ j t ne locked. ap holder (sym (word_beside words n c x t LOCK lock)) ∙ locked)
       (λ t locked m. grows t (holds s t (ap holder (sym (word_beside words n c x t LOCK lock)) ∙ locked) (ap (λ (f : ℕ → Bool). f t) (sym same) ∙ m)))
@@ -49,7 +49,7 @@ module _ (words : ℕ → ℕ → ℕ) (traces : ℕ → List Rec) (s : ℕ) (ho
     | inr ne ↦ started (ap (λ (z : ℕ). z / 4) (sym (word_apart words n RQ x t RQ ne)) ∙ new)
   ]
 
-  pub matched_still : (r : Rec) → is_matched_by (r ∷ traces s) ≡ is_matched_by (traces s) → MatchedHolds words (put traces s (r ∷ traces s))
+  pub matched_still : (r : Rec) → has_matched (r ∷ traces s) ≡ has_matched (traces s) → MatchedHolds words (put traces s (r ∷ traces s))
   matched_still r same =
       matched_step words r (λ t e. e) (λ j t ne locked. locked) (λ t locked m. holds s t locked (ap (λ (f : ℕ → Bool). f t) (sym same) ∙ m))
 
@@ -62,9 +62,9 @@ module _ (words : ℕ → ℕ → ℕ) (traces : ℕ → List Rec) (s : ℕ) (ho
         | inr apart ↦ ap holder (sym (word_apart words t LOCK (suc s) u LOCK apart)) ∙ locked
       ])
       (λ u locked m. elim (cases_eq u t) [
-        | inl e ↦ absurd (grind (arith, sym (put_there (is_matched_by (traces s)) t false u e) ∙ m))
+        | inl e ↦ absurd (grind (arith, sym (put_there (has_matched (traces s)) t false u e) ∙ m))
         | inr apart ↦ grows u (holds s u (ap holder (sym (word_apart words t LOCK (suc s) u LOCK apart)) ∙ locked)
-            (sym (put_other (is_matched_by (traces s)) t false u apart) ∙ m))
+            (sym (put_other (has_matched (traces s)) t false u apart) ∙ m))
       ])
     where
       grows : (u : ℕ) → words u RQ / 4 ≢ 0 → put_at words t LOCK (suc s) u RQ / 4 ≢ 0
@@ -93,10 +93,10 @@ module _ (words : ℕ → ℕ → ℕ) (traces : ℕ → List Rec) (s : ℕ) (ho
       unstored_now : is_unstored (put traces s (LoadedState t mask state ∷ traces s) s) ≡ put_if (is_matched state mask) t true (is_unstored (traces s))
       unstored_now = fold_here is_unstored traces s (LoadedState t mask state) s refl
 
-      by_match : (b : Bool) → b ≡ is_matched state mask → (u : ℕ) → holder (words u LOCK) ≡ Some s → put_if (is_matched state mask) t true (is_matched_by (traces s)) u ≡ true → words u RQ / 4 ≢ 0
-      by_match false e u locked m = holds s u locked (subst (λ (c : Bool). put_if c t true (is_matched_by (traces s)) u ≡ true) (sym e) m)
+      by_match : (b : Bool) → b ≡ is_matched state mask → (u : ℕ) → holder (words u LOCK) ≡ Some s → put_if (is_matched state mask) t true (has_matched (traces s)) u ≡ true → words u RQ / 4 ≢ 0
+      by_match false e u locked m = holds s u locked (subst (λ (c : Bool). put_if c t true (has_matched (traces s)) u ≡ true) (sym e) m)
       by_match true e u locked m = elim (cases_eq u t) [
         | inl same ↦ after.positions.matched.started s u locked
             (ap (λ (f : ℕ → Bool). f u) (unstored_now ∙ ap (λ (c : Bool). put_if c t true (is_unstored (traces s))) (sym e)) ∙ put_there (is_unstored (traces s)) t true u same)
-        | inr apart ↦ holds s u locked (sym (put_other (is_matched_by (traces s)) t true u apart) ∙ subst (λ (c : Bool). put_if c t true (is_matched_by (traces s)) u ≡ true) (sym e) m)
+        | inr apart ↦ holds s u locked (sym (put_other (has_matched (traces s)) t true u apart) ∙ subst (λ (c : Bool). put_if c t true (has_matched (traces s)) u ≡ true) (sym e) m)
       ]

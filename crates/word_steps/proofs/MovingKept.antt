@@ -2,10 +2,10 @@
 use Rattle.std.proofs.Common.{◌≡◌, ◌≢◌, ℕ, ◌<◌, inl, inr, refl, sym, ap, subst, ◌∙◌, List, ◌∷◌, arith}
 use Rattle.std.specs.Prelude.{◌%◌, ◌^◌, Bool, true, Option, Some}
 use Rattle.std.proofs.lemmas.Bool.{cases_eq}
-use Rattle.core_data.specs.Table.{put, put_at}
+use Rattle.core_data.specs.Columns.{put, put_at}
 use Rattle.core_stores.proofs.Columns.{put_there, put_other}
 use Rattle.word_steps.proofs.Puts.{word_here, word_apart, word_beside}
-use Rattle.word_steps.specs.Beside.{MovingHolds, StatesFit}
+use Rattle.word_steps.specs.TraceFacts.{MovingHolds, StatesFit}
 use Rattle.word_steps.specs.Folds.{moving_after, is_moving}
 use Rattle.word_steps.specs.Records.{Rec}
 use Rattle.word_steps.specs.Words.{LOCK, STATE, RQ, holder}

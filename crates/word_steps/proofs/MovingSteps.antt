@@ -2,7 +2,7 @@
 use Rattle.std.proofs.Common.{◌≡◌, ◌≢◌, ℕ, suc, ◌<◌, inl, inr, refl, sym, ap, ◌∙◌, List, [], ◌∷◌, lt-ltb, le-ltb, lit<, subst, arith}
 use Rattle.std.specs.Prelude.{◌+◌, ◌/◌, ◌%◌, ◌^◌, Bool, true, false, Some, if◌then◌else◌}
 use Rattle.std.proofs.lemmas.Bool.{cases_lt}
-use Rattle.core_data.specs.Table.{put, put_at}
+use Rattle.core_data.specs.Columns.{put, put_at}
 use Rattle.core_data.specs.Queue.{Queue}
 use Rattle.core_data.specs.declared.values.TaskVal.{TaskVal}
 use Rattle.core_invariant.specs.Invariant.{Holds}
@@ -12,7 +12,7 @@ use Rattle.handoff_data.specs.declared.shape.Shape.{Shape}
 use Rattle.word_steps.proofs.Conditions.{task_locked, settled_unclaimed}
 use Rattle.word_steps.proofs.MovingKept.{moving_change, moving_quiet, one_seat}
 use Rattle.word_steps.proofs.Puts.{word_here, word_apart, word_beside}
-use Rattle.word_steps.specs.Beside.{MovingHolds, StatesFit}
+use Rattle.word_steps.specs.TraceFacts.{MovingHolds, StatesFit}
 use Rattle.word_steps.specs.Decode.{Homes, core_of}
 use Rattle.word_steps.specs.Folds.{is_moving, moving_after, task_held, is_claimed}
 use Rattle.word_steps.specs.Opening.{first_words}

@@ -2,18 +2,18 @@
 use Rattle.std.proofs.Common.{◌≡◌, ◌≢◌, ℕ, suc, ◌<◌, inl, inr, refl, sym, ap, subst, ◌∙◌, List, [], ◌∷◌, arith}
 use Rattle.std.specs.Prelude.{◌+◌, ◌/◌, Option, Some, None}
 use Rattle.std.proofs.lemmas.Bool.{cases_eq}
-use Rattle.core_data.specs.Table.{put, put_at}
+use Rattle.core_data.specs.Columns.{put, put_at}
 use Rattle.core_data.specs.Queue.{Queue}
 use Rattle.core_data.specs.declared.values.TaskVal.{TaskVal}
 use Rattle.core_invariant.specs.Invariant.{Holds}
 use Rattle.core_kinds.specs.Running.{MayQueue, MayDequeue, MayMove}
-use Rattle.core_kinds.specs.Waking.{MayRelease, MayStoreCpu}
+use Rattle.core_kinds.specs.Waking.{MayMakeRunnable, MayStoreCpu}
 use Rattle.core_stores.proofs.Columns.{put_there, put_other}
 use Rattle.handoff_data.specs.declared.shape.Shape.{Shape}
 use Rattle.word_steps.proofs.Conditions.{task_locked}
 use Rattle.word_steps.proofs.MovingKept.{one_seat}
 use Rattle.word_steps.proofs.Puts.{word_here, word_apart, word_beside, fold_here, fold_else}
-use Rattle.word_steps.specs.Beside.{NumbersHold}
+use Rattle.word_steps.specs.TraceFacts.{NumbersHold}
 use Rattle.word_steps.specs.Decode.{Homes, core_of}
 use Rattle.word_steps.specs.Folds.{number_after, number_read, task_held}
 use Rattle.word_steps.specs.Records.{Rec, Took, Gave, Queued, Dequeued, Moved, LoadedRq}
@@ -131,11 +131,11 @@ module _ (words : ℕ → ℕ → ℕ) (traces : ℕ → List Rec) (s : ℕ) (ho
         (λ j ne locked e. absurd (ne (one_seat (holder (words t LOCK)) s j may.task_locked (ap holder (sym (word_beside words t RQ x t LOCK (λ q. omega (arith, q)))) ∙ locked))))
 
     -- a new task, under its lock: it may have TASK_RUNNING stored, and a processor
-    pub release_new_may : (t : ℕ) (v : TaskVal) → s < shape.cpus + shape.agents → t < shape.tasks → task_held (traces s) t ≡ Some v
-        → number_read (traces s) t ≡ Some 0 → MayRelease (core_of shape words homes traces) s t
-    release_new_may t v seat task out new =
+    pub make_runnable_new_may : (t : ℕ) (v : TaskVal) → s < shape.cpus + shape.agents → t < shape.tasks → task_held (traces s) t ≡ Some v
+        → number_read (traces s) t ≡ Some 0 → MayMakeRunnable (core_of shape words homes traces) s t
+    make_runnable_new_may t v seat task out new =
         let locked = task_locked shape words homes traces s core seat t v out in
-        record { seat = seat; task = task; processor = core.shapes.cpu t task; release = inl (locked, holds s t locked new) }
+        record { seat = seat; task = task; processor = core.shapes.cpu t task; ready = inl (locked, holds s t locked new) }
 
     pub store_cpu_new_may : (t c : ℕ) (v : TaskVal) → s < shape.cpus + shape.agents → t < shape.tasks → c < shape.cpus → task_held (traces s) t ≡ Some v
         → number_read (traces s) t ≡ Some 0 → MayStoreCpu (core_of shape words homes traces) s t c

@@ -4,7 +4,7 @@ use Rattle.std.proofs.Math.Bool.{and-false}
 use Rattle.std.proofs.lemmas.Bool.{cases_eq}
 use Rattle.std.proofs.lemmas.Bool.Decides.{nat_tests}
 use Rattle.std.specs.Prelude.{◌<◌, ◌&&◌, nat_lt, Bool, Option, Some, None, IsSome, is_some}
-use Rattle.core_data.specs.Table.{Table}
+use Rattle.core_data.specs.Columns.{Columns}
 use Rattle.core_invariant.specs.Invariant.{Holds}
 use Rattle.core_kinds.specs.Waking.{is_own_read, is_some_of}
 
@@ -20,7 +20,7 @@ by_current : (current lock : Option ℕ) (out : Bool) (s t cpus : ℕ) → ((u :
 by_current None lock out s t cpus near same = and-false (nat_lt s cpus)
 by_current (Some u) lock out s t cpus near same = rw (lt-ltb s cpus (near u refl), same)
 
-pub own_read : (core : Table) (s t : ℕ) → Holds core → is_own_read core s t ≡ (is_some_of (core.current s) t && is_some (core.queue_out s s))
+pub own_read : (core : Columns) (s t : ℕ) → Holds core → is_own_read core s t ≡ (is_some_of (core.current_task s) t && is_some (core.queue_held s s))
 own_read core s t holds =
-    by_current (core.current s) (core.queue_lock s) (is_some (core.queue_out s s)) s t core.cpus (holds.shapes.current_seat s)
-    (named (core.queue_lock s) (core.queue_out s s) s (holds.locks.queues.held_out s s) (holds.locks.queues.out_held s s))
+    by_current (core.current_task s) (core.queue_lock s) (is_some (core.queue_held s s)) s t core.cpus (holds.shapes.current_seat s)
+    (named (core.queue_lock s) (core.queue_held s s) s (holds.locks.queues.held_out s s) (holds.locks.queues.out_held s s))

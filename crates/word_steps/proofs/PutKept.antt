@@ -4,15 +4,15 @@ use Rattle.std.proofs.Common.{◌≡◌, ◌≢◌, ℕ, suc, inl, inr, refl, sy
 use Rattle.std.specs.Prelude.{◌%◌, Bool, true, false, Some, ◌+◌, ◌<◌, ◌⊎◌}
 use Rattle.std.proofs.lemmas.Bool.{cases_eq}
 use Rattle.std.proofs.lemmas.Bool.Decides.{nat_tests}
-use Rattle.core_data.specs.Table.{put, put_at}
+use Rattle.core_data.specs.Columns.{put, put_at}
 use Rattle.core_data.specs.Queue.{Queue}
 use Rattle.core_invariant.specs.Invariant.{Holds}
 use Rattle.core_kinds.specs.Running.{MayQueue, MayDequeue, MayMove}
-use Rattle.core_kinds.specs.Waking.{MayStoreCpu, MayRelease}
+use Rattle.core_kinds.specs.Waking.{MayStoreCpu, MayMakeRunnable}
 use Rattle.handoff_data.specs.declared.shape.Shape.{Shape}
 use Rattle.word_steps.proofs.MovingKept.{one_seat}
 use Rattle.word_steps.proofs.Puts.{word_here, word_apart, word_beside, fold_here, fold_else}
-use Rattle.word_steps.specs.Beside.{PutHolds}
+use Rattle.word_steps.specs.TraceFacts.{PutHolds}
 use Rattle.word_steps.specs.Decode.{Homes, core_of}
 use Rattle.word_steps.specs.Folds.{has_put, put_column, put_row, queue_held, has_added, current_task}
 use Rattle.word_steps.specs.Records.{Rec, Took, Gave, Queued, Dequeued, Moved, StoredCpu}
@@ -164,16 +164,16 @@ module _ (words : ℕ → ℕ → ℕ) (traces : ℕ → List Rec) (s : ℕ) (ho
 
 -- TASK_RUNNING of a task that the seat has put on a queue, under the queue's lock, where it isn't its current task
 module _ (shape : Shape) (words : ℕ → ℕ → ℕ) (homes : Homes) (traces : ℕ → List Rec) (s : ℕ) (core : Holds (core_of shape words homes traces)) (holds : PutHolds words traces) where
-  pub release_put_may : (c t : ℕ) (q : Queue) → s < shape.cpus + shape.agents → t < shape.tasks → queue_held (traces s) c ≡ Some q → has_put (traces s) c t ≡ true
-      → has_added (traces s) c t ≡ true → current_task s (traces s) ≢ Some t → MayRelease (core_of shape words homes traces) s t
-  release_put_may c t q seat task queue was added other =
+  pub make_runnable_put_may : (c t : ℕ) (q : Queue) → s < shape.cpus + shape.agents → t < shape.tasks → queue_held (traces s) c ≡ Some q → has_put (traces s) c t ≡ true
+      → has_added (traces s) c t ≡ true → current_task s (traces s) ≢ Some t → MayMakeRunnable (core_of shape words homes traces) s t
+  make_runnable_put_may c t q seat task queue was added other =
       let held = queue_locked shape words homes traces s core seat c q queue in
       let at = holds s c t held was in
       record {
         seat = seat;
         task = task;
         processor = core.shapes.cpu t task;
-        release = inr (inr (
+        ready = inr (inr (
           subst (λ (k : ℕ). holder (words k QUEUE_LOCK) ≡ Some s) (sym at.1) held,
           subst (λ (k : ℕ). has_added (traces s) k t ≡ true) (sym at.1) added,
           at.0,

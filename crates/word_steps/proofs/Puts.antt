@@ -1,7 +1,7 @@
 -- A word that is put, and the others; a trace with one step more, and the others.
 use Rattle.std.proofs.Common.{◌≡◌, ◌≢◌, ℕ, inl, inr, refl, sym, ap, ◌∙◌, List, ◌∷◌}
 use Rattle.std.proofs.lemmas.Bool.{cases_eq}
-use Rattle.core_data.specs.Table.{put, put_at}
+use Rattle.core_data.specs.Columns.{put, put_at}
 use Rattle.core_stores.proofs.Columns.{put_there, put_other, put_self}
 use Rattle.word_steps.specs.Records.{Rec}
 

@@ -3,19 +3,19 @@ use Rattle.std.proofs.Common.{◌≡◌, ◌≢◌, ℕ, suc, ◌<◌, inl, inr,
 use Rattle.std.specs.Prelude.{◌+◌, ◌%◌, ◌==◌, Bool, true, false, Some}
 use Rattle.std.proofs.lemmas.Bool.{cases_eq, cases_Bool}
 use Rattle.std.proofs.lemmas.Bool.Decides.{nat_tests}
-use Rattle.core_data.specs.Table.{put, put_at}
+use Rattle.core_data.specs.Columns.{put, put_at}
 use Rattle.core_data.specs.Queue.{Queue}
 use Rattle.core_data.specs.declared.values.TaskVal.{TaskVal}
 use Rattle.core_invariant.specs.Invariant.{Holds}
 use Rattle.core_kinds.specs.Running.{MayDequeue, MayMove}
-use Rattle.core_kinds.specs.Waking.{MayRelease, MayStoreCpu}
+use Rattle.core_kinds.specs.Waking.{MayMakeRunnable, MayStoreCpu}
 use Rattle.handoff_data.specs.declared.shape.Shape.{Shape}
 use Rattle.word_steps.proofs.Conditions.{task_locked, queue_locked}
 use Rattle.word_steps.proofs.MovingKept.{one_seat}
 use Rattle.word_steps.proofs.Puts.{word_here, word_apart, word_beside, fold_here, fold_else}
-use Rattle.word_steps.specs.Beside.{QueuedHolds, IsUnder}
+use Rattle.word_steps.specs.TraceFacts.{QueuedHolds, IsUnder}
 use Rattle.word_steps.specs.Decode.{Homes, core_of}
-use Rattle.word_steps.specs.Folds.{saw_queued, put_column, put_column_if, put_row, task_held, queue_held, is_matched_by, current_task}
+use Rattle.word_steps.specs.Folds.{saw_queued, put_column, put_column_if, put_row, task_held, queue_held, has_matched, current_task}
 use Rattle.word_steps.specs.Records.{Rec, Took, Gave, LoadedRq, Queued, Dequeued, Moved, StoredCpu}
 use Rattle.word_steps.specs.Words.{LOCK, QUEUE_LOCK, RQ, CPU, holder}
 use Rattle.word_steps.specs.declared.val.Val.TheVariants as val
@@ -229,15 +229,15 @@ module _ (words : ℕ → ℕ → ℕ) (traces : ℕ → List Rec) (s : ℕ) (ho
         }
 
     -- TASK_RUNNING of a queued task that matched, under its lock and its queue's
-    pub release_queued_may : (c t : ℕ) (v : TaskVal) (q : Queue) (core : Holds (core_of shape words homes traces)) (seat : s < shape.cpus + shape.agents) → t < shape.tasks
-        → task_held (traces s) t ≡ Some v → queue_held (traces s) c ≡ Some q → words t CPU ≡ c → is_matched_by (traces s) t ≡ true → saw_queued (traces s) c t ≡ true
-        → current_task s (traces s) ≢ Some t → MayRelease (core_of shape words homes traces) s t
-    release_queued_may c t v q core seat task out queue here matched saw other =
+    pub make_runnable_queued_may : (c t : ℕ) (v : TaskVal) (q : Queue) (core : Holds (core_of shape words homes traces)) (seat : s < shape.cpus + shape.agents) → t < shape.tasks
+        → task_held (traces s) t ≡ Some v → queue_held (traces s) c ≡ Some q → words t CPU ≡ c → has_matched (traces s) t ≡ true → saw_queued (traces s) c t ≡ true
+        → current_task s (traces s) ≢ Some t → MayMakeRunnable (core_of shape words homes traces) s t
+    make_runnable_queued_may c t v q core seat task out queue here matched saw other =
         let locked = task_locked shape words homes traces s core seat t v out in
         let held = queue_locked shape words homes traces s core seat c q queue in
         record {
           seat = seat;
           task = task;
           processor = core.shapes.cpu t task;
-          release = inr (inl (locked, matched, holds s c t (record { task = locked; queue = held; here = here }) saw, subst (λ (k : ℕ). holder (words k QUEUE_LOCK) ≡ Some s) (sym here) held, other));
+          ready = inr (inl (locked, matched, holds s c t (record { task = locked; queue = held; here = here }) saw, subst (λ (k : ℕ). holder (words k QUEUE_LOCK) ≡ Some s) (sym here) held, other));
         }

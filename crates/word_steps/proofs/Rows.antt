@@ -5,7 +5,7 @@ use Rattle.handoff_data.specs.declared.entry.Entry.{Entry}
 use Rattle.handoff_data.specs.declared.shape.Shape.{Shape}
 use Rattle.handoff_data.specs.declared.state.State.{State}
 use Rattle.core_data.specs.Queue.{Queue}
-use Rattle.core_data.specs.Table.{Table}
+use Rattle.core_data.specs.Columns.{Columns}
 use Rattle.core_data.specs.declared.values.TaskVal.{TaskVal}
 use Rattle.core_data.specs.declared.values.WaitEntry.{WaitEntry}
 use Rattle.core_data.specs.declared.values.WorkItem.{WorkItem}
@@ -59,38 +59,38 @@ pub record WordRow : Type 0 where
 
 -- what a seat knows
 pub record SeatRow : Type 0 where
-  pub current : Option ℕ
-  pub task_out : ℕ → Option TaskVal
-  pub queue_out : ℕ → Option Queue
-  pub list_out : ℕ → Option (List ℕ)
-  pub works_out : ℕ → Option (List WorkItem)
-  pub wait_out : ℕ → Option (List WaitEntry)
-  pub body_out : Option ℕ
-  pub to_clear : Option ℕ
-  pub seen : Option State
+  pub current_task : Option ℕ
+  pub task_held : ℕ → Option TaskVal
+  pub queue_held : ℕ → Option Queue
+  pub list_held : ℕ → Option (List ℕ)
+  pub works_held : ℕ → Option (List WorkItem)
+  pub wait_held : ℕ → Option (List WaitEntry)
+  pub body_held : Option ℕ
+  pub task_to_clear : Option ℕ
+  pub seen_state : Option State
   pub level_known : Option ℕ
-  pub matched : ℕ → Bool
-  pub unstored : ℕ → Bool
+  pub has_matched : ℕ → Bool
+  pub is_unstored : ℕ → Bool
   pub saw_off : ℕ → Bool
-  pub claimed : ℕ → Bool
-  pub clear : ℕ → Bool
-  pub stored : ℕ → Bool
-  pub rest_state : ℕ → Bool
-  pub rest_off : ℕ → Bool
-  pub rest_idle : ℕ → Bool
-  pub slept : ℕ → Bool
-  pub requeued : ℕ → Bool
-  pub idle : ℕ → ℕ → Bool
-  pub added : ℕ → ℕ → Bool
-  pub dropped : ℕ → ℕ → Bool
-  pub passed : ℕ → ℕ → Bool
-  pub own_stored : ℕ → ℕ → Bool
-  pub slept_in : ℕ → ℕ → Bool
-  pub owes : ℕ → Bool
-  pub retaken : ℕ → Bool
-  pub test : ℕ → ℕ → Option ℕ
-  pub asleep : ℕ → ℕ → Bool
-  pub reads : ℕ → TaskReads
+  pub is_claimed : ℕ → Bool
+  pub saw_clear : ℕ → Bool
+  pub has_stored : ℕ → Bool
+  pub saw_rest : ℕ → Bool
+  pub saw_rest_off : ℕ → Bool
+  pub saw_rest_idle : ℕ → Bool
+  pub has_slept : ℕ → Bool
+  pub is_requeued : ℕ → Bool
+  pub saw_idle : ℕ → ℕ → Bool
+  pub has_added : ℕ → ℕ → Bool
+  pub has_dropped : ℕ → ℕ → Bool
+  pub has_passed : ℕ → ℕ → Bool
+  pub has_own_stored : ℕ → ℕ → Bool
+  pub has_slept_in : ℕ → ℕ → Bool
+  pub owes_walk : ℕ → Bool
+  pub has_retaken : ℕ → Bool
+  pub tested : ℕ → ℕ → Option ℕ
+  pub is_asleep : ℕ → ℕ → Bool
+  pub last_reads : ℕ → TaskReads
   pub hand : List ℕ
   pub actives : List ActiveRead
   pub counts : List CountRead
@@ -111,7 +111,7 @@ pub record SeatRow : Type 0 where
   pub served : Served
   pub journal : List Entry
 
-abbrev pub word_row : Table → ℕ → WordRow
+abbrev pub word_row : Columns → ℕ → WordRow
 word_row core n =
     record {
       shape = core.shape;
@@ -149,41 +149,41 @@ word_row core n =
       refs = core.refs n;
     }
 
-abbrev pub seat_row : Table → ℕ → SeatRow
+abbrev pub seat_row : Columns → ℕ → SeatRow
 seat_row core s =
     record {
-      current = core.current s;
-      task_out = core.task_out s;
-      queue_out = core.queue_out s;
-      list_out = core.list_out s;
-      works_out = core.works_out s;
-      wait_out = core.wait_out s;
-      body_out = core.body_out s;
-      to_clear = core.to_clear s;
-      seen = core.seen s;
+      current_task = core.current_task s;
+      task_held = core.task_held s;
+      queue_held = core.queue_held s;
+      list_held = core.list_held s;
+      works_held = core.works_held s;
+      wait_held = core.wait_held s;
+      body_held = core.body_held s;
+      task_to_clear = core.task_to_clear s;
+      seen_state = core.seen_state s;
       level_known = core.level_known s;
-      matched = core.matched s;
-      unstored = core.unstored s;
+      has_matched = core.has_matched s;
+      is_unstored = core.is_unstored s;
       saw_off = core.saw_off s;
-      claimed = core.claimed s;
-      clear = core.clear s;
-      stored = core.stored s;
-      rest_state = core.rest_state s;
-      rest_off = core.rest_off s;
-      rest_idle = core.rest_idle s;
-      slept = core.slept s;
-      requeued = core.requeued s;
-      idle = core.idle s;
-      added = core.added s;
-      dropped = core.dropped s;
-      passed = core.passed s;
-      own_stored = core.own_stored s;
-      slept_in = core.slept_in s;
-      owes = core.owes s;
-      retaken = core.retaken s;
-      test = core.test s;
-      asleep = core.asleep s;
-      reads = core.reads s;
+      is_claimed = core.is_claimed s;
+      saw_clear = core.saw_clear s;
+      has_stored = core.has_stored s;
+      saw_rest = core.saw_rest s;
+      saw_rest_off = core.saw_rest_off s;
+      saw_rest_idle = core.saw_rest_idle s;
+      has_slept = core.has_slept s;
+      is_requeued = core.is_requeued s;
+      saw_idle = core.saw_idle s;
+      has_added = core.has_added s;
+      has_dropped = core.has_dropped s;
+      has_passed = core.has_passed s;
+      has_own_stored = core.has_own_stored s;
+      has_slept_in = core.has_slept_in s;
+      owes_walk = core.owes_walk s;
+      has_retaken = core.has_retaken s;
+      tested = core.tested s;
+      is_asleep = core.is_asleep s;
+      last_reads = core.last_reads s;
       hand = core.hand s;
       actives = core.actives s;
       counts = core.counts s;
@@ -206,7 +206,7 @@ seat_row core s =
     }
 
 -- cores that agree at each number are one
-pub table_path : (c d : Table) → ((n : ℕ) → word_row c n ≡ word_row d n) → ((s : ℕ) → seat_row c s ≡ seat_row d s) → c ≡ d
+pub table_path : (c d : Columns) → ((n : ℕ) → word_row c n ≡ word_row d n) → ((s : ℕ) → seat_row c s ≡ seat_row d s) → c ≡ d
 table_path c d words seats = λ i. record {
   shape = (words 0 i).shape;
   tasks = (words 0 i).tasks;
@@ -241,38 +241,38 @@ table_path c d words seats = λ i. record {
   mark = λ n. (words n i).mark;
   done = λ n. (words n i).done;
   refs = λ n. (words n i).refs;
-  current = λ s. (seats s i).current;
-  task_out = λ s. (seats s i).task_out;
-  queue_out = λ s. (seats s i).queue_out;
-  list_out = λ s. (seats s i).list_out;
-  works_out = λ s. (seats s i).works_out;
-  wait_out = λ s. (seats s i).wait_out;
-  body_out = λ s. (seats s i).body_out;
-  to_clear = λ s. (seats s i).to_clear;
-  seen = λ s. (seats s i).seen;
+  current_task = λ s. (seats s i).current_task;
+  task_held = λ s. (seats s i).task_held;
+  queue_held = λ s. (seats s i).queue_held;
+  list_held = λ s. (seats s i).list_held;
+  works_held = λ s. (seats s i).works_held;
+  wait_held = λ s. (seats s i).wait_held;
+  body_held = λ s. (seats s i).body_held;
+  task_to_clear = λ s. (seats s i).task_to_clear;
+  seen_state = λ s. (seats s i).seen_state;
   level_known = λ s. (seats s i).level_known;
-  matched = λ s. (seats s i).matched;
-  unstored = λ s. (seats s i).unstored;
+  has_matched = λ s. (seats s i).has_matched;
+  is_unstored = λ s. (seats s i).is_unstored;
   saw_off = λ s. (seats s i).saw_off;
-  claimed = λ s. (seats s i).claimed;
-  clear = λ s. (seats s i).clear;
-  stored = λ s. (seats s i).stored;
-  rest_state = λ s. (seats s i).rest_state;
-  rest_off = λ s. (seats s i).rest_off;
-  rest_idle = λ s. (seats s i).rest_idle;
-  slept = λ s. (seats s i).slept;
-  requeued = λ s. (seats s i).requeued;
-  idle = λ s. (seats s i).idle;
-  added = λ s. (seats s i).added;
-  dropped = λ s. (seats s i).dropped;
-  passed = λ s. (seats s i).passed;
-  own_stored = λ s. (seats s i).own_stored;
-  slept_in = λ s. (seats s i).slept_in;
-  owes = λ s. (seats s i).owes;
-  retaken = λ s. (seats s i).retaken;
-  test = λ s. (seats s i).test;
-  asleep = λ s. (seats s i).asleep;
-  reads = λ s. (seats s i).reads;
+  is_claimed = λ s. (seats s i).is_claimed;
+  saw_clear = λ s. (seats s i).saw_clear;
+  has_stored = λ s. (seats s i).has_stored;
+  saw_rest = λ s. (seats s i).saw_rest;
+  saw_rest_off = λ s. (seats s i).saw_rest_off;
+  saw_rest_idle = λ s. (seats s i).saw_rest_idle;
+  has_slept = λ s. (seats s i).has_slept;
+  is_requeued = λ s. (seats s i).is_requeued;
+  saw_idle = λ s. (seats s i).saw_idle;
+  has_added = λ s. (seats s i).has_added;
+  has_dropped = λ s. (seats s i).has_dropped;
+  has_passed = λ s. (seats s i).has_passed;
+  has_own_stored = λ s. (seats s i).has_own_stored;
+  has_slept_in = λ s. (seats s i).has_slept_in;
+  owes_walk = λ s. (seats s i).owes_walk;
+  has_retaken = λ s. (seats s i).has_retaken;
+  tested = λ s. (seats s i).tested;
+  is_asleep = λ s. (seats s i).is_asleep;
+  last_reads = λ s. (seats s i).last_reads;
   hand = λ s. (seats s i).hand;
   actives = λ s. (seats s i).actives;
   counts = λ s. (seats s i).counts;

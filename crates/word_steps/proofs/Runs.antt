@@ -1,7 +1,7 @@
 -- Changes of a task's queue word and busy word, and bodies, each as the core's step.
 use Rattle.std.proofs.Common.{◌≡◌, ◌≢◌, ℕ, eq-eqb, ne_eqb, refl, List, ◌∷◌}
 use Rattle.std.specs.Prelude.{◌+◌, ◌/◌, ◌%◌, Bool, true, false}
-use Rattle.core_data.specs.Table.{Table, put, put_at}
+use Rattle.core_data.specs.Columns.{Columns, put, put_at}
 use Rattle.core_kinds.specs.Running.{queue_task, dequeue_task, move_task, set_busy, clear_busy, body_out, body_home}
 use Rattle.handoff_data.specs.declared.shape.Shape.{Shape}
 use Rattle.word_steps.proofs.Rows.{seat_row, word_row}
@@ -11,7 +11,7 @@ use Rattle.word_steps.specs.Records.{Rec, OutBody, HomeBody, Queued, Dequeued, M
 use Rattle.word_steps.specs.Words.{RQ, BUSY}
 
 module _ (shape : Shape) (words : ℕ → ℕ → ℕ) (homes : Homes) (traces : ℕ → List Rec) (s : ℕ) where
-  abbrev now : Table
+  abbrev now : Columns
   now = core_of shape words homes traces
 
   pub queue_task_shown : (c : ℕ) (t : ℕ) (x : ℕ) → x % 4 ≡ 1 → x / 4 ≡ words t RQ / 4 + 1

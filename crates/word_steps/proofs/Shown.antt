@@ -4,49 +4,49 @@ use Rattle.std.specs.Prelude.{◌+◌, nat_lt, None, List, [], ◌∷◌}
 use Rattle.std.proofs.lemmas.Bool.{cases_eq}
 use mathlib.Core.Path.{fun_ext}
 use Rattle.core_stores.proofs.Columns.{put_there, put_other}
-use Rattle.core_data.specs.Table.{Table, put, unserved}
+use Rattle.core_data.specs.Columns.{Columns, put, unserved}
 use Rattle.handoff_data.specs.declared.shape.Shape.{Shape}
 use Rattle.word_steps.proofs.Rows.{SeatRow, word_row, seat_row, table_path}
 use Rattle.word_steps.specs.Decode.{Homes, core_of, core_after}
-use Rattle.word_steps.specs.Folds.{body_held, current_task, has_added, has_dropped, has_own_stored, has_passed, has_retaken, has_slept, has_slept_in, has_stored, is_asleep, is_claimed, is_matched_by, is_requeued, is_unstored, journal, last_reads, level_known, owes_walk, queue_held, saw_clear, saw_idle, saw_off, saw_rest, saw_rest_idle, saw_rest_off, seen_state, task_held, task_to_clear, tested, wait_held, works_held}
+use Rattle.word_steps.specs.Folds.{body_held, current_task, has_added, has_dropped, has_own_stored, has_passed, has_retaken, has_slept, has_slept_in, has_stored, is_asleep, is_claimed, has_matched, is_requeued, is_unstored, journal, last_reads, level_known, owes_walk, queue_held, saw_clear, saw_idle, saw_off, saw_rest, saw_rest_idle, saw_rest_off, seen_state, task_held, task_to_clear, tested, wait_held, works_held}
 use Rattle.word_steps.specs.Records.{Rec}
 
 -- what a seat with this trace knows
 abbrev pub known : Shape → ℕ → List Rec → SeatRow
 known shape s trace =
     record {
-      current = current_task s trace;
-      task_out = task_held trace;
-      queue_out = queue_held trace;
-      list_out = λ c. None;
-      works_out = works_held trace;
-      wait_out = wait_held trace;
-      body_out = body_held trace;
-      to_clear = task_to_clear s trace;
-      seen = seen_state s trace;
+      current_task = current_task s trace;
+      task_held = task_held trace;
+      queue_held = queue_held trace;
+      list_held = λ c. None;
+      works_held = works_held trace;
+      wait_held = wait_held trace;
+      body_held = body_held trace;
+      task_to_clear = task_to_clear s trace;
+      seen_state = seen_state s trace;
       level_known = level_known s trace;
-      matched = is_matched_by trace;
-      unstored = is_unstored trace;
+      has_matched = has_matched trace;
+      is_unstored = is_unstored trace;
       saw_off = saw_off trace;
-      claimed = is_claimed trace;
-      clear = saw_clear trace;
-      stored = has_stored trace;
-      rest_state = saw_rest trace;
-      rest_off = saw_rest_off trace;
-      rest_idle = saw_rest_idle trace;
-      slept = has_slept trace;
-      requeued = is_requeued trace;
-      idle = saw_idle trace;
-      added = has_added trace;
-      dropped = has_dropped trace;
-      passed = has_passed trace;
-      own_stored = has_own_stored trace;
-      slept_in = has_slept_in trace;
-      owes = owes_walk trace;
-      retaken = has_retaken trace;
-      test = tested s trace;
-      asleep = is_asleep s trace;
-      reads = last_reads trace;
+      is_claimed = is_claimed trace;
+      saw_clear = saw_clear trace;
+      has_stored = has_stored trace;
+      saw_rest = saw_rest trace;
+      saw_rest_off = saw_rest_off trace;
+      saw_rest_idle = saw_rest_idle trace;
+      has_slept = has_slept trace;
+      is_requeued = is_requeued trace;
+      saw_idle = saw_idle trace;
+      has_added = has_added trace;
+      has_dropped = has_dropped trace;
+      has_passed = has_passed trace;
+      has_own_stored = has_own_stored trace;
+      has_slept_in = has_slept_in trace;
+      owes_walk = owes_walk trace;
+      has_retaken = has_retaken trace;
+      tested = tested s trace;
+      is_asleep = is_asleep s trace;
+      last_reads = last_reads trace;
       hand = [];
       actives = [];
       counts = [];
@@ -69,7 +69,7 @@ known shape s trace =
     }
 
 -- a step of the seat s is that of the core x: the words show it, the seat knows it, and other seats know what they knew
-pub shown : (shape : Shape) (words : ℕ → ℕ → ℕ) (homes : Homes) (traces : ℕ → List Rec) (s : ℕ) (r : Rec) (x : Table)
+pub shown : (shape : Shape) (words : ℕ → ℕ → ℕ) (homes : Homes) (traces : ℕ → List Rec) (s : ℕ) (r : Rec) (x : Columns)
     → ((n : ℕ) → word_row (core_of shape words homes traces) n ≡ word_row x n)
     → known shape s (r ∷ traces s) ≡ seat_row x s
     → ((j : ℕ) → j ≢ s → known shape j (traces j) ≡ seat_row x j)
@@ -81,7 +81,7 @@ shown shape words homes traces s r x words_are mine others =
     ])
 
 -- .. where it changes words and homes of number n
-pub shown_at : (shape : Shape) (words : ℕ → ℕ → ℕ) (homes : Homes) (traces : ℕ → List Rec) (s : ℕ) (r : Rec) (x : Table) (n : ℕ)
+pub shown_at : (shape : Shape) (words : ℕ → ℕ → ℕ) (homes : Homes) (traces : ℕ → List Rec) (s : ℕ) (r : Rec) (x : Columns) (n : ℕ)
     → word_row (core_of shape words homes traces) n ≡ word_row x n
     → ((k : ℕ) → k ≢ n → word_row (core_of shape words homes traces) k ≡ word_row x k)
     → known shape s (r ∷ traces s) ≡ seat_row x s

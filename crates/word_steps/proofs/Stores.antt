@@ -3,9 +3,9 @@ use Rattle.std.proofs.Common.{◌≡◌, ◌≢◌, ℕ, eq-eqb, ne_eqb, refl, L
 use Rattle.std.specs.Prelude.{◌+◌, ◌/◌, ◌%◌, ◌^◌, ◌==◌, None}
 use Rattle.core_data.specs.Noted.{noted}
 use Rattle.core_data.specs.declared.act.Act.TheVariants.{OwnStored}
-use Rattle.core_data.specs.Table.{Table, put, put_at}
+use Rattle.core_data.specs.Columns.{Columns, put, put_at}
 use Rattle.core_kinds.specs.Steps.{kept_reads, stored_word, is_sleep}
-use Rattle.core_kinds.specs.Waking.{own_state, claim, release, store_cpu, bump, cpu_read, slept_if}
+use Rattle.core_kinds.specs.Waking.{set_state, claim, make_runnable, store_cpu, bump, cpu_read, slept_if}
 use Rattle.handoff_data.specs.declared.shape.Shape.{Shape}
 use Rattle.handoff_data.specs.declared.state.State.{State}
 use Rattle.word_steps.proofs.Flats.{passed_by, ran_flat, slept_by, slept_flat}
@@ -13,11 +13,11 @@ use Rattle.word_steps.proofs.Rows.{seat_row, word_row}
 use Rattle.word_steps.proofs.Shown.{known, shown_at, put_twice}
 use Rattle.word_steps.specs.Decode.{Homes, core_of, core_after}
 use Rattle.word_steps.specs.Folds.{last_reads}
-use Rattle.word_steps.specs.Records.{Rec, StoredOwn, Claimed, Released, StoredCpu, Bumped}
+use Rattle.word_steps.specs.Records.{Rec, StateSet, Claimed, MadeRunnable, StoredCpu, Bumped}
 use Rattle.word_steps.specs.Words.{STATE, RQ, CPU, COND}
 
 module _ (shape : Shape) (words : ℕ → ℕ → ℕ) (homes : Homes) (traces : ℕ → List Rec) (s : ℕ) where
-  abbrev now : Table
+  abbrev now : Columns
   now = core_of shape words homes traces
 
   pub store_cpu_shown : (t : ℕ) (c : ℕ)
@@ -34,36 +34,36 @@ module _ (shape : Shape) (words : ℕ → ℕ → ℕ) (homes : Homes) (traces :
 
       mine : known shape s (StoredCpu t c ∷ traces s) ≡ seat_row (store_cpu now s t c) s
       mine = (λ i. record (known shape s (StoredCpu t c ∷ traces s)) {
-        reads = put_twice (last_reads (traces s)) t (cpu_read t c (last_reads (traces s) t)) (kept_reads t (cpu_read t c (last_reads
+        last_reads = put_twice (last_reads (traces s)) t (cpu_read t c (last_reads (traces s) t)) (kept_reads t (cpu_read t c (last_reads
             (traces s) t))) i;
       }) ∙ rw (eq-eqb s s refl, eq-eqb t t refl)
 
       others : (j : ℕ) → j ≢ s → known shape j (traces j) ≡ seat_row (store_cpu now s t c) j
       others j ne = rw (ne_eqb j s ne)
 
-  abbrev own_state_core : (t : ℕ) (state : State) → Table
-  own_state_core t state = passed_by (state.0 == 0) (slept_by (is_sleep state) (noted (stored_word
-      (record now { state = put now.state t state; seen = put now.seen s None }) s t) s (OwnStored t)) s t) s t
+  abbrev set_state_core : (t : ℕ) (state : State) → Columns
+  set_state_core t state = passed_by (state.0 == 0) (slept_by (is_sleep state) (noted (stored_word
+      (record now { state = put now.state t state; seen_state = put now.seen_state s None }) s t) s (OwnStored t)) s t) s t
 
-  pub own_state_shown : (t : ℕ) (state : State)
-      → core_after shape (put_at words t STATE state.0) homes traces s (StoredOwn t state)
-      ≡ own_state (core_of shape words homes traces) s t state
-  own_state_shown t state =
-      shown_at shape (put_at words t STATE state.0) homes traces s (StoredOwn t state) (own_state_core t state) t here elsewhere mine others
-      ∙ sym (ran_flat (state.0 == 0) (slept_if (is_sleep state) (noted (stored_word (record now { state = put now.state t state; seen = put now.seen s None }) s t) s (OwnStored t)) s t) s t
-      ∙ ap (λ (z : Table). passed_by (state.0 == 0) z s t) (slept_flat (is_sleep state) (noted (stored_word
-      (record now { state = put now.state t state; seen = put now.seen s None }) s t) s (OwnStored t)) s t))
+  pub set_state_shown : (t : ℕ) (state : State)
+      → core_after shape (put_at words t STATE state.0) homes traces s (StateSet t state)
+      ≡ set_state (core_of shape words homes traces) s t state
+  set_state_shown t state =
+      shown_at shape (put_at words t STATE state.0) homes traces s (StateSet t state) (set_state_core t state) t here elsewhere mine others
+      ∙ sym (ran_flat (state.0 == 0) (slept_if (is_sleep state) (noted (stored_word (record now { state = put now.state t state; seen_state = put now.seen_state s None }) s t) s (OwnStored t)) s t) s t
+      ∙ ap (λ (z : Columns). passed_by (state.0 == 0) z s t) (slept_flat (is_sleep state) (noted (stored_word
+      (record now { state = put now.state t state; seen_state = put now.seen_state s None }) s t) s (OwnStored t)) s t))
     where
-      here : word_row (core_of shape (put_at words t STATE state.0) homes traces) t ≡ word_row (own_state_core t state) t
+      here : word_row (core_of shape (put_at words t STATE state.0) homes traces) t ≡ word_row (set_state_core t state) t
       here = rw (eq-eqb t t refl)
 
-      elsewhere : (i : ℕ) → i ≢ t → word_row (core_of shape (put_at words t STATE state.0) homes traces) i ≡ word_row (own_state_core t state) i
+      elsewhere : (i : ℕ) → i ≢ t → word_row (core_of shape (put_at words t STATE state.0) homes traces) i ≡ word_row (set_state_core t state) i
       elsewhere i ne = rw (ne_eqb i t ne)
 
-      mine : known shape s (StoredOwn t state ∷ traces s) ≡ seat_row (own_state_core t state) s
+      mine : known shape s (StateSet t state ∷ traces s) ≡ seat_row (set_state_core t state) s
       mine = rw (eq-eqb s s refl)
 
-      others : (j : ℕ) → j ≢ s → known shape j (traces j) ≡ seat_row (own_state_core t state) j
+      others : (j : ℕ) → j ≢ s → known shape j (traces j) ≡ seat_row (set_state_core t state) j
       others j ne = rw (ne_eqb j s ne)
 
   pub claim_shown : (t : ℕ)
@@ -84,22 +84,22 @@ module _ (shape : Shape) (words : ℕ → ℕ → ℕ) (homes : Homes) (traces :
       others : (j : ℕ) → j ≢ s → known shape j (traces j) ≡ seat_row (claim now s t) j
       others j ne = rw (ne_eqb j s ne)
 
-  pub release_shown : (t : ℕ)
-      → core_after shape (put_at words t STATE 0) homes traces s (Released t)
-      ≡ release (core_of shape words homes traces) s t
-  release_shown t =
-      shown_at shape (put_at words t STATE 0) homes traces s (Released t) (release now s t) t here elsewhere mine others
+  pub make_runnable_shown : (t : ℕ)
+      → core_after shape (put_at words t STATE 0) homes traces s (MadeRunnable t)
+      ≡ make_runnable (core_of shape words homes traces) s t
+  make_runnable_shown t =
+      shown_at shape (put_at words t STATE 0) homes traces s (MadeRunnable t) (make_runnable now s t) t here elsewhere mine others
     where
-      here : word_row (core_of shape (put_at words t STATE 0) homes traces) t ≡ word_row (release now s t) t
+      here : word_row (core_of shape (put_at words t STATE 0) homes traces) t ≡ word_row (make_runnable now s t) t
       here = rw (eq-eqb t t refl)
 
-      elsewhere : (i : ℕ) → i ≢ t → word_row (core_of shape (put_at words t STATE 0) homes traces) i ≡ word_row (release now s t) i
+      elsewhere : (i : ℕ) → i ≢ t → word_row (core_of shape (put_at words t STATE 0) homes traces) i ≡ word_row (make_runnable now s t) i
       elsewhere i ne = rw (ne_eqb i t ne)
 
-      mine : known shape s (Released t ∷ traces s) ≡ seat_row (release now s t) s
+      mine : known shape s (MadeRunnable t ∷ traces s) ≡ seat_row (make_runnable now s t) s
       mine = rw (eq-eqb s s refl)
 
-      others : (j : ℕ) → j ≢ s → known shape j (traces j) ≡ seat_row (release now s t) j
+      others : (j : ℕ) → j ≢ s → known shape j (traces j) ≡ seat_row (make_runnable now s t) j
       others j ne = rw (ne_eqb j s ne)
 
   pub bump_shown : (k : ℕ)

@@ -4,7 +4,7 @@ use Rattle.std.specs.Prelude.{◌==◌, Some, None}
 use Rattle.core_data.specs.Noted.{noted}
 use Rattle.core_data.specs.Queue.{Queue}
 use Rattle.core_data.specs.declared.act.Act.TheVariants.{TookQueue}
-use Rattle.core_data.specs.Table.{Table, put, put_at}
+use Rattle.core_data.specs.Columns.{Columns, put, put_at}
 use Rattle.core_data.specs.declared.values.TaskVal.{TaskVal}
 use Rattle.core_data.specs.declared.values.WaitEntry.{WaitEntry}
 use Rattle.core_data.specs.declared.values.WorkItem.{WorkItem}
@@ -19,7 +19,7 @@ use Rattle.word_steps.specs.Words.{LOCK, QUEUE_LOCK, WORKS_LOCK, WAIT_LOCK}
 use Rattle.word_steps.specs.declared.val.Val.TheVariants as val
 
 module _ (shape : Shape) (words : ℕ → ℕ → ℕ) (homes : Homes) (traces : ℕ → List Rec) (s : ℕ) where
-  abbrev now : Table
+  abbrev now : Columns
   now = core_of shape words homes traces
 
   pub take_task_shown : (t : ℕ) (v : TaskVal) → homes.task t ≡ Some v
@@ -40,11 +40,11 @@ module _ (shape : Shape) (words : ℕ → ℕ → ℕ) (homes : Homes) (traces :
       others : (j : ℕ) → j ≢ s → known shape j (traces j) ≡ seat_row (take_task now s t) j
       others j ne = rw (ne_eqb j s ne)
 
-  abbrev take_queue_core : (c : ℕ) (v : Queue) → Table
+  abbrev take_queue_core : (c : ℕ) (v : Queue) → Columns
   take_queue_core c v = noted (unseen_by (s == c) (record now {
     queue_lock = put now.queue_lock c (Some s);
     queue = put now.queue c None;
-    queue_out = put_at now.queue_out s c (now.queue c);
+    queue_held = put_at now.queue_held s c (now.queue c);
   }) s) s (TookQueue c)
 
   pub take_queue_shown : (c : ℕ) (v : Queue) → homes.queue c ≡ Some v
@@ -52,10 +52,10 @@ module _ (shape : Shape) (words : ℕ → ℕ → ℕ) (homes : Homes) (traces :
       ≡ take_queue (core_of shape words homes traces) s c
   take_queue_shown c v home =
       shown_at shape (put_at words c QUEUE_LOCK (suc s)) (record homes { queue = put homes.queue c None }) traces s (Took c (val.Queue v)) (take_queue_core c v) c here elsewhere mine others
-      ∙ sym (ap (λ (z : Table). noted z s (TookQueue c)) (unseen_flat (record now {
+      ∙ sym (ap (λ (z : Columns). noted z s (TookQueue c)) (unseen_flat (record now {
         queue_lock = put now.queue_lock c (Some s);
         queue = put now.queue c None;
-        queue_out = put_at now.queue_out s c (now.queue c);
+        queue_held = put_at now.queue_held s c (now.queue c);
       }) s c))
     where
       here : word_row (core_of shape (put_at words c QUEUE_LOCK (suc s)) (record homes { queue = put homes.queue c None }) traces) c ≡ word_row (take_queue_core c v) c

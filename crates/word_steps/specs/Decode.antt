@@ -2,11 +2,11 @@
 use Rattle.std.specs.Prelude.{ℕ, ◌+◌, ◌/◌, ◌%◌, nat_lt, Bool, List, [], ◌∷◌, Option, Some, None, if◌then◌else◌}
 use Rattle.handoff_data.specs.declared.shape.Shape.{Shape}
 use Rattle.core_data.specs.Queue.{Queue}
-use Rattle.core_data.specs.Table.{Table, put, unserved}
+use Rattle.core_data.specs.Columns.{Columns, put, unserved}
 use Rattle.core_data.specs.declared.values.TaskVal.{TaskVal}
 use Rattle.core_data.specs.declared.values.WaitEntry.{WaitEntry}
 use Rattle.core_data.specs.declared.values.WorkItem.{WorkItem}
-use Rattle.word_steps.specs.Folds.{task_held, queue_held, works_held, wait_held, body_held, current_task, task_to_clear, seen_state, level_known, is_matched_by, is_unstored, saw_off, saw_rest, saw_rest_off, saw_rest_idle, is_claimed, saw_clear, has_stored, has_slept, is_requeued, last_reads, saw_idle, has_added, has_dropped, has_passed, has_own_stored, has_slept_in, has_retaken, owes_walk, tested, is_asleep, journal}
+use Rattle.word_steps.specs.Folds.{task_held, queue_held, works_held, wait_held, body_held, current_task, task_to_clear, seen_state, level_known, has_matched, is_unstored, saw_off, saw_rest, saw_rest_off, saw_rest_idle, is_claimed, saw_clear, has_stored, has_slept, is_requeued, last_reads, saw_idle, has_added, has_dropped, has_passed, has_own_stored, has_slept_in, has_retaken, owes_walk, tested, is_asleep, journal}
 use Rattle.word_steps.specs.Records.{Rec}
 use Rattle.word_steps.specs.Words.{LOCK, STATE, RQ, BUSY, CPU, COUNT, QUEUE_LOCK, WORKS_LOCK, LIST_LOCK, HINT, PINNED, PHASE, ACTIVE, WAIT_LOCK, COND, MARK, DONE, REFS, holder, is_set, phase_of}
 
@@ -20,7 +20,7 @@ pub record Homes : Type 0 where
   pub ended : ℕ → Bool
 
 -- The columns of remote lists, records, tickets and phases are those of the opening core until steps change them.
-abbrev pub core_of : Shape → (ℕ → ℕ → ℕ) → Homes → (ℕ → List Rec) → Table
+abbrev pub core_of : Shape → (ℕ → ℕ → ℕ) → Homes → (ℕ → List Rec) → Columns
 core_of shape words homes traces =
     record {
       shape = shape;
@@ -56,38 +56,38 @@ core_of shape words homes traces =
       mark = λ s. is_set (words s MARK);
       done = λ s. is_set (words s DONE);
       refs = λ s. words s REFS;
-      current = λ s. current_task s (traces s);
-      task_out = λ s. task_held (traces s);
-      queue_out = λ s. queue_held (traces s);
-      list_out = λ s c. None;
-      works_out = λ s. works_held (traces s);
-      wait_out = λ s. wait_held (traces s);
-      body_out = λ s. body_held (traces s);
-      to_clear = λ s. task_to_clear s (traces s);
-      seen = λ s. seen_state s (traces s);
+      current_task = λ s. current_task s (traces s);
+      task_held = λ s. task_held (traces s);
+      queue_held = λ s. queue_held (traces s);
+      list_held = λ s c. None;
+      works_held = λ s. works_held (traces s);
+      wait_held = λ s. wait_held (traces s);
+      body_held = λ s. body_held (traces s);
+      task_to_clear = λ s. task_to_clear s (traces s);
+      seen_state = λ s. seen_state s (traces s);
       level_known = λ s. level_known s (traces s);
-      matched = λ s. is_matched_by (traces s);
-      unstored = λ s. is_unstored (traces s);
+      has_matched = λ s. has_matched (traces s);
+      is_unstored = λ s. is_unstored (traces s);
       saw_off = λ s. saw_off (traces s);
-      claimed = λ s. is_claimed (traces s);
-      clear = λ s. saw_clear (traces s);
-      stored = λ s. has_stored (traces s);
-      rest_state = λ s. saw_rest (traces s);
-      rest_off = λ s. saw_rest_off (traces s);
-      rest_idle = λ s. saw_rest_idle (traces s);
-      slept = λ s. has_slept (traces s);
-      requeued = λ s. is_requeued (traces s);
-      idle = λ s. saw_idle (traces s);
-      added = λ s. has_added (traces s);
-      dropped = λ s. has_dropped (traces s);
-      passed = λ s. has_passed (traces s);
-      own_stored = λ s. has_own_stored (traces s);
-      slept_in = λ s. has_slept_in (traces s);
-      owes = λ s. owes_walk (traces s);
-      retaken = λ s. has_retaken (traces s);
-      test = λ s. tested s (traces s);
-      asleep = λ s. is_asleep s (traces s);
-      reads = λ s. last_reads (traces s);
+      is_claimed = λ s. is_claimed (traces s);
+      saw_clear = λ s. saw_clear (traces s);
+      has_stored = λ s. has_stored (traces s);
+      saw_rest = λ s. saw_rest (traces s);
+      saw_rest_off = λ s. saw_rest_off (traces s);
+      saw_rest_idle = λ s. saw_rest_idle (traces s);
+      has_slept = λ s. has_slept (traces s);
+      is_requeued = λ s. is_requeued (traces s);
+      saw_idle = λ s. saw_idle (traces s);
+      has_added = λ s. has_added (traces s);
+      has_dropped = λ s. has_dropped (traces s);
+      has_passed = λ s. has_passed (traces s);
+      has_own_stored = λ s. has_own_stored (traces s);
+      has_slept_in = λ s. has_slept_in (traces s);
+      owes_walk = λ s. owes_walk (traces s);
+      has_retaken = λ s. has_retaken (traces s);
+      tested = λ s. tested s (traces s);
+      is_asleep = λ s. is_asleep s (traces s);
+      last_reads = λ s. last_reads (traces s);
       hand = λ s. [];
       actives = λ s. [];
       counts = λ s. [];
@@ -110,5 +110,5 @@ core_of shape words homes traces =
     }
 
 -- .. after a step of the seat s
-abbrev pub core_after : Shape → (ℕ → ℕ → ℕ) → Homes → (ℕ → List Rec) → ℕ → Rec → Table
+abbrev pub core_after : Shape → (ℕ → ℕ → ℕ) → Homes → (ℕ → List Rec) → ℕ → Rec → Columns
 core_after shape words homes traces s r = core_of shape words homes (put traces s (r ∷ traces s))

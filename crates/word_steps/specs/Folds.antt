@@ -8,7 +8,7 @@ use Rattle.handoff_data.specs.declared.state.State.{State}
 use Rattle.core_data.specs.Found.{no_reads}
 use Rattle.core_data.specs.Noted.{given_asleep}
 use Rattle.core_data.specs.Queue.{Queue}
-use Rattle.core_data.specs.Table.{put}
+use Rattle.core_data.specs.Columns.{put}
 use Rattle.core_data.specs.declared.pos.TaskReads.{TaskReads}
 use Rattle.core_data.specs.declared.values.TaskVal.{TaskVal}
 use Rattle.core_data.specs.declared.values.WaitEntry.{WaitEntry}
@@ -18,7 +18,7 @@ use Rattle.core_gives.specs.Waits.{sleeper_of, is_walk}
 use Rattle.core_kinds.specs.Running.{queue_entry, dequeue_entry}
 use Rattle.core_kinds.specs.Steps.{normal, is_sleep, is_match, kept_reads, numbered_reads, waking}
 use Rattle.core_kinds.specs.Waking.{is_some_of, is_matched, is_refused, state_read, rq_read, busy_read, cpu_read, level_read}
-use Rattle.word_steps.specs.Records.{Rec, Took, Gave, OutBody, HomeBody, Queued, Dequeued, Moved, SetBusy, ClearedBusy, StoredOwn, Claimed, Released, LoadedState, LoadedRq, LoadedBusy, LoadedCpu, LoadedCount, StoredCpu, Bumped, LoadedCond}
+use Rattle.word_steps.specs.Records.{Rec, Took, Gave, OutBody, HomeBody, Queued, Dequeued, Moved, SetBusy, ClearedBusy, StateSet, Claimed, MadeRunnable, LoadedState, LoadedRq, LoadedBusy, LoadedCpu, LoadedCount, StoredCpu, Bumped, LoadedCond}
 use Rattle.word_steps.specs.declared.val.Val.TheVariants as val
 
 -- f with v at the number, where there is one
@@ -57,9 +57,9 @@ stored_task (Dequeued t c m) = Some t
 stored_task (Moved t c m) = Some t
 stored_task (SetBusy t c n) = Some t
 stored_task (ClearedBusy t n) = Some t
-stored_task (StoredOwn t state) = Some t
+stored_task (StateSet t state) = Some t
 stored_task (Claimed t m) = Some t
-stored_task (Released t) = Some t
+stored_task (MadeRunnable t) = Some t
 stored_task (StoredCpu t c) = Some t
 stored_task r = None
 
@@ -166,7 +166,7 @@ abbrev pub seen_after : ℕ → Rec → Option ℕ → Bool → Option State →
 seen_after s (Took c (val.Queue v)) current own h = if s == c then None else h
 seen_after s (Gave c (val.Queue taken) (val.Queue given)) current own h = if s == c then None else h
 seen_after s (SetBusy t c n) current own h = None
-seen_after s (StoredOwn t state) current own h = None
+seen_after s (StateSet t state) current own h = None
 seen_after s (LoadedState t mask state) current own h = if is_some_of current t && own then Some state else h
 seen_after s r current own h = h
 
@@ -190,9 +190,9 @@ abbrev pub matched_after : Rec → (ℕ → Bool) → ℕ → Bool
 matched_after (LoadedState t mask state) h = put_if (is_matched state mask) t true h
 matched_after r h = put_some (taken_task r) false h
 
-abbrev pub is_matched_by : List Rec → ℕ → Bool
-is_matched_by [] = λ t. false
-is_matched_by (r ∷ rs) = matched_after r (is_matched_by rs)
+abbrev pub has_matched : List Rec → ℕ → Bool
+has_matched [] = λ t. false
+has_matched (r ∷ rs) = matched_after r (has_matched rs)
 
 abbrev pub unstored_after : Rec → (ℕ → Bool) → ℕ → Bool
 unstored_after (LoadedState t mask state) h = put_if (is_matched state mask) t true h
@@ -261,7 +261,7 @@ has_stored [] = λ t. false
 has_stored (r ∷ rs) = stored_after r (has_stored rs)
 
 abbrev pub slept_after : Rec → (ℕ → Bool) → ℕ → Bool
-slept_after (StoredOwn t state) h = put_if (is_sleep state) t true h
+slept_after (StateSet t state) h = put_if (is_sleep state) t true h
 slept_after (SetBusy t c n) h = put h t false
 slept_after r h = h
 
@@ -313,9 +313,9 @@ reads_after (Dequeued t c m) h = put h t (numbered_reads t (m + 1) (h t))
 reads_after (Moved t c m) h = put h t (numbered_reads t (m + 1) (h t))
 reads_after (SetBusy t c n) h = put h t (kept_reads t (h t))
 reads_after (ClearedBusy t n) h = put h t (kept_reads t (h t))
-reads_after (StoredOwn t state) h = put h t (kept_reads t (h t))
+reads_after (StateSet t state) h = put h t (kept_reads t (h t))
 reads_after (Claimed t m) h = put h t (kept_reads t (h t))
-reads_after (Released t) h = put h t (kept_reads t (h t))
+reads_after (MadeRunnable t) h = put h t (kept_reads t (h t))
 reads_after (StoredCpu t c) h = put h t (kept_reads t (cpu_read t c (h t)))
 reads_after (LoadedState t mask state) h = put h t (state_read t state (h t))
 reads_after (LoadedRq t on m) h = put h t (rq_read t on m (h t))
@@ -392,9 +392,9 @@ has_put (r ∷ rs) = put_after r (has_put rs)
 
 abbrev pub passed_after : Rec → (ℕ → ℕ → Bool) → ℕ → ℕ → Bool
 passed_after (Took k (val.Wait v)) h = put_row h k false
-passed_after (StoredOwn t state) h = put_column_if (state.0 == 0) t true h
+passed_after (StateSet t state) h = put_column_if (state.0 == 0) t true h
 passed_after (Claimed t m) h = put_column h t true
-passed_after (Released t) h = put_column h t true
+passed_after (MadeRunnable t) h = put_column h t true
 passed_after (LoadedState t mask state) h = put_column_if (not (is_match state normal)) t true h
 passed_after r h = h
 
@@ -404,7 +404,7 @@ has_passed (r ∷ rs) = passed_after r (has_passed rs)
 
 abbrev pub own_stored_after : Rec → (ℕ → ℕ → Bool) → ℕ → ℕ → Bool
 own_stored_after (Took k (val.Wait v)) h = put_row h k false
-own_stored_after (StoredOwn t state) h = put_column h t true
+own_stored_after (StateSet t state) h = put_column h t true
 own_stored_after r h = h
 
 abbrev pub has_own_stored : List Rec → ℕ → ℕ → Bool
@@ -413,7 +413,7 @@ has_own_stored (r ∷ rs) = own_stored_after r (has_own_stored rs)
 
 abbrev pub slept_in_after : Rec → (ℕ → ℕ → Bool) → ℕ → ℕ → Bool
 slept_in_after (Took k (val.Wait v)) h = put_row h k false
-slept_in_after (StoredOwn t state) h = put_column_if (is_sleep state) t true h
+slept_in_after (StateSet t state) h = put_column_if (is_sleep state) t true h
 slept_in_after r h = h
 
 abbrev pub has_slept_in : List Rec → ℕ → ℕ → Bool
@@ -450,7 +450,7 @@ put_test (Some t) slept k v h = put_test_if (slept t) t k v h
 
 abbrev pub test_after : Rec → Option ℕ → (ℕ → Bool) → (ℕ → ℕ → Option ℕ) → ℕ → ℕ → Option ℕ
 test_after (SetBusy t c n) current slept h = put_row h t None
-test_after (StoredOwn t state) current slept h = put_row_if (is_sleep state) t None h
+test_after (StateSet t state) current slept h = put_row_if (is_sleep state) t None h
 test_after (LoadedCond k v) current slept h = put_test current slept k v h
 test_after r current slept h = h
 
@@ -461,7 +461,7 @@ tested s (r ∷ rs) = test_after r (current_task s rs) (has_slept rs) (tested s 
 -- who was put to sleep where
 abbrev pub asleep_after : Rec → Option ℕ → (ℕ → ℕ → Bool) → (ℕ → ℕ → Bool) → ℕ → ℕ → Bool
 asleep_after (SetBusy t c n) current slept h = put_row h t false
-asleep_after (StoredOwn t state) current slept h = put_row_if (is_sleep state) t false h
+asleep_after (StateSet t state) current slept h = put_row_if (is_sleep state) t false h
 asleep_after (Gave k (val.Wait taken) (val.Wait given)) current slept h = given_asleep k taken given (sleeper_of current (slept k) given) h
 asleep_after r current slept h = h
 

@@ -1,4 +1,4 @@
-pub mod Beside
+pub mod TraceFacts
 pub mod Decode
 pub mod Entries
 pub mod Events

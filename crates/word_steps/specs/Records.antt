@@ -20,11 +20,11 @@ pub data Rec : Type 0 where
   SetBusy : (t c n : ℕ) → Rec
   ClearedBusy : (t n : ℕ) → Rec
   -- the current task's state was stored
-  StoredOwn : (t : ℕ) (state : State) → Rec
+  StateSet : (t : ℕ) (state : State) → Rec
   -- TASK_WAKING was stored; m is the number of the changes of t
   Claimed : (t m : ℕ) → Rec
   -- TASK_RUNNING was stored
-  Released : (t : ℕ) → Rec
+  MadeRunnable : (t : ℕ) → Rec
   -- the state was loaded, to be held against a mask or not
   LoadedState : (t : ℕ) (mask : Option State) (state : State) → Rec
   LoadedRq : (t on m : ℕ) → Rec

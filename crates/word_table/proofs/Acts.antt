@@ -7,12 +7,12 @@ use native.Mathlib.Decide.{ℕ_discrete}
 use lib.ListN.{get_elem?}
 use Rattle.atomic_table.specs.Table.{State}
 use Rattle.atomic_table.proofs.Lists.{at_set, set_here, set_else}
-use Rattle.core_data.specs.Table.{put}
+use Rattle.core_data.specs.Columns.{put}
 use Rattle.core_stores.proofs.Columns.{put_there, put_other}
 use Rattle.core_data.specs.Entries.{has_entry}
 use Rattle.core_data.specs.declared.values.WaitEntry.{WaitEntry}
 use Rattle.word_steps.specs.Exclusives.{exclusive_entry}
-use Rattle.word_rule.specs.Kept.{Kept}
+use Rattle.word_rule.specs.WordsHold.{WordsHold}
 use Rattle.word_rule.specs.Sorts.{OfWait}
 use Rattle.word_steps.specs.Records.{Rec}
 use Rattle.word_steps.specs.Words.{words_of}
@@ -80,7 +80,7 @@ module _ {B : Type 0} (lasting : B → List ℕ) (ended_of : B → Bool) (key : 
   BodiesAfter homes' ended' = (t : ℕ) (b : B) → get_elem? homes' (slot_at t BODY_SLOT) ≡ some (some (Body b)) → IsBody lasting key ended_of ended' t b
 
   abbrev KeptAfter : (s : St) → R s → (k : ℕ) → List Rec → (i x : ℕ) → Lying → (ℕ → Bool) → Type 0
-  KeptAfter s r k tr' i x homes' ended' = Kept key.shape (words_of (set s.words i x)) (homes_of homes' ended') (put r.trace k tr')
+  KeptAfter s r k tr' i x homes' ended' = WordsHold key.shape (words_of (set s.words i x)) (homes_of homes' ended') (put r.trace k tr')
 
   moved : (s : St) (r : R s) (id k : ℕ) (known : Known) (tr tr' : List Rec) (i x : ℕ) (homes' : Lying) (keeper' : ℕ → ℕ) (ended' : ℕ → Bool)
       → get_elem? s.views id ≡ some (one known (part k tr)) → length homes' ≡ length s.homes

@@ -6,7 +6,7 @@ use Rattle.std.proofs.lemmas.Bool.{cases_eq, cases_lt}
 use mathlib.Core.Path.{fun_ext}
 use lib.ListN.{get_elem?}
 use Rattle.atomic_table.specs.Table.{Final, Seen, Me}
-use Rattle.word_rule.specs.Kept.{Kept}
+use Rattle.word_rule.specs.WordsHold.{WordsHold}
 use Rattle.word_steps.specs.Decode.{Homes}
 use Rattle.word_steps.specs.Folds.{body_held}
 use Rattle.word_steps.specs.Records.{Rec}
@@ -91,9 +91,9 @@ module _ {B : Type 0} (lasting : B → List ℕ) (ended_of : B → Bool) (key : 
         | inr far ↦ r.bare q far ∙ sym (no_trace seats r.trace r.owner id tokens q far fits)
       ]) in
       let homes : Homes = homes_of s.homes r.ended in
-      let kept : Kept key.shape (words_of words) homes (traces_of tokens) =
-      subst (λ (z : List ℕ). Kept key.shape (words_of z) homes (traces_of tokens)) final.2
-      (subst (Kept key.shape (words_of s.words) homes) traces r.inv) in
+      let kept : WordsHold key.shape (words_of words) homes (traces_of tokens) =
+      subst (λ (z : List ℕ). WordsHold key.shape (words_of z) homes (traces_of tokens)) final.2
+      (subst (WordsHold key.shape (words_of s.words) homes) traces r.inv) in
       let room = room_there key.shape.tasks (get_elem? s.homes (SLOTS * rows_of key.shape)) r.room in
       record {
         homes = homes;

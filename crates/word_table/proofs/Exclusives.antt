@@ -7,7 +7,7 @@ use mathlib.Core.Option as maybe
 use lib.ListN.{get_elem?}
 use Rattle.atomic_table.proofs.Lists.{at_set}
 use Rattle.core_data.specs.Entries.{has_entry}
-use Rattle.core_data.specs.Table.{put}
+use Rattle.core_data.specs.Columns.{put}
 use Rattle.core_data.specs.declared.values.WaitEntry.{WaitEntry}
 use Rattle.core_stores.proofs.Columns.{put_there, put_other}
 use Rattle.word_steps.specs.Exclusives.{exclusive_entry}

@@ -11,7 +11,7 @@ use mathlib.Core.Option.{none, some}
 use mathlib.Core.Option as maybe
 use mathlib.Core.Path.{fun_ext}
 use lib.ListN.{get_elem?}
-use Rattle.core_data.specs.Table.{put_at}
+use Rattle.core_data.specs.Columns.{put_at}
 use Rattle.handoff_data.specs.declared.mask.CpuMask.{CpuMask}
 use Rattle.handoff_data.specs.declared.shape.Shape.{Shape}
 use Rattle.word_steps.proofs.FlatWords.{words_of-set}

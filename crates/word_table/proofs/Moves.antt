@@ -8,13 +8,13 @@ use lib.Seq.{set-get_or}
 use prog.Atomic.{either}
 use Rattle.atomic_table.specs.Table.{step, Act, keeps, takes, gives, Valid, carried_after, stepped, Allows}
 use Rattle.atomic_table.proofs.Lists.{set_again, exchanged}
-use Rattle.core_data.specs.Table.{put}
+use Rattle.core_data.specs.Columns.{put}
 use Rattle.core_stores.proofs.Columns.{put_there, put_other}
 use Rattle.handoff_data.specs.declared.shape.Shape.{Shape}
 use Rattle.word_rule.proofs.BodyLaws.{take_body_law, return_body_law}
 use Rattle.word_rule.proofs.LockLaws.{home_there, take_law, give_law}
 use Rattle.word_rule.proofs.Taken.{take_told}
-use Rattle.word_rule.specs.Kept.{Kept}
+use Rattle.word_rule.specs.WordsHold.{WordsHold}
 use Rattle.word_rule.specs.May.{MayGive, MayTakeBody, MayReturnBody}
 use Rattle.word_rule.specs.Told.{TakeTold}
 use Rattle.word_rule.specs.Sorts.{Sort, OfTask, OfQueue, OfWorks, OfWait, lock_of, count_of, held_of, IsOf, with_home}
@@ -119,7 +119,7 @@ module _ {B : Type 0} (lasting : B → List ℕ) (ended_of : B → Bool) (key : 
         let kept = keep key.shape (words_of s.words) homes r.trace k n y r.inv m.near lt (subst (λ (z : ℕ × List Rec). may key.shape k z.1 n z.0 y) (λ j. (sym is j, m.trace_is j)) ok) in
         let shown = words_of-set s.words n col y low (in_words s r n col row low) in (
           steady lasting ended_of key s r id k known tr (note k tr n y x ∷ tr) (word_at n col) y at (quiet_out (note k tr n y x) tr (quiet k tr n y x)) (tells_more (note k tr n y x) tr)
-              (subst (λ (z : (ℕ → ℕ → ℕ) × List Rec × ℕ). Kept key.shape z.0 homes (put r.trace k (note k z.1 n y z.2 ∷ z.1))) (λ j. (sym shown j, sym m.trace_is j, is j)) kept.0),
+              (subst (λ (z : (ℕ → ℕ → ℕ) × List Rec × ℕ). WordsHold key.shape z.0 homes (put r.trace k (note k z.1 n y z.2 ∷ z.1))) (λ j. (sym shown j, sym m.trace_is j, is j)) kept.0),
           subst (λ (z : Known × List Rec × ℕ). told z.0.shape k z.1 n z.2)
               (λ j. (sym m.known_is j, sym m.trace_is j, is j)) kept.1,
         )
@@ -198,7 +198,7 @@ module _ {B : Type 0} (lasting : B → List ℕ) (ended_of : B → Bool) (key : 
         lies,
         ups lasting ended_of key s r id k known tr (Took n v ∷ tr) j i (suc k) at room (before_room n (slot_of sort) row (low_slot sort)) (took_else sort n v there.2 tr)
             (λ q near out. at_home s r j q (Held v) lies near out) (tells_more (Took n v) tr)
-            (subst (λ (z : (ℕ → ℕ → ℕ) × Homes × List Rec). Kept key.shape z.0 z.1 (put r.trace k (Took n v ∷ z.2)))
+            (subst (λ (z : (ℕ → ℕ → ℕ) × Homes × List Rec). WordsHold key.shape z.0 z.1 (put r.trace k (Took n v ∷ z.2)))
             (λ h. (sym (words_of-set s.words n (lock_of sort) (suc k) (lock_low sort) (in_words s r n (lock_of sort) row (lock_low sort))) h, sym (without_shown s.homes r.ended sort n room) h, sym m.trace_is h))
             (take_law sort key.shape (words_of s.words) homes r.trace k n v r.inv m.near lt free there.1)),
         λ u same. let e : n ≡ u = omega (arith, same) in ((λ _. (v, there.2, tells u e, ap (λ (z : ℕ). lift (slot_at z (slot_of sort)) (Held v) (push (Took z v) (sat known k tr))) e)), λ miss. absurd (miss hit)),
@@ -222,7 +222,7 @@ module _ {B : Type 0} (lasting : B → List ℕ) (ended_of : B → Bool) (key : 
         downs lasting ended_of key s r id k known tr (Gave n v w ∷ tr) j i 0 (Held w) r.ended at room (before_room n (slot_of sort) row (low_slot sort)) (gave_else sort n v of w tr)
             (held_out sort tr n v has) (gave_back sort n v of w tr) (λ u b e d. let no : Held w ≡ Body b = d in cc) (λ u ne. refl) (tells_more (Gave n v w) tr)
             (λ l u es e d has. let x : Slot B = Held w in let y : Slot B = Held (val.Wait es) in let f : x ≡ y = d in let w' : w ≡ val.Wait es = cc in given_told n v w tr sort l u es e w' has)
-            (subst (λ (z : (ℕ → ℕ → ℕ) × Homes × List Rec). Kept key.shape z.0 z.1 (put r.trace k (Gave n v w ∷ z.2)))
+            (subst (λ (z : (ℕ → ℕ → ℕ) × Homes × List Rec). WordsHold key.shape z.0 z.1 (put r.trace k (Gave n v w ∷ z.2)))
             (λ h. (sym (words_of-set s.words n (lock_of sort) 0 (lock_low sort) (in_words s r n (lock_of sort) row (lock_low sort))) h, sym shown h, sym m.trace_is h))
             (give_law sort key.shape (words_of s.words) homes r.trace k n v w r.inv m.near lt (ap (λ (z : List Rec). held_of sort z n) (sym m.trace_is) ∙ has) (subst (λ (z : List Rec). MayGive k z key.shape sort n w) m.trace_is may))),
         λ u v' w' same has' holds. let e : n ≡ u = omega (arith, same) in
@@ -247,7 +247,7 @@ module _ {B : Type 0} (lasting : B → List ℕ) (ended_of : B → Bool) (key : 
         there.1,
         ups lasting ended_of key s r id k known tr (OutBody t (ended_of b) ∷ tr) j i (get_or s.words i 0) at room (before_room t BODY_SLOT row (omega arith)) (left_else t (ended_of b) tr may.home)
             (λ q near out. at_home s r j q (Body b) there.1 near out) (tells_more (OutBody t (ended_of b)) tr)
-            (subst (λ (z : List ℕ × Homes × List Rec × Bool). Kept key.shape (words_of z.0) z.1 (put r.trace k (OutBody t z.3 ∷ z.2)))
+            (subst (λ (z : List ℕ × Homes × List Rec × Bool). WordsHold key.shape (words_of z.0) z.1 (put r.trace k (OutBody t z.3 ∷ z.2)))
             (λ h. (sym (set-get_or s.words i 0) h, sym (body_shown s.homes r.ended t none room) h, sym m.trace_is h, sym is.ends h)) law.1),
         λ u same. let e : t ≡ u = omega (arith, same) in (
           b,
@@ -275,7 +275,7 @@ module _ {B : Type 0} (lasting : B → List ℕ) (ended_of : B → Bool) (key : 
             (λ u c e d. let e' : t ≡ u = omega (arith, e) in let d' : b ≡ c = cc in subst (λ (z : ℕ × B). IsBody lasting key ended_of ended' z.0 z.1) (λ h. (e' h, d' h)) record { lasts = lasts; ends = sym (put_there r.ended t (ended_of b) t refl) })
             (λ u ne. sym (put_other r.ended t (ended_of b) u (λ e. ne (omega (arith, e)))))
             (tells_more (HomeBody t (ended_of b)) tr) (λ l u es e d has. let no : Body b ≡ Held (val.Wait es) = d in cc)
-            (subst (λ (z : List ℕ × Homes × List Rec). Kept key.shape (words_of z.0) z.1 (put r.trace k (HomeBody t (ended_of b) ∷ z.2)))
+            (subst (λ (z : List ℕ × Homes × List Rec). WordsHold key.shape (words_of z.0) z.1 (put r.trace k (HomeBody t (ended_of b) ∷ z.2)))
             (λ h. (sym (set-get_or s.words i 0) h, sym (body_shown s.homes ended' t (some (Body b)) room) h, sym m.trace_is h)) law.1),
         λ u c same holds. let e : t ≡ u = omega (arith, same) in let d : Body b ≡ Body c = ap (λ (z : List (ℕ × Slot B)). slot_in z) holds in
             let d' : b ≡ c = cc in

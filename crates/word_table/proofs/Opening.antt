@@ -18,7 +18,7 @@ use Rattle.handoff_data.specs.declared.mask.CpuMask.{CpuMask}
 use Rattle.handoff_data.specs.declared.shape.Shape.{Shape}
 use Rattle.core_data.specs.Entries.{has_entry}
 use Rattle.word_rule.proofs.BodyLaws.{start_law}
-use Rattle.word_rule.specs.Kept.{Kept}
+use Rattle.word_rule.specs.WordsHold.{WordsHold}
 use Rattle.word_steps.specs.Opening.{first_words, first_homes, first_val}
 use Rattle.word_steps.specs.Decode.{Homes}
 use Rattle.word_steps.specs.Words.{STRIDE, words_of}
@@ -192,8 +192,8 @@ module _ {B : Type 0} (lasting : B → List ℕ) (ended_of : B → Bool) (key : 
           lasts = sym (read_at (map lasting bodies) t (lasting b) [] (at_map lasting bodies t b is));
           ends = sym (read_at (map ended_of bodies) t (ended_of b) false (at_map ended_of bodies t b is));
         };
-        inv = subst (λ (z : ℕ → ℕ → ℕ). Kept key.shape z (homes_of (map some slots) ended) (λ q. [])) (sym words_are)
-            (subst (λ z. Kept key.shape (first_words key.shape) z (λ q. [])) (sym (homes_are key.shape mask bodies slots laid ended count)) (start_law key.shape mask ended is_shape all));
+        inv = subst (λ (z : ℕ → ℕ → ℕ). WordsHold key.shape z (homes_of (map some slots) ended) (λ q. [])) (sym words_are)
+            (subst (λ z. WordsHold key.shape (first_words key.shape) z (λ q. [])) (sym (homes_are key.shape mask bodies slots laid ended count)) (start_law key.shape mask ended is_shape all));
         exclusives = λ k t entries home has.
             let first = sym (ap (λ (z : Homes). z.wait k) (homes_are key.shape mask bodies slots laid ended count)) ∙ home in
             let no : false ≡ true = subst (λ z. has_entry z (exclusive_entry t) ≡ true) (first_empty (nat_lt k key.shape.conds) entries first) has in cc;

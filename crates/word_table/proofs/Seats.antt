@@ -5,7 +5,7 @@ use native.Mathlib.Decide.{ℕ_discrete}
 use lib.ListN.{get_elem?}
 use Rattle.atomic_table.specs.Table.{State, Splits, Joins, Enters, step}
 use Rattle.atomic_table.proofs.Lists.{at_set, set_else}
-use Rattle.core_data.specs.Table.{put}
+use Rattle.core_data.specs.Columns.{put}
 use Rattle.core_stores.proofs.Columns.{put_there, put_other}
 use Rattle.word_steps.specs.Records.{Rec}
 use Rattle.word_table.specs.Parts.{Part, Known}

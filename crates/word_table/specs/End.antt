@@ -7,7 +7,7 @@ use mathlib.Core.Option.{some}
 use lib.ListN.{get_elem?}
 use Rattle.handoff_data.specs.declared.shape.Shape.{Shape}
 use Rattle.handoff_data.specs.declared.state.State.{State}
-use Rattle.word_rule.specs.Kept.{Kept}
+use Rattle.word_rule.specs.WordsHold.{WordsHold}
 use Rattle.word_steps.specs.Decode.{Homes}
 use Rattle.word_steps.specs.Folds.{task_held, queue_held, works_held, wait_held, body_held, current_task, task_to_clear}
 use Rattle.word_steps.specs.Records.{Rec}
@@ -64,7 +64,7 @@ pub record IsLeft
     (slots : List (Slot B))
     : Type 0 where
   pub homes : Homes
-  pub kept : Kept key.shape (words_of words) homes (traces_of tokens)
+  pub kept : WordsHold key.shape (words_of words) homes (traces_of tokens)
   pub exclusives : ExclusivesTold (traces_of tokens) homes.wait
   pub room : (v : Vec B Global) × (get_elem? slots (SLOTS * rows_of key.shape) ≡ some (Room v)) × HasRoom key.shape.tasks v
   pub bodies :
@@ -84,7 +84,7 @@ pub record IsEnd
     : Type 0 where
   pub words : ℕ → ℕ → ℕ
   pub homes : Homes
-  pub kept : Kept shape words homes (traces_of tokens)
+  pub kept : WordsHold shape words homes (traces_of tokens)
   pub exclusives : ExclusivesTold (traces_of tokens) homes.wait
   pub state : (t : ℕ) → t < shape.tasks → slice_get states t ≡ Some (record { 0 = words t STATE })
   pub cond : (k : ℕ) → k < shape.conds → slice_get conds k ≡ Some (words k COND)

@@ -1,9 +1,9 @@
 -- What a kind of step on one word shows of itself: that it leaves the slots alone, that each step of it is an event of
 -- the core, and that it keeps the rule.
 use Rattle.std.specs.Prelude.{ℕ, ◌+◌, ◌<◌, List, ◌∷◌}
-use Rattle.core_data.specs.Table.{put, put_at}
+use Rattle.core_data.specs.Columns.{put, put_at}
 use Rattle.handoff_data.specs.declared.shape.Shape.{Shape}
-use Rattle.word_rule.specs.Kept.{Kept}
+use Rattle.word_rule.specs.WordsHold.{WordsHold}
 use Rattle.word_steps.specs.Decode.{Homes}
 use Rattle.word_steps.specs.Events.{IsEvent}
 use Rattle.word_steps.specs.Records.{Rec}
@@ -30,7 +30,7 @@ LeavesSlots note = (s : ℕ) (trace : List Rec) (n y x : ℕ) → IsQuiet (note 
 abbrev pub MakesEvents : ℕ → (Shape → ℕ) → Note → May → Type 0
 MakesEvents col bound note may =
     (shape : Shape) (words : ℕ → ℕ → ℕ) (homes : Homes) (traces : ℕ → List Rec) (s n y : ℕ)
-    → Kept shape words homes traces → s < shape.cpus + shape.agents → n < bound shape
+    → WordsHold shape words homes traces → s < shape.cpus + shape.agents → n < bound shape
     → may shape s (traces s) n (words n col) y
     → IsEvent shape words homes traces s (note s (traces s) n y (words n col)) (put_at words n col y) homes
 
@@ -38,5 +38,5 @@ MakesEvents col bound note may =
 abbrev pub KeepsRule : ℕ → (Shape → ℕ) → Note → May → Told → Type 0
 KeepsRule col bound note may told =
     (shape : Shape) (words : ℕ → ℕ → ℕ) (homes : Homes) (traces : ℕ → List Rec) (s n y : ℕ)
-    → Kept shape words homes traces → s < shape.cpus + shape.agents → n < bound shape → may shape s (traces s) n (words n col) y
-    → Kept shape (put_at words n col y) homes (put traces s (note s (traces s) n y (words n col) ∷ traces s)) × told shape s (traces s) n (words n col)
+    → WordsHold shape words homes traces → s < shape.cpus + shape.agents → n < bound shape → may shape s (traces s) n (words n col) y
+    → WordsHold shape (put_at words n col y) homes (put traces s (note s (traces s) n y (words n col) ∷ traces s)) × told shape s (traces s) n (words n col)

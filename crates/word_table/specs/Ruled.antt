@@ -9,7 +9,7 @@ use Rattle.core_data.specs.Queue.{Queue}
 use Rattle.core_data.specs.declared.values.TaskVal.{TaskVal}
 use Rattle.core_data.specs.declared.values.WaitEntry.{WaitEntry}
 use Rattle.core_data.specs.declared.values.WorkItem.{WorkItem}
-use Rattle.word_rule.specs.Kept.{Kept}
+use Rattle.word_rule.specs.WordsHold.{WordsHold}
 use Rattle.word_rule.specs.Sorts.{OfTask, OfQueue, OfWorks, OfWait}
 use Rattle.word_steps.specs.Decode.{Homes}
 use Rattle.word_steps.specs.Records.{Rec}
@@ -128,7 +128,7 @@ module _ {B : Type 0} (lasting : B → List ℕ) where
           × ((v.known ≡ known_of key) ⊎ (v.parts ≡ []))
       pub slots : (i q : ℕ) → q < key.shape.cpus + key.shape.agents → has_out i (trace q) ≡ true → SlotOut s.homes keeper i q
       pub bodies : (t : ℕ) (b : B) → get_elem? s.homes (slot_at t BODY_SLOT) ≡ some (some (Body b)) → IsBody key ended_of ended t b
-      pub inv : Kept key.shape (words_of s.words) (homes_of s.homes ended) trace
+      pub inv : WordsHold key.shape (words_of s.words) (homes_of s.homes ended) trace
       pub exclusives : ExclusivesTold trace (homes_of s.homes ended).wait
 
 -- parts with empty traces, numbered from k on

@@ -29,6 +29,7 @@ pub use close::Closed;
 pub use gathered::Gathered;
 pub use handoff_data::Kept;
 pub use kind::Kind;
+pub use layout::{BUSY, COND, COUNT, CPU, RQ, STATE};
 pub use lock::{Lock, QueueLock, TaskLock, WaitLock, WorksLock};
 pub use resting::rest;
 pub use steps::{exchange, fetch_add, load, peek, store};

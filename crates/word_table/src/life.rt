@@ -22,7 +22,7 @@ use crate::view::View;
 use crate::words::Words;
 use atomic_table::{Refused, Seat, Table};
 use core_data::TaskVal;
-use handoff_data::{CpuMask, Kept, NoMemory, Shape};
+use handoff_data::{CpuMask, Kept, NoMemory, Shape, State};
 use std::alloc::Global;
 use std::snapshot::Snapshot;
 use word_steps::{QueueBox, TaskBox, Val, WaitQueue, WorksBox};
@@ -36,7 +36,7 @@ fn first_words(alloc: Global, shape: &Shape, rows: u32) -> Result<Vec<u64>, NoMe
 {
     let mut words = Vec::from_elem(alloc, 0u64, STRIDE * rows as usize)?;
     for t in 0..shape.tasks as usize {
-        words[STRIDE * t + STATE] = 0x800;
+        words[STRIDE * t + STATE] = State::TASK_NEW.0 as u64;
     }
     for c in 0..shape.cpus as usize {
         words[STRIDE * c + ACTIVE] = 1;

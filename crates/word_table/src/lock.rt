@@ -3,6 +3,8 @@ ghost use Rattle.std.specs.Prelude.{◌≡◌};
 ghost use Rattle.word_rule.specs.Sorts.{Sort, lock_of};
 ghost use Rattle.word_table.specs.Layout.{slot_of};
 
+use crate::layout;
+
 /// A sort of lock.
 pub trait Lock {
     ghost sort: { Sort };
@@ -25,7 +27,7 @@ impl Lock for TaskLock {
     ghost sort = { OfTask };
 
     fn column() -> usize {
-        8
+        layout::LOCK
     }
 
     fn slot() -> usize {
@@ -42,7 +44,7 @@ impl Lock for QueueLock {
     ghost sort = { OfQueue };
 
     fn column() -> usize {
-        24
+        layout::QUEUE_LOCK
     }
 
     fn slot() -> usize {
@@ -59,7 +61,7 @@ impl Lock for WorksLock {
     ghost sort = { OfWorks };
 
     fn column() -> usize {
-        25
+        layout::WORKS_LOCK
     }
 
     fn slot() -> usize {
@@ -76,7 +78,7 @@ impl Lock for WaitLock {
     ghost sort = { OfWait };
 
     fn column() -> usize {
-        40
+        layout::WAIT_LOCK
     }
 
     fn slot() -> usize {

@@ -16,7 +16,7 @@ use handoff_data::State;
 use step_data::pos::is_since;
 
 /// What a seat has as the test of a task at a condition, if it has one.
-fn test_of(pos: &Pos, t: u32, k: u32) -> Option<u64> {
+fn tested_of(pos: &Pos, t: u32, k: u32) -> Option<u64> {
     for test in pos.tests.as_slice() {
         if test.t == t && test.k == k {
             return Some(test.v);
@@ -31,7 +31,7 @@ fn sleeps_at(pos: &Pos, t: u32, k: u32) -> bool {
 }
 
 /// What a seat read last of a task, if anything.
-fn reads_of(pos: &Pos, t: u32) -> Option<TaskReads> {
+fn last_reads_of(pos: &Pos, t: u32) -> Option<TaskReads> {
     for reads in pos.reads.as_slice() {
         if reads.t == t {
             return Some(*reads);
@@ -98,16 +98,16 @@ pub fn is_so(core: &Core, line: &[Word<'_>]) -> bool {
     };
     let pos = &words.pos;
     match (*verb, said) {
-        ("tested", [Number(t), Number(k), Number(v)]) => test_of(pos, *t, *k)
+        ("tested", [Number(t), Number(k), Number(v)]) => tested_of(pos, *t, *k)
             == Some(u64::from(*v)),
-        ("untested", [Number(t), Number(k)]) => test_of(pos, *t, *k).is_none(),
+        ("untested", [Number(t), Number(k)]) => tested_of(pos, *t, *k).is_none(),
         ("asleep", [Number(t), Number(k)]) => sleeps_at(pos, *t, *k),
         ("awake", [Number(t), Number(k)]) => !sleeps_at(pos, *t, *k),
-        ("read", [Number(t), rest @ ..]) => match reads_of(pos, *t) {
+        ("read", [Number(t), rest @ ..]) => match last_reads_of(pos, *t) {
             Some(reads) => is_read(&reads, rest),
             None => false,
         },
-        ("unread", [Number(t), Name(name)]) => is_unread(reads_of(pos, *t), name),
+        ("unread", [Number(t), Name(name)]) => is_unread(last_reads_of(pos, *t), name),
         ("seen", [Name(name)]) => is_state(pos.seen, name),
         ("level", [Number(level)]) => pos.level_known == Some(*level),
         ("level", [Name("-")]) => pos.level_known.is_none(),

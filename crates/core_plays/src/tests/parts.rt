@@ -25,20 +25,20 @@ pub fn part(name: &str) -> Option<&'static str> {
 /// Seat 0 starts task 0 on its own processor.
 const START_0: &str = "
     0 take_task 0 ;
-    0 store_running 0 ;
+    0 make_runnable 0 ;
     0 store_cpu 0 0 ;
     0 take_queue 0 ;
-    0 store_rq_on 0 0 ;
+    0 queue_task 0 0 ;
     0 give_queue 0 cur - left - waiting 0 ;
     0 give_task 0";
 
 /// The agent starts task 1 on processor 0, where task 0 waits.
 const START_1: &str = "
     2 take_task 1 ;
-    2 store_running 1 ;
+    2 make_runnable 1 ;
     2 store_cpu 1 0 ;
     2 take_queue 0 ;
-    2 store_rq_on 0 1 ;
+    2 queue_task 0 1 ;
     2 give_queue 0 cur - left - waiting 0 1 ;
     2 give_task 1 wake_cpu 1";
 
@@ -58,7 +58,7 @@ const PICK_0_OF_TWO: &str = "
 /// tests the condition.
 const PREPARE_0: &str = "
     0 take_wait 0 ;
-    0 own_state 0 TASK_INTERRUPTIBLE ;
+    0 set_state 0 TASK_INTERRUPTIBLE ;
     0 give_wait 0 plain 0 ;
     0 load_cond 0";
 
@@ -66,7 +66,7 @@ const PREPARE_0: &str = "
 const LEAVE_0: &str = "
     0 take_queue 0 ;
     0 load_state 0 - ;
-    0 store_rq_off 0 0 ;
+    0 dequeue_task 0 0 ;
     0 give_queue 0 cur - left 0 waiting";
 
 /// Seat 1 claims task 0, which sleeps.
@@ -74,7 +74,7 @@ const CLAIM_0: &str = "
     1 take_task 0 ;
     1 load_state 0 TASK_NORMAL ;
     1 load_rq 0 ;
-    1 store_waking 0";
+    1 claim_task 0";
 
 /// Seat 1 queues task 0, which it has claimed, on processor 0.
 const ENQUEUE_0: &str = "
@@ -82,8 +82,8 @@ const ENQUEUE_0: &str = "
     1 load_cpu 0 ;
     1 store_cpu 0 0 ;
     1 take_queue 0 ;
-    1 store_rq_on 0 0 ;
-    1 store_running 0 ;
+    1 queue_task 0 0 ;
+    1 make_runnable 0 ;
     1 give_queue 0 cur - left 0 waiting 0 ;
     1 give_task 0";
 
@@ -98,7 +98,7 @@ const END_0: &str = "
     0 body_out 0 ;
     0 body_home 0 ended ;
     0 take_task 0 ;
-    0 own_state 0 TASK_DEAD ;
+    0 set_state 0 TASK_DEAD ;
     0 give_task 0";
 
 /// The agent moves task 0, which waits on processor 0, to processor 1.
@@ -106,11 +106,11 @@ const MOVE_0: &str = "
     2 take_task 0 ;
     2 take_queue 0 ;
     2 load_busy 0 ;
-    2 store_rq_moving 0 0 cur - left - waiting 0 ;
+    2 move_task 0 0 cur - left - waiting 0 ;
     2 give_queue 0 cur - left - waiting ;
     2 store_cpu 0 1 ;
     2 take_queue 1 ;
-    2 store_rq_on 1 0 ;
+    2 queue_task 1 0 ;
     2 give_queue 1 cur - left - waiting 0 ;
     2 give_task 0 wake_cpu 1";
 
@@ -121,13 +121,13 @@ const WALK_AND_WAKE_0: &str = "
     2 take_task 0 ;
     2 load_state 0 TASK_NORMAL ;
     2 load_rq 0 ;
-    2 store_waking 0 ;
+    2 claim_task 0 ;
     2 load_busy 0 ;
     2 load_cpu 0 ;
     2 store_cpu 0 0 ;
     2 take_queue 0 ;
-    2 store_rq_on 0 0 ;
-    2 store_running 0 ;
+    2 queue_task 0 0 ;
+    2 make_runnable 0 ;
     2 give_queue 0 cur - left 0 waiting 0 ;
     2 give_task 0 ;
     2 give_wait 0 plain 0";

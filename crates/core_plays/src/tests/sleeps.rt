@@ -31,8 +31,8 @@ fn a_test_is_of_this_sleep(rt: HostRuntime) -> Result<(), Fail> {
         0 take_wait 0 ; 0 give_wait 0 nobody ; awake 0 0 0 ;
 
         opening ;
-        start_0 ; pick_0 ; prepare_0 ; 0 own_state 0 TASK_RUNNING ; tested 0 0 0 0 ; asleep 0 0 0 ;
-        0 own_state 0 TASK_INTERRUPTIBLE ; untested 0 0 0 ; awake 0 0 0 ; 0 load_cond 0 ; tested 0 0 0 0 ;
+        start_0 ; pick_0 ; prepare_0 ; 0 set_state 0 TASK_RUNNING ; tested 0 0 0 0 ; asleep 0 0 0 ;
+        0 set_state 0 TASK_INTERRUPTIBLE ; untested 0 0 0 ; awake 0 0 0 ; 0 load_cond 0 ; tested 0 0 0 0 ;
 
         opening ;
         start_0 ; pick_0 ; prepare_0 ; leave_0 ; clear_0 ; claim_0 ; enqueue_0 ; tested 0 0 0 0 ; asleep 0 0 0 ;
@@ -48,7 +48,7 @@ fn a_task_sleeps_uninterruptibly(rt: HostRuntime) -> Result<(), Fail> {
         &rt,
         "
         start_0 ; pick_0 ;
-        0 take_wait 0 ; 0 own_state 0 TASK_UNINTERRUPTIBLE ; 0 give_wait 0 plain 0 ; 0 load_cond 0 ;
+        0 take_wait 0 ; 0 set_state 0 TASK_UNINTERRUPTIBLE ; 0 give_wait 0 plain 0 ; 0 load_cond 0 ;
         tested 0 0 0 0 ; asleep 0 0 0 ;
         leave_0 ; clear_0 ; claim_0 ; enqueue_0 ; pick_0_again ; finish_0 ;
         journal 0 new 0 1 0 , pick 0 1 0 , sleep 0 2 0 , finish 0 2 0 , pick 0 3 0 ;
@@ -65,19 +65,19 @@ fn a_mask_matches_by_its_bits(rt: HostRuntime) -> Result<(), Fail> {
         &rt,
         "
         start_0 ; pick_0 ;
-        0 take_wait 0 ; 0 own_state 0 TASK_UNINTERRUPTIBLE ; 0 give_wait 0 plain 0 ; 0 load_cond 0 ; leave_0 ;
+        0 take_wait 0 ; 0 set_state 0 TASK_UNINTERRUPTIBLE ; 0 give_wait 0 plain 0 ; 0 load_cond 0 ; leave_0 ;
         clear_0 ;
         1 take_task 0 ; 1 load_state 0 TASK_WAKEKILL ; 1 load_rq 0 ;
-        not 1 store_waking 0 -- no state that matches TASK_WAKEKILL ;
+        not 1 claim_task 0 -- no state that matches TASK_WAKEKILL ;
         1 load_state 0 TASK_INTERRUPTIBLE ; 1 load_rq 0 ;
-        not 1 store_waking 0 -- no state that matches TASK_INTERRUPTIBLE ;
-        1 load_state 0 TASK_KILLABLE ; 1 load_rq 0 ; 1 store_waking 0 ;
+        not 1 claim_task 0 -- no state that matches TASK_INTERRUPTIBLE ;
+        1 load_state 0 TASK_KILLABLE ; 1 load_rq 0 ; 1 claim_task 0 ;
         journal 1 refused 0 TASK_UNINTERRUPTIBLE , refused 0 TASK_UNINTERRUPTIBLE , wake 0 2 ;
 
         opening ;
         start_0 ; pick_0 ; prepare_0 ; leave_0 ; clear_0 ;
         1 take_task 0 ; 1 load_state 0 TASK_KILLABLE ; 1 load_rq 0 ;
-        not 1 store_waking 0 -- no state that matches TASK_KILLABLE ;
+        not 1 claim_task 0 -- no state that matches TASK_KILLABLE ;
         journal 1 refused 0 TASK_INTERRUPTIBLE ;
 
         opening ;
@@ -97,13 +97,13 @@ fn a_sleeper_that_was_woken_for_another_wait_tests_again(rt: HostRuntime) -> Res
         "
         start_0 ; pick_0 ; prepare_0 ;
         1 take_task 0 ; 1 load_state 0 TASK_NORMAL ; 1 load_rq 0 ;
-        0 load_cond 0 ; 0 own_state 0 TASK_RUNNING ; 0 take_wait 0 ; 0 give_wait 0 nobody ; awake 0 0 0 ;
-        0 take_wait 1 ; 0 own_state 0 TASK_INTERRUPTIBLE ; 0 give_wait 1 plain 0 ; asleep 0 0 1 ;
-        1 take_queue 0 ; 1 store_running 0 ; 1 give_queue 0 cur 0 left - waiting ; 1 give_task 0 ;
+        0 load_cond 0 ; 0 set_state 0 TASK_RUNNING ; 0 take_wait 0 ; 0 give_wait 0 nobody ; awake 0 0 0 ;
+        0 take_wait 1 ; 0 set_state 0 TASK_INTERRUPTIBLE ; 0 give_wait 1 plain 0 ; asleep 0 0 1 ;
+        1 take_queue 0 ; 1 make_runnable 0 ; 1 give_queue 0 cur 0 left - waiting ; 1 give_task 0 ;
         0 load_cond 1 ; tested 0 0 1 0 ; 0 take_queue 0 ; 0 load_state 0 - ; seen 0 TASK_RUNNING ;
-        not 0 store_rq_off 0 0 -- it finds itself runnable ;
+        not 0 dequeue_task 0 0 -- it finds itself runnable ;
         0 give_queue 0 cur 0 left - waiting ;
-        0 take_wait 1 ; 0 own_state 0 TASK_INTERRUPTIBLE ; 0 give_wait 1 plain 0 ; untested 0 0 1 ; asleep 0 0 1 ;
+        0 take_wait 1 ; 0 set_state 0 TASK_INTERRUPTIBLE ; 0 give_wait 1 plain 0 ; untested 0 0 1 ; asleep 0 0 1 ;
         0 load_cond 1 ; tested 0 0 1 0 ;
         journal 1 ;
         ",

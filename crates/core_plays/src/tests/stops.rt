@@ -45,10 +45,10 @@ fn nothing_without_its_lock(rt: HostRuntime) -> Result<(), Fail> {
         not 0 give_queue 0 cur - left - waiting -- a queue given ;
         not 0 give_wait 0 nobody -- a wait queue given ;
         not 0 give_works 0 nothing -- works given ;
-        not 0 store_running 0 -- TASK_RUNNING of a new task ;
+        not 0 make_runnable 0 -- TASK_RUNNING of a new task ;
         not 0 store_cpu 0 1 -- the processor of a new task ;
         0 take_task 0 ;
-        not 0 store_rq_on 0 0 -- queued without the lock of the queue ;
+        not 0 queue_task 0 0 -- queued without the lock of the queue ;
         0 take_queue 0 ;
         0 take_wait 0 ;
         0 take_works 0 ;
@@ -64,7 +64,7 @@ fn nothing_without_its_lock(rt: HostRuntime) -> Result<(), Fail> {
 
         opening ;
         0 take_queue 0 ;
-        not 0 store_rq_on 0 0 -- queued without the lock of the task ;
+        not 0 queue_task 0 0 -- queued without the lock of the task ;
         not 0 set_busy 0 0 cur 0 left - waiting -- picked before it was queued ;
 
         opening ;
@@ -92,8 +92,8 @@ fn a_task_is_given_as_it_was_taken(rt: HostRuntime) -> Result<(), Fail> {
         not 0 give_task 0 done -- Done ;
         not 0 store_cpu 0 2 -- a processor too many ;
         0 take_queue 1 ;
-        not 0 store_rq_on 1 0 -- queued on another processor than its own ;
-        0 store_running 0 ;
+        not 0 queue_task 1 0 -- queued on another processor than its own ;
+        0 make_runnable 0 ;
         not 0 give_task 0 -- never started, and not TASK_NEW ;
         ",
     )?;
@@ -105,12 +105,12 @@ fn a_queue_says_what_the_words_say(rt: HostRuntime) -> Result<(), Fail> {
     plays(
         &rt,
         "
-        0 take_task 0 ; 0 store_running 0 ; 0 store_cpu 0 0 ; 0 take_queue 0 ; 0 store_rq_on 0 0 ;
+        0 take_task 0 ; 0 make_runnable 0 ; 0 store_cpu 0 0 ; 0 take_queue 0 ; 0 queue_task 0 0 ;
         not 0 give_queue 0 cur - left - waiting -- a queued task left out ;
         not 0 give_queue 0 cur - left - waiting 0 1 -- a task that isn't queued ;
         not 0 give_queue 0 cur 0 left - waiting 0 -- a task twice ;
         not 0 give_queue 0 cur - left 2 waiting 0 -- a task too many was left ;
-        not 0 store_rq_moving 0 0 cur - left - waiting 0 -- moved before its busy word was read ;
+        not 0 move_task 0 0 cur - left - waiting 0 -- moved before its busy word was read ;
 
         opening ;
         start_0 ;
@@ -131,11 +131,11 @@ fn a_queue_says_what_the_words_say(rt: HostRuntime) -> Result<(), Fail> {
 
         opening ;
         start_0 ; pick_0 ; prepare_0 ; leave_0 ; clear_0 ; claim_0 ;
-        1 load_busy 0 ; 1 load_cpu 0 ; 1 store_cpu 0 0 ; 1 take_queue 0 ; 1 store_rq_on 0 0 ;
+        1 load_busy 0 ; 1 load_cpu 0 ; 1 store_cpu 0 0 ; 1 take_queue 0 ; 1 queue_task 0 0 ;
         not 1 give_queue 0 cur - left 0 waiting 0 -- a task that waits with TASK_WAKING ;
         not 1 store_cpu 0 1 -- placed once it is queued ;
         1 load_busy 0 ;
-        not 1 store_rq_moving 0 0 cur - left - waiting 0 -- moved with TASK_WAKING ;
+        not 1 move_task 0 0 cur - left - waiting 0 -- moved with TASK_WAKING ;
         ",
     )?;
     Ok(())
@@ -148,8 +148,8 @@ fn no_task_is_picked_that_may_not_run(rt: HostRuntime) -> Result<(), Fail> {
         &rt,
         "
         start_0 ; pick_0 ; prepare_0 ; leave_0 ; clear_0 ;
-        0 take_task 0 ; 0 load_state 0 TASK_NORMAL ; 0 load_rq 0 ; 0 store_waking 0 ;
-        0 load_busy 0 ; 0 take_queue 0 ; 0 store_rq_on 0 0 ;
+        0 take_task 0 ; 0 load_state 0 TASK_NORMAL ; 0 load_rq 0 ; 0 claim_task 0 ;
+        0 load_busy 0 ; 0 take_queue 0 ; 0 queue_task 0 0 ;
         not 0 set_busy 0 0 cur 0 left 0 waiting -- picked with TASK_WAKING ;
         not 0 give_queue 0 cur 0 left 0 waiting -- next with TASK_WAKING ;
 
@@ -202,21 +202,21 @@ fn a_task_stores_its_own_state(rt: HostRuntime) -> Result<(), Fail> {
         &rt,
         "
         start_0 ; pick_0 ;
-        not 1 own_state 0 TASK_INTERRUPTIBLE -- the task of another seat ;
-        not 0 own_state 0 TASK_WAKING -- TASK_WAKING ;
+        not 1 set_state 0 TASK_INTERRUPTIBLE -- the task of another seat ;
+        not 0 set_state 0 TASK_WAKING -- TASK_WAKING ;
         0 take_task 0 ;
-        not 0 own_state 0 TASK_DEAD -- dead before its body has ended ;
+        not 0 set_state 0 TASK_DEAD -- dead before its body has ended ;
 
         opening ;
         start_0 ; pick_0 ;
         0 body_out 0 ; 0 body_home 0 ended ;
-        not 0 own_state 0 TASK_DEAD -- dead without its lock ;
+        not 0 set_state 0 TASK_DEAD -- dead without its lock ;
 
         opening ;
         start_0 ; pick_0 ; prepare_0 ;
-        0 take_queue 0 ; 0 load_state 0 - ; 0 store_rq_off 0 0 ;
-        not 0 own_state 0 TASK_RUNNING -- a state after it left its queue ;
-        not 0 store_rq_off 0 0 -- off its queue twice ;
+        0 take_queue 0 ; 0 load_state 0 - ; 0 dequeue_task 0 0 ;
+        not 0 set_state 0 TASK_RUNNING -- a state after it left its queue ;
+        not 0 dequeue_task 0 0 -- off its queue twice ;
         ",
     )?;
     Ok(())
@@ -229,20 +229,20 @@ fn a_task_leaves_by_a_state_that_was_read(rt: HostRuntime) -> Result<(), Fail> {
         "
         start_0 ; pick_0 ; prepare_0 ;
         0 take_queue 0 ;
-        not 0 store_rq_off 0 0 -- no state read ;
+        not 0 dequeue_task 0 0 -- no state read ;
         0 load_state 0 - ;
-        0 own_state 0 TASK_RUNNING ;
-        not 0 store_rq_off 0 0 -- a state stored since ;
+        0 set_state 0 TASK_RUNNING ;
+        not 0 dequeue_task 0 0 -- a state stored since ;
 
         opening ;
         start_0 ; pick_0 ;
         0 take_queue 0 ; 0 load_state 0 - ;
-        not 0 store_rq_off 0 0 -- TASK_RUNNING read ;
+        not 0 dequeue_task 0 0 -- TASK_RUNNING read ;
 
         opening ;
         start_0 ; start_1 ; pick_0_of_two ; prepare_0 ;
         0 take_queue 0 ; 0 load_state 0 - ;
-        not 0 store_rq_off 0 1 -- another task by its state ;
+        not 0 dequeue_task 0 1 -- another task by its state ;
         ",
     )?;
     Ok(())
@@ -255,33 +255,33 @@ fn a_waker_claims_what_it_read_as_off(rt: HostRuntime) -> Result<(), Fail> {
         "
         start_0 ; pick_0 ; prepare_0 ; leave_0 ;
         1 take_task 0 ; 1 load_state 0 TASK_NORMAL ;
-        not 1 store_waking 0 -- on_rq not read ;
+        not 1 claim_task 0 -- on_rq not read ;
         1 load_rq 0 ;
         1 give_task 0 ;
-        not 1 store_waking 0 -- the lock was given ;
+        not 1 claim_task 0 -- the lock was given ;
 
         opening ;
         start_0 ; pick_0 ; prepare_0 ; leave_0 ;
         1 take_task 0 ; 1 load_state 0 - ; 1 load_rq 0 ;
-        not 1 store_waking 0 -- no state that matches a mask ;
+        not 1 claim_task 0 -- no state that matches a mask ;
 
         opening ;
         start_0 ; pick_0 ; prepare_0 ;
         1 take_task 0 ; 1 load_state 0 TASK_NORMAL ; 1 load_rq 0 ;
-        not 1 store_waking 0 -- read as queued ;
+        not 1 claim_task 0 -- read as queued ;
 
         opening ;
         start_0 ; pick_0 ; prepare_0 ; leave_0 ; claim_0 ;
-        not 1 store_waking 0 -- claimed twice ;
+        not 1 claim_task 0 -- claimed twice ;
         not 1 give_task 0 -- given on its way ;
         not 1 store_cpu 0 1 -- placed before it is clear ;
         1 load_busy 0 ; 1 take_queue 0 ;
-        not 1 store_rq_on 0 0 -- queued while it is busy ;
+        not 1 queue_task 0 0 -- queued while it is busy ;
 
         opening ;
         start_0 ; pick_0 ; prepare_0 ; leave_0 ; clear_0 ;
         1 take_task 0 ; 1 load_busy 0 ; 1 take_queue 0 ;
-        not 1 store_rq_on 0 0 -- queued without being claimed ;
+        not 1 queue_task 0 0 -- queued without being claimed ;
         not 1 store_cpu 0 1 -- placed without being claimed ;
         ",
     )?;
@@ -295,24 +295,24 @@ fn a_waker_stores_running_under_both_locks(rt: HostRuntime) -> Result<(), Fail> 
         "
         start_0 ; pick_0 ; prepare_0 ;
         1 take_task 0 ; 1 load_state 0 TASK_NORMAL ;
-        not 1 store_running 0 -- without the lock of the queue ;
+        not 1 make_runnable 0 -- without the lock of the queue ;
         1 give_task 0 ; 1 take_queue 0 ;
-        not 1 store_running 0 -- without the lock of the task ;
+        not 1 make_runnable 0 -- without the lock of the task ;
 
         opening ;
         start_0 ; pick_0 ; prepare_0 ;
         1 take_task 0 ; 1 take_queue 0 ;
-        not 1 store_running 0 -- without a state that matches ;
+        not 1 make_runnable 0 -- without a state that matches ;
 
         opening ;
         start_0 ; pick_0 ; prepare_0 ;
         0 take_task 0 ; 0 load_state 0 TASK_NORMAL ; 0 take_queue 0 ;
-        not 0 store_running 0 -- of its own current task ;
+        not 0 make_runnable 0 -- of its own current task ;
 
         opening ;
         start_0 ; pick_0 ; prepare_0 ; leave_0 ;
         1 take_task 0 ; 1 load_state 0 TASK_NORMAL ; 1 take_queue 0 ;
-        not 1 store_running 0 -- of a task that left its queue ;
+        not 1 make_runnable 0 -- of a task that left its queue ;
         ",
     )?;
     Ok(())
@@ -324,19 +324,19 @@ fn a_seat_stores_running_of_what_it_queued(rt: HostRuntime) -> Result<(), Fail> 
         &rt,
         "
         start_0 ;
-        not 0 store_running 0 -- once the queue is given ;
+        not 0 make_runnable 0 -- once the queue is given ;
         1 take_queue 0 ;
-        not 1 store_running 0 -- queued by another seat ;
+        not 1 make_runnable 0 -- queued by another seat ;
 
         opening ;
-        0 take_task 0 ; 0 store_running 0 ; 0 take_queue 0 ; 0 store_rq_on 0 0 ;
-        0 load_busy 0 ; 0 store_rq_moving 0 0 cur - left - waiting 0 ;
-        not 0 store_running 0 -- taken out since ;
+        0 take_task 0 ; 0 make_runnable 0 ; 0 take_queue 0 ; 0 queue_task 0 0 ;
+        0 load_busy 0 ; 0 move_task 0 0 cur - left - waiting 0 ;
+        not 0 make_runnable 0 -- taken out since ;
 
         opening ;
-        0 take_task 0 ; 0 store_running 0 ; 0 take_queue 0 ; 0 store_rq_on 0 0 ;
+        0 take_task 0 ; 0 make_runnable 0 ; 0 take_queue 0 ; 0 queue_task 0 0 ;
         0 set_busy 0 0 cur 0 left - waiting ;
-        not 0 store_running 0 -- picked since ;
+        not 0 make_runnable 0 -- picked since ;
         ",
     )?;
     Ok(())
@@ -349,31 +349,31 @@ fn a_task_is_moved_that_waits(rt: HostRuntime) -> Result<(), Fail> {
         "
         start_0 ;
         2 take_task 0 ; 2 load_busy 0 ;
-        not 2 store_rq_moving 0 0 cur - left - waiting 0 -- without the lock of the queue ;
+        not 2 move_task 0 0 cur - left - waiting 0 -- without the lock of the queue ;
 
         opening ;
         start_0 ;
         2 take_task 0 ; 2 take_queue 0 ; 2 load_busy 0 ;
-        not 2 store_rq_moving 0 0 cur - left - waiting -- isn't among those that wait ;
-        2 store_rq_moving 0 0 cur - left - waiting 0 ;
-        not 2 store_rq_moving 0 0 cur - left - waiting 0 -- moved twice ;
+        not 2 move_task 0 0 cur - left - waiting -- isn't among those that wait ;
+        2 move_task 0 0 cur - left - waiting 0 ;
+        not 2 move_task 0 0 cur - left - waiting 0 -- moved twice ;
         not 2 give_task 0 -- given on its way ;
 
         opening ;
         start_0 ;
         2 take_queue 0 ; 2 load_busy 0 ;
-        not 2 store_rq_moving 0 0 cur - left - waiting 0 -- without its lock ;
+        not 2 move_task 0 0 cur - left - waiting 0 -- without its lock ;
 
         opening ;
         start_0 ;
         2 take_task 0 ; 2 take_queue 1 ; 2 load_busy 0 ;
-        not 2 store_rq_moving 1 0 cur - left - waiting 0 -- from another queue ;
+        not 2 move_task 1 0 cur - left - waiting 0 -- from another queue ;
 
         opening ;
         start_0 ;
         0 take_task 0 ; 0 take_queue 0 ; 0 load_busy 0 ;
         0 set_busy 0 0 cur 0 left - waiting ;
-        not 0 store_rq_moving 0 0 cur - left - waiting 0 -- its own current task ;
+        not 0 move_task 0 0 cur - left - waiting 0 -- its own current task ;
         ",
     )?;
     Ok(())
@@ -385,13 +385,13 @@ fn entries_are_put_in_and_taken_out_by_those_who_may(rt: HostRuntime) -> Result<
         &rt,
         "
         start_0 ; pick_0 ;
-        0 take_wait 0 ; 0 own_state 0 TASK_INTERRUPTIBLE ;
+        0 take_wait 0 ; 0 set_state 0 TASK_INTERRUPTIBLE ;
         not 0 give_wait 0 plain 0 exclusive 0 -- two entries of a task ;
         not 0 give_wait 0 plain 1 -- an entry of another task ;
 
         opening ;
         start_0 ; pick_0 ;
-        0 own_state 0 TASK_INTERRUPTIBLE ; 0 take_wait 0 ;
+        0 set_state 0 TASK_INTERRUPTIBLE ; 0 take_wait 0 ;
         not 0 give_wait 0 plain 0 -- no state stored under this lock ;
 
         opening ;

@@ -168,8 +168,8 @@ fn plain_step(verb: &str, words: &[Word<'_>]) -> Option<StepKind> {
     match words {
         [Number(n)] => step_at(verb, *n),
         [Number(n), Number(m)] => match verb {
-            "store_rq_on" => Some(StepKind::StoreRqOn { c: *n, t: *m }),
-            "store_rq_off" => Some(StepKind::StoreRqOff { c: *n, t: *m }),
+            "queue_task" => Some(StepKind::QueueTask { c: *n, t: *m }),
+            "dequeue_task" => Some(StepKind::DequeueTask { c: *n, t: *m }),
             "store_cpu" => Some(StepKind::StoreCpu { t: *n, c: *m }),
             _ => None,
         },
@@ -186,8 +186,8 @@ fn step_at(verb: &str, n: u32) -> Option<StepKind> {
         "take_works" => Some(StepKind::TakeWorks { c: n }),
         "body_out" => Some(StepKind::BodyOut { t: n }),
         "clear_busy" => Some(StepKind::ClearBusy { t: n }),
-        "store_waking" => Some(StepKind::StoreWaking { t: n }),
-        "store_running" => Some(StepKind::StoreRunning { t: n }),
+        "claim_task" => Some(StepKind::ClaimTask { t: n }),
+        "make_runnable" => Some(StepKind::MakeRunnable { t: n }),
         "load_rq" => Some(StepKind::LoadRq { t: n }),
         "load_busy" => Some(StepKind::LoadBusy { t: n }),
         "load_cpu" => Some(StepKind::LoadCpu { t: n }),
@@ -208,7 +208,7 @@ fn named_step(verb: &str, t: TaskNo, name: &str) -> Option<StepKind> {
             t,
             mask: Some(state_of(name)?),
         }),
-        ("own_state", _) => Some(StepKind::OwnState {
+        ("set_state", _) => Some(StepKind::SetState {
             t,
             state: state_of(name)?,
         }),
@@ -236,7 +236,7 @@ fn valued_step(
             Some(val) => Some(StepKind::GiveWorks { c: n, val }),
             None => None,
         },
-        "store_rq_moving" => queued_step(alloc, true, n, words)?,
+        "move_task" => queued_step(alloc, true, n, words)?,
         "set_busy" => queued_step(alloc, false, n, words)?,
         _ => None,
     })
@@ -257,7 +257,7 @@ fn queued_step(
     };
     let t = *t;
     Ok(Some(if moves {
-        StepKind::StoreRqMoving { c, t, val }
+        StepKind::MoveTask { c, t, val }
     } else {
         StepKind::SetBusy { c, t, val }
     }))

@@ -4,7 +4,7 @@ use Rattle.bench_steps.proofs.placing.end_placing.Goals as goal
 use Rattle.handoff_data.specs.declared.shape.Shape.{Shape}
 use Rattle.task_words.specs.Gives.{IsQueuedUnder}
 use Rattle.task_words.specs.Views.{PassView}
-use Rattle.uses.proofs.Shapes.{queued_here, put_here}
+use Rattle.uses_words.proofs.Shapes.{queued_here, put_here}
 use Rattle.word_rule.specs.May.{number_of}
 use Rattle.word_rule.specs.Told.{TakenQueue, IsOff}
 use Rattle.word_steps.specs.Folds.{task_held, is_claimed, is_moving}

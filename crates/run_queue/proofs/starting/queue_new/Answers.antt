@@ -10,24 +10,24 @@ use Rattle.run_queue.proofs.starting.queue_new.Goals as goal
 use Rattle.word_rule.specs.May.{MayGiveQueueVal}
 use Rattle.task_words.specs.Gives.{since}
 use Rattle.word_rule.specs.Told.{TakenQueue, IsOff}
-use Rattle.word_steps.specs.Records.{Rec, Took, Gave, Queued, Released}
+use Rattle.word_steps.specs.Records.{Rec, Took, Gave, Queued, MadeRunnable}
 use Rattle.word_steps.specs.declared.val.Val.TheVariants as val
 
 pub give-requires-clause-may : goal.give-requires-clause-may
 give-requires-clause-may g c κs within =
-    let shape = c.store_running.ensures.same.same.same_shape ∙ c.requires.of.same_shape in
+    let shape = c.make_runnable.ensures.same.same.same_shape ∙ c.requires.of.same_shape in
     let seat = c.queue_task.ensures.same.same_seat ∙ c.lock_queue-queue.ensures.same.same.same_seat in
     let cpu = c.lock_queue-queue.ensures.processor in
     let v = c.lock_queue-queue.result.val in
     let trace = c.queue_task.ensures.trace
     ∙ ap (λ (k : ℕ). Queued c.args.t k 0 0 ∷ c.lock_queue-queue.new.pass.trace) cpu
     ∙ ap (λ (z : List Rec). Queued c.args.t c.args.c 0 0 ∷ z) (c.lock_queue-queue.ensures.trace
-    ∙ ap (λ (z : List Rec). Took c.args.c (val.Queue v) ∷ z) c.store_running.ensures.trace) in
-    let known = subst (λ (z : Shape × List Rec). TakenQueue z.0 c.store_running.new.pass.seat z.1 c.args.c v)
-    (λ i. (shape i, c.store_running.ensures.trace i)) c.lock_queue-queue.ensures.taken in
+    ∙ ap (λ (z : List Rec). Took c.args.c (val.Queue v) ∷ z) c.make_runnable.ensures.trace) in
+    let known = subst (λ (z : Shape × List Rec). TakenQueue z.0 c.make_runnable.new.pass.seat z.1 c.args.c v)
+    (λ i. (shape i, c.make_runnable.ensures.trace i)) c.lock_queue-queue.ensures.taken in
     subst (λ (z : ℕ × List Rec × ℕ × Queue). MayGiveQueueVal z.0 z.1 c.args.wk.now.shape z.2 z.3)
     (λ i. (sym seat i, sym trace i, sym (c.push.ensures.processor ∙ cpu) i, sym c.push.ensures.value i))
-    (give_new_may c.args.wk.now.shape c.store_running.new.pass.seat c.args.t c.args.c v c.args.pass.now.trace known)
+    (give_new_may c.args.wk.now.shape c.make_runnable.new.pass.seat c.args.t c.args.c v c.args.pass.now.trace known)
 
 pub returns-clause-current : goal.returns-clause-current
 returns-clause-current g c =
@@ -38,18 +38,18 @@ returns-clause-current g c =
     let cpu = c.lock_queue-queue.ensures.processor in
     let taken = val.Queue (unwrap_or (queue_held c.queue_task.new.pass.trace c.push.new.self.cpu) c.push.new.self.val) in
     let seat = c.give.ensures.same.same.same_seat ∙ c.queue_task.ensures.same.same_seat
-    ∙ c.lock_queue-queue.ensures.same.same.same_seat ∙ c.store_running.ensures.same.same.same_seat in
-    let queued : c.queue_task.new.pass.trace ≡ Queued t c.args.c 0 0 ∷ Took c.args.c (val.Queue v) ∷ Released t ∷ old =
+    ∙ c.lock_queue-queue.ensures.same.same.same_seat ∙ c.make_runnable.ensures.same.same.same_seat in
+    let queued : c.queue_task.new.pass.trace ≡ Queued t c.args.c 0 0 ∷ Took c.args.c (val.Queue v) ∷ MadeRunnable t ∷ old =
     c.queue_task.ensures.trace ∙ ap (λ (z : ℕ × List Rec). Queued t z.0 0 0 ∷ z.1)
-    (λ i. (cpu i, (c.lock_queue-queue.ensures.trace ∙ ap (λ (z : List Rec). Took c.args.c (val.Queue v) ∷ z) c.store_running.ensures.trace) i)) in
+    (λ i. (cpu i, (c.lock_queue-queue.ensures.trace ∙ ap (λ (z : List Rec). Took c.args.c (val.Queue v) ∷ z) c.make_runnable.ensures.trace) i)) in
     let did : c.give.new.pass.trace
-    ≡ Gave c.args.c taken (val.Queue (pushed t v)) ∷ Queued t c.args.c 0 0 ∷ Took c.args.c (val.Queue v) ∷ Released t ∷ old =
+    ≡ Gave c.args.c taken (val.Queue (pushed t v)) ∷ Queued t c.args.c 0 0 ∷ Took c.args.c (val.Queue v) ∷ MadeRunnable t ∷ old =
     c.give.ensures.trace ∙ ap (λ (z : ℕ × Queue × List Rec). Gave z.0 taken (val.Queue z.1) ∷ z.2)
     (λ i. ((c.push.ensures.processor ∙ cpu) i, c.push.ensures.value i, queued i)) in
-    let told = subst (λ (z : ℕ × List Rec). TakenQueue c.store_running.new.pass.shape z.0 z.1 c.args.c v)
-    (λ i. (c.store_running.ensures.same.same.same_seat i, c.store_running.ensures.trace i)) c.lock_queue-queue.ensures.taken in
+    let told = subst (λ (z : ℕ × List Rec). TakenQueue c.make_runnable.new.pass.shape z.0 z.1 c.args.c v)
+    (λ i. (c.make_runnable.ensures.same.same.same_seat i, c.make_runnable.ensures.trace i)) c.lock_queue-queue.ensures.taken in
     ap (λ (z : ℕ × List Rec). current_task z.0 z.1) (λ i. (seat i, did i))
-    ∙ taken_current c.store_running.new.pass.shape s c.args.c v (Released t ∷ old) told
+    ∙ taken_current c.make_runnable.new.pass.shape s c.args.c v (MadeRunnable t ∷ old) told
 
 pub returns-clause-clear : goal.returns-clause-clear
 returns-clause-clear g c =
@@ -60,24 +60,24 @@ returns-clause-clear g c =
     let cpu = c.lock_queue-queue.ensures.processor in
     let taken = val.Queue (unwrap_or (queue_held c.queue_task.new.pass.trace c.push.new.self.cpu) c.push.new.self.val) in
     let seat = c.give.ensures.same.same.same_seat ∙ c.queue_task.ensures.same.same_seat
-    ∙ c.lock_queue-queue.ensures.same.same.same_seat ∙ c.store_running.ensures.same.same.same_seat in
-    let queued : c.queue_task.new.pass.trace ≡ Queued t c.args.c 0 0 ∷ Took c.args.c (val.Queue v) ∷ Released t ∷ old =
+    ∙ c.lock_queue-queue.ensures.same.same.same_seat ∙ c.make_runnable.ensures.same.same.same_seat in
+    let queued : c.queue_task.new.pass.trace ≡ Queued t c.args.c 0 0 ∷ Took c.args.c (val.Queue v) ∷ MadeRunnable t ∷ old =
     c.queue_task.ensures.trace ∙ ap (λ (z : ℕ × List Rec). Queued t z.0 0 0 ∷ z.1)
-    (λ i. (cpu i, (c.lock_queue-queue.ensures.trace ∙ ap (λ (z : List Rec). Took c.args.c (val.Queue v) ∷ z) c.store_running.ensures.trace) i)) in
+    (λ i. (cpu i, (c.lock_queue-queue.ensures.trace ∙ ap (λ (z : List Rec). Took c.args.c (val.Queue v) ∷ z) c.make_runnable.ensures.trace) i)) in
     let did : c.give.new.pass.trace
-    ≡ Gave c.args.c taken (val.Queue (pushed t v)) ∷ Queued t c.args.c 0 0 ∷ Took c.args.c (val.Queue v) ∷ Released t ∷ old =
+    ≡ Gave c.args.c taken (val.Queue (pushed t v)) ∷ Queued t c.args.c 0 0 ∷ Took c.args.c (val.Queue v) ∷ MadeRunnable t ∷ old =
     c.give.ensures.trace ∙ ap (λ (z : ℕ × Queue × List Rec). Gave z.0 taken (val.Queue z.1) ∷ z.2)
     (λ i. ((c.push.ensures.processor ∙ cpu) i, c.push.ensures.value i, queued i)) in
-    let told = subst (λ (z : ℕ × List Rec). TakenQueue c.store_running.new.pass.shape z.0 z.1 c.args.c v)
-    (λ i. (c.store_running.ensures.same.same.same_seat i, c.store_running.ensures.trace i)) c.lock_queue-queue.ensures.taken in
+    let told = subst (λ (z : ℕ × List Rec). TakenQueue c.make_runnable.new.pass.shape z.0 z.1 c.args.c v)
+    (λ i. (c.make_runnable.ensures.same.same.same_seat i, c.make_runnable.ensures.trace i)) c.lock_queue-queue.ensures.taken in
     ap (λ (z : ℕ × List Rec). task_to_clear z.0 z.1) (λ i. (seat i, did i))
-    ∙ taken_clear c.store_running.new.pass.shape s c.args.c v (Released t ∷ old) told
+    ∙ taken_clear c.make_runnable.new.pass.shape s c.args.c v (MadeRunnable t ∷ old) told
 
 -- the task is new, so it stands on no queue
 pub push-requires-clause-room : goal.push-requires-clause-room
 push-requires-clause-room g c κs within =
     let t = c.args.t in
-    let begun = c.store_running.new.pass in
+    let begun = c.make_runnable.new.pass in
     let v = c.lock_queue-queue.result.val in
     let k = c.lock_queue-queue.result.cpu in
     let cpu = c.lock_queue-queue.ensures.processor in
@@ -93,5 +93,5 @@ push-requires-clause-room g c κs within =
       m = 0;
       did = ap since did;
       told = subst (λ (z : Shape × ℕ × ℕ). TakenQueue z.0 z.1 begun.trace z.2 v) (λ i. (sym shape i, sym seat i, sym cpu i)) c.lock_queue-queue.ensures.taken;
-      off = subst (λ (z : List Rec). IsOff z t) (sym c.store_running.ensures.trace) (inr (inr (c.requires.locked, c.requires.never)));
+      off = subst (λ (z : List Rec). IsOff z t) (sym c.make_runnable.ensures.trace) (inr (inr (c.requires.locked, c.requires.never)));
     })

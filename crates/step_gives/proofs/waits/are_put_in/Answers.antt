@@ -1,7 +1,7 @@
 use Rattle.std.proofs.Common.{◌≡◌, ◌<◌, ◌≤◌, length, true, false, subst, arith}
 use Rattle.std.specs.Prelude.{IsTrue}
 use Rattle.core_data.specs.Entries.{has_entry}
-use Rattle.core_data.specs.Table.{table}
+use Rattle.core_data.specs.Columns.{columns}
 use Rattle.core_data.specs.declared.values.WaitEntry.{WaitEntry}
 use Rattle.core_gives.proofs.WaitsLemmas.{each-entry, entry-at, more-entries}
 use Rattle.core_gives.specs.Waits.{IsPutIn}
@@ -20,12 +20,12 @@ returns-then-not-was_taken_or_put_in c =
 pub loop-x-preserved : goal.loop-x-preserved
 loop-x-preserved c =
     let d : WaitEntry = record { t = 0; exclusive = false } in
-    more-entries c.args.given.now (λ x. (has_entry c.args.taken.now x ≡ false → IsPutIn (table c.args.core.now) c.args.s c.args.k x)) c.loop-x.x-index d c.loop-x-test.true c.loop-x.invariant
+    more-entries c.args.given.now (λ x. (has_entry c.args.taken.now x ≡ false → IsPutIn (columns c.args.core.now) c.args.s c.args.k x)) c.loop-x.x-index d c.loop-x-test.true c.loop-x.invariant
     (c.was_taken_or_put_in.ensures.0 c.if-not-was_taken_or_put_in.false)
 
 pub returns : goal.returns
 returns c =
     let end : length c.args.given.now ≤ c.loop-x.x-index = omega arith in (
-      λ h. each-entry c.args.given.now (λ x. (has_entry c.args.taken.now x ≡ false → IsPutIn (table c.args.core.now) c.args.s c.args.k x)) (λ i x lt at. c.loop-x.invariant i x (omega (arith, lt, end)) at),
+      λ h. each-entry c.args.given.now (λ x. (has_entry c.args.taken.now x ≡ false → IsPutIn (columns c.args.core.now) c.args.s c.args.k x)) (λ i x lt at. c.loop-x.invariant i x (omega (arith, lt, end)) at),
       λ h. grind arith,
     )

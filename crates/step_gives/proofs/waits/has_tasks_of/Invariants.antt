@@ -1,9 +1,9 @@
 use Rattle.std.proofs.Common.{◌≡◌, ℕ, ◌<◌, Some, true, false}
 use Rattle.std.specs.Prelude.{slice_get}
 use Rattle.core_data.specs.Entries.{has_entry}
-use Rattle.core_data.specs.Table.{table}
+use Rattle.core_data.specs.Columns.{columns}
 use Rattle.core_data.specs.declared.values.WaitEntry.{WaitEntry}
 use Rattle.step_gives.proofs.waits.has_tasks_of.Given as goal
 
 abbrev pub invariant-loop-x : goal.invariant-loop-x
-invariant-loop-x l = (i : ℕ) (x : WaitEntry) → i < l.x-index → slice_get l.entries i ≡ Some x → (x.t < (table l.core).tasks)
+invariant-loop-x l = (i : ℕ) (x : WaitEntry) → i < l.x-index → slice_get l.entries i ≡ Some x → (x.t < (columns l.core).tasks)

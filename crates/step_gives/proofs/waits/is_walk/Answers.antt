@@ -1,5 +1,5 @@
 use Rattle.std.proofs.Common.{◌≡◌, ◌<◌, ◌≤◌, ◌&&◌, ◌+◌, Bool, length, drop, true, false, refl, ap, sym, ◌∙◌, arith}
-use Rattle.core_data.specs.Table.{table}
+use Rattle.core_data.specs.Columns.{columns}
 use Rattle.core_data.specs.declared.values.WaitEntry.{WaitEntry}
 use Rattle.core_gives.specs.Waits.{is_walk}
 use Rattle.core_gives.proofs.WaitsLemmas.{walk-at, walk-past}
@@ -11,7 +11,7 @@ loop-x-init c = refl
 pub returns-then-not-passed : goal.returns-then-not-passed
 returns-then-not-passed c =
     let d : WaitEntry = record { t = 0; exclusive = false } in
-    let passed = (table c.args.core.now).passed c.args.s c.args.k in
+    let passed = (columns c.args.core.now).has_passed c.args.s c.args.k in
     let here = walk-at passed c.args.taken.now c.loop-x.x-index d c.loop-x-test.true in
     let rest = is_walk passed (drop (c.loop-x.x-index + 1) c.args.taken.now) in
     let not = sym c.passed.ensures ∙ c.if-not-passed.true in
@@ -20,7 +20,7 @@ returns-then-not-passed c =
 pub loop-x-preserved : goal.loop-x-preserved
 loop-x-preserved c =
     let d : WaitEntry = record { t = 0; exclusive = false } in
-    let passed = (table c.args.core.now).passed c.args.s c.args.k in
+    let passed = (columns c.args.core.now).has_passed c.args.s c.args.k in
     let here = walk-at passed c.args.taken.now c.loop-x.x-index d c.loop-x-test.true in
     let rest = is_walk passed (drop (c.loop-x.x-index + 1) c.args.taken.now) in
     let yes = sym c.passed.ensures ∙ c.if-not-passed.false in
@@ -28,6 +28,6 @@ loop-x-preserved c =
 
 pub returns : goal.returns
 returns c =
-    let passed = (table c.args.core.now).passed c.args.s c.args.k in
+    let passed = (columns c.args.core.now).has_passed c.args.s c.args.k in
     let end : length c.args.taken.now ≤ c.loop-x.x-index = omega arith in
     sym (c.loop-x.invariant ∙ walk-past passed c.args.taken.now c.loop-x.x-index end)

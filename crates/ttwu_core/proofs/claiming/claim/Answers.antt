@@ -13,12 +13,12 @@ returns-clause-did g c =
     let ns = c.await_clear.ensures.did.waits in
     let old = c.args.pass.now.trace in
     let did : c.await_clear.new.pass.trace ≡ awaited_clear t n ns (Claimed t c.args.m ∷ old) =
-    c.await_clear.ensures.did.did ∙ ap (awaited_clear t n ns) c.store_waking.ensures.trace in
+    c.await_clear.ensures.did.did ∙ ap (awaited_clear t n ns) c.claim_task.ensures.trace in
     record {
       n = n;
       waits = ns;
       did = did;
-      turn = c.await_clear.ensures.same.same_turn ∙ c.store_waking.ensures.turn;
+      turn = c.await_clear.ensures.same.same_turn ∙ c.claim_task.ensures.turn;
       claimed = ap (λ (z : List Rec). is_claimed z t) did ∙ claim_claimed c.args.pass.now.seat t old c.args.m n ns;
       clear = ap (λ (z : List Rec). saw_clear z t) did ∙ claim_clear c.args.pass.now.seat t old c.args.m n ns;
     }
@@ -29,7 +29,7 @@ returns-clause-keeps g c =
     let ns = c.await_clear.ensures.did.waits in
     let old = c.args.pass.now.trace in
     subst (λ (z : List Rec). Keeps c.args.pass.now.seat old z)
-    (sym (c.await_clear.ensures.did.did ∙ ap (awaited_clear t c.await_clear.result ns) c.store_waking.ensures.trace))
+    (sym (c.await_clear.ensures.did.did ∙ ap (awaited_clear t c.await_clear.result ns) c.claim_task.ensures.trace))
     (claim_keeps c.args.pass.now.seat t old c.args.m c.await_clear.result ns)
 
 pub returns-clause-others : goal.returns-clause-others
@@ -38,7 +38,7 @@ returns-clause-others g c = λ u apart.
     let ns = c.await_clear.ensures.did.waits in
     let old = c.args.pass.now.trace in
     ap (λ (z : List Rec). is_claimed z u)
-    (c.await_clear.ensures.did.did ∙ ap (awaited_clear t c.await_clear.result ns) c.store_waking.ensures.trace)
+    (c.await_clear.ensures.did.did ∙ ap (awaited_clear t c.await_clear.result ns) c.claim_task.ensures.trace)
     ∙ claim_others c.args.pass.now.seat t old c.args.m c.await_clear.result ns u apart
 
 pub returns-clause-moving : goal.returns-clause-moving
@@ -46,7 +46,7 @@ returns-clause-moving g c =
     let t = c.args.t in
     let ns = c.await_clear.ensures.did.waits in
     let old = c.args.pass.now.trace in
-    ap is_moving (c.await_clear.ensures.did.did ∙ ap (awaited_clear t c.await_clear.result ns) c.store_waking.ensures.trace)
+    ap is_moving (c.await_clear.ensures.did.did ∙ ap (awaited_clear t c.await_clear.result ns) c.claim_task.ensures.trace)
     ∙ claim_moving c.args.pass.now.seat t old c.args.m c.await_clear.result ns
 
 pub returns-clause-numbers : goal.returns-clause-numbers
@@ -54,5 +54,5 @@ returns-clause-numbers g c =
     let t = c.args.t in
     let ns = c.await_clear.ensures.did.waits in
     let old = c.args.pass.now.trace in
-    ap number_read (c.await_clear.ensures.did.did ∙ ap (awaited_clear t c.await_clear.result ns) c.store_waking.ensures.trace)
+    ap number_read (c.await_clear.ensures.did.did ∙ ap (awaited_clear t c.await_clear.result ns) c.claim_task.ensures.trace)
     ∙ claim_numbers c.args.pass.now.seat t old c.args.m c.await_clear.result ns

@@ -6,24 +6,24 @@ use Rattle.task_words.specs.Gives.{since}
 use Rattle.ttwu_core.proofs.Waiting.{queued_keeps}
 use Rattle.ttwu_core.specs.Claims.{queued_woken}
 use Rattle.ttwu_core.specs.Keeps.{Keeps}
-use Rattle.ttwu_core.proofs.Steps.{release_woken_may}
+use Rattle.ttwu_core.proofs.Steps.{make_runnable_woken_may}
 use Rattle.ttwu_core.proofs.claiming.queue_woken.Given.{Over}
 use Rattle.ttwu_core.proofs.claiming.queue_woken.Goals as goal
-use Rattle.word_rule.specs.May.{MayReleaseWord}
+use Rattle.word_rule.specs.May.{MayMakeRunnableWord}
 use Rattle.word_rule.specs.Told.{TakenQueue}
-use Rattle.word_steps.specs.Records.{Rec, Took, Gave, Queued, Released}
+use Rattle.word_steps.specs.Records.{Rec, Took, Gave, Queued, MadeRunnable}
 use Rattle.word_steps.specs.declared.val.Val.TheVariants as val
 
-pub store_running-requires-clause-may : goal.store_running-requires-clause-may
-store_running-requires-clause-may g c κs within = λ x.
+pub make_runnable-requires-clause-may : goal.make_runnable-requires-clause-may
+make_runnable-requires-clause-may g c κs within = λ x.
     let v = c.lock_queue-queue.result.val in
     let seat = c.queue_task.ensures.same.same_seat ∙ c.lock_queue-queue.ensures.same.same.same_seat in
     let trace = c.queue_task.ensures.trace
     ∙ ap (λ (z : ℕ × List Rec). Queued c.args.t z.0 0 c.args.m ∷ z.1)
     (λ i. (c.lock_queue-queue.ensures.processor i, c.lock_queue-queue.ensures.trace i)) in
-    subst (λ (z : ℕ × List Rec). MayReleaseWord z.0 z.1 c.args.t x 0)
+    subst (λ (z : ℕ × List Rec). MayMakeRunnableWord z.0 z.1 c.args.t x 0)
     (λ i. (sym seat i, sym trace i))
-    (release_woken_may c.args.wk.now.shape c.args.pass.now.seat c.args.t c.args.c c.args.m v c.args.pass.now.trace c.requires.other x)
+    (make_runnable_woken_may c.args.wk.now.shape c.args.pass.now.seat c.args.t c.args.c c.args.m v c.args.pass.now.trace c.requires.other x)
 
 -- the task is claimed, so it stands on no queue
 pub push-requires-clause-room : goal.push-requires-clause-room
@@ -55,10 +55,10 @@ give_woken-requires-clause-may g c κs within =
     let v = c.lock_queue-queue.result.val in
     let k = c.push.new.self.cpu in
     let cpu : k ≡ c.args.c = c.push.ensures.processor ∙ c.lock_queue-queue.ensures.processor in
-    let seat = c.store_running.ensures.same.same.same_seat ∙ c.queue_task.ensures.same.same_seat ∙ c.lock_queue-queue.ensures.same.same.same_seat in
-    let shape = c.store_running.ensures.same.same.same_shape ∙ c.queue_task.ensures.same.same_shape ∙ c.lock_queue-queue.ensures.same.same.same_shape in
-    let did : c.store_running.new.pass.trace ≡ Released t ∷ Queued t k 0 c.args.m ∷ Took k (val.Queue v) ∷ old.trace =
-    c.store_running.ensures.trace ∙ ap (λ (z : List Rec). Released t ∷ z) (c.queue_task.ensures.trace
+    let seat = c.make_runnable.ensures.same.same.same_seat ∙ c.queue_task.ensures.same.same_seat ∙ c.lock_queue-queue.ensures.same.same.same_seat in
+    let shape = c.make_runnable.ensures.same.same.same_shape ∙ c.queue_task.ensures.same.same_shape ∙ c.lock_queue-queue.ensures.same.same.same_shape in
+    let did : c.make_runnable.new.pass.trace ≡ MadeRunnable t ∷ Queued t k 0 c.args.m ∷ Took k (val.Queue v) ∷ old.trace =
+    c.make_runnable.ensures.trace ∙ ap (λ (z : List Rec). MadeRunnable t ∷ z) (c.queue_task.ensures.trace
     ∙ ap (λ (z : ℕ × List Rec). Queued t z.0 0 c.args.m ∷ z.1) (λ i. (sym c.push.ensures.processor i, c.lock_queue-queue.ensures.trace i))
     ∙ ap (λ (n : ℕ). Queued t k 0 c.args.m ∷ Took n (val.Queue v) ∷ old.trace) (sym cpu)) in record {
       t = t;
@@ -78,14 +78,14 @@ woken_did g c =
     let v = c.lock_queue-queue.result.val in
     let old = c.args.pass.now.trace in
     let at = c.lock_queue-queue.ensures.processor in
-    let stored : c.store_running.new.pass.trace ≡ Released t ∷ Queued t c.args.c 0 c.args.m ∷ Took c.args.c (val.Queue v) ∷ old =
-    c.store_running.ensures.trace ∙ ap (λ (z : List Rec). Released t ∷ z) (c.queue_task.ensures.trace
+    let stored : c.make_runnable.new.pass.trace ≡ MadeRunnable t ∷ Queued t c.args.c 0 c.args.m ∷ Took c.args.c (val.Queue v) ∷ old =
+    c.make_runnable.ensures.trace ∙ ap (λ (z : List Rec). MadeRunnable t ∷ z) (c.queue_task.ensures.trace
     ∙ ap (λ (z : ℕ × List Rec). Queued t z.0 0 c.args.m ∷ z.1) (λ i. (at i, c.lock_queue-queue.ensures.trace i))) in
     c.give_woken.ensures.trace
-    ∙ gave_queue c.args.c c.push.new.self.cpu v c.push.new.self.val c.store_running.new.pass.trace
-    (Released t ∷ Queued t c.args.c 0 c.args.m ∷ Took c.args.c (val.Queue v) ∷ old) (c.push.ensures.processor ∙ at) stored
+    ∙ gave_queue c.args.c c.push.new.self.cpu v c.push.new.self.val c.make_runnable.new.pass.trace
+    (MadeRunnable t ∷ Queued t c.args.c 0 c.args.m ∷ Took c.args.c (val.Queue v) ∷ old) (c.push.ensures.processor ∙ at) stored
     (queue_there c.args.c v old)
-    ∙ ap (λ (q : Queue). Gave c.args.c (val.Queue v) (val.Queue q) ∷ Released t ∷ Queued t c.args.c 0 c.args.m ∷ Took c.args.c (val.Queue v) ∷ old)
+    ∙ ap (λ (q : Queue). Gave c.args.c (val.Queue v) (val.Queue q) ∷ MadeRunnable t ∷ Queued t c.args.c 0 c.args.m ∷ Took c.args.c (val.Queue v) ∷ old)
     c.push.ensures.value
 
 pub returns-clause-keeps : goal.returns-clause-keeps

@@ -3,7 +3,7 @@ use Rattle.std.specs.Prelude.{IsSome}
 use Rattle.ttwu_core.proofs.Loops.{reading_on}
 use Rattle.ttwu_core.proofs.Waiting.{rq_locked, rq_matched}
 use Rattle.ttwu_core.proofs.finding.await_off.Goals as goal
-use Rattle.word_steps.specs.Folds.{task_held, is_matched_by}
+use Rattle.word_steps.specs.Folds.{task_held, has_matched}
 use Rattle.word_steps.specs.Records.{Rec}
 
 pub loop-preserved : goal.loop-preserved
@@ -18,5 +18,5 @@ returns-then-seen-eq0-clause-changed g c =
     let waits = c.loop.invariant.waits in
     c.load_rq-seen.ensures.changed
     (subst (λ (z : List Rec). IsSome (task_held z t)) (sym c.loop.invariant.did) (rq_locked t old waits c.requires.locked))
-    (ap (λ (z : List Rec). is_matched_by z t) c.loop.invariant.did
+    (ap (λ (z : List Rec). has_matched z t) c.loop.invariant.did
     ∙ ap (λ h. h t) (rq_matched t old waits) ∙ c.requires.matched)

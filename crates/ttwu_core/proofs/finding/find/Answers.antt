@@ -7,11 +7,11 @@ use Rattle.ttwu_core.proofs.finding.find.Given.{Over}
 use Rattle.ttwu_core.proofs.finding.find.Goals as goal
 use Rattle.ttwu_core.specs.Finds.{Look, Left, looked, off_reads, rq_reads}
 use Rattle.ttwu_core.specs.Keeps.{Keeps}
-use Rattle.word_rule.proofs.Uses.{gives_released}
+use Rattle.word_rule.proofs.Uses.{gives_made_runnable}
 use Rattle.word_rule.specs.May.{MayGiveQueueVal}
 use Rattle.word_rule.specs.Told.{TakenQueue}
 use Rattle.word_steps.specs.Folds.{is_claimed, is_moving, saw_off, number_read}
-use Rattle.word_steps.specs.Records.{Rec, Took, Gave, Released, LoadedRq, LoadedCpu}
+use Rattle.word_steps.specs.Records.{Rec, Took, Gave, MadeRunnable, LoadedRq, LoadedCpu}
 use Rattle.word_steps.specs.declared.val.Val.TheVariants as val
 
 -- what was seen where the task had left its queue
@@ -55,14 +55,14 @@ give-requires-clause-may g c κs within =
     let before = c.load_cpu-c.new.pass in
     let m = c.load_rq.result.m in
     let shape = c.load_cpu-c.ensures.same.same.same_shape ∙ c.load_rq-first.ensures.same.same.same_shape ∙ c.requires.of.same_shape in
-    let seat = c.store_running.ensures.same.same.same_seat ∙ c.load_rq.ensures.same.same.same_seat
+    let seat = c.make_runnable.ensures.same.same.same_seat ∙ c.load_rq.ensures.same.same.same_seat
     ∙ c.lock_queue-queue.ensures.same.same.same_seat in
-    let trace = c.store_running.ensures.trace ∙ ap (λ (z : List Rec). Released t ∷ z) (c.load_rq.ensures.trace
+    let trace = c.make_runnable.ensures.trace ∙ ap (λ (z : List Rec). MadeRunnable t ∷ z) (c.load_rq.ensures.trace
     ∙ ap (λ (z : ℕ × List Rec). LoadedRq t z.0 m ∷ z.1) (λ i. (c.if-load_rq-eq1.true i, c.lock_queue-queue.ensures.trace i))) in
     let told = subst (λ (z : Shape). TakenQueue z before.seat before.trace cpu v) shape c.lock_queue-queue.ensures.taken in
     subst (λ (z : ℕ × List Rec × ℕ). MayGiveQueueVal z.0 z.1 c.args.wk.now.shape z.2 v)
     (λ i. (sym seat i, sym trace i, sym c.lock_queue-queue.ensures.processor i))
-    (gives_released c.args.wk.now.shape before.seat cpu v before.trace told t m)
+    (gives_made_runnable c.args.wk.now.shape before.seat cpu v before.trace told t m)
 
 pub returns-then-load_rq-eq1-clause-did : goal.returns-then-load_rq-eq1-clause-did
 returns-then-load_rq-eq1-clause-did g c =
@@ -80,9 +80,9 @@ returns-then-load_rq-eq1-clause-did g c =
       queued = c.if-first-eq0.false;
       there = c.if-load_rq-eq1.true;
       did = c.give.ensures.trace
-          ∙ gave_queue cpu c.lock_queue-queue.result.cpu v v c.store_running.new.pass.trace (Released t ∷ looked t look old)
+          ∙ gave_queue cpu c.lock_queue-queue.result.cpu v v c.make_runnable.new.pass.trace (MadeRunnable t ∷ looked t look old)
           c.lock_queue-queue.ensures.processor
-          (c.store_running.ensures.trace ∙ ap (λ (z : List Rec). Released t ∷ z) seen)
+          (c.make_runnable.ensures.trace ∙ ap (λ (z : List Rec). MadeRunnable t ∷ z) seen)
           (queue_there cpu v (LoadedCpu t cpu ∷ LoadedRq t look.first.on look.first.m ∷ old));
     }
 

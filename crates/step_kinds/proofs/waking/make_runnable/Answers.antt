@@ -1,0 +1,13 @@
+use Rattle.std.proofs.Common.{◌∙◌, ap}
+use Rattle.core_data.specs.Noted.{noted}
+use Rattle.core_data.specs.Columns.{Columns, columns}
+use Rattle.core_kinds.specs.Steps.{stored_word}
+use Rattle.core_data.specs.declared.act.Act.TheVariants.{Passed}
+use Rattle.step_kinds.proofs.waking.make_runnable.Goals as goal
+
+pub returns : goal.returns
+returns c =
+    let core = columns c.args.core.now in
+    let s = c.args.s in
+    let t = c.args.t in
+    c.in_ok-note.ensures ∙ ap (λ (x : Columns). noted x s (Passed t)) (c.in_ok-renew.ensures ∙ ap (λ (x : Columns). stored_word x s t) c.put_state.ensures)

@@ -1,0 +1,6 @@
+use Rattle.task_words.specs.Seats.{IsRunning}
+use Rattle.task_words.specs.Views.{IsOneSeat}
+use Rattle.uses_wake.proofs.ping_pong_tests.play.Given as goal
+
+abbrev pub invariant-loop-count : goal.invariant-loop-count
+invariant-loop-count g l = record { same : IsOneSeat l.initial.pass l.pass; running : IsRunning l.t l.pass }
