@@ -3,6 +3,10 @@
 //! table runs them; those that only make `step_core` run stand in `step_data`.
 //!
 //! Contracts see a core as a table of columns (`specs/Columns.antt`): for each word its value at each number.
+//!
+//! `values.rt` and `queue.rt` are the values of locks, `words.rt` the words, `held.rt`, `act.rt` and `pos.rt` what a
+//! seat has out and knows, `seat.rt` and `machine.rt` the whole. `specs/`: `Columns`, `Opening` (a core that begins),
+//! `Noted` and `Acts` (what a seat knows), `Rows`.
 #![tactic(auto)]
 
 mod act;

@@ -3,6 +3,8 @@
 //!
 //! A core begins as `start_core` makes it. Which events are possible, and what they change, is said by `May` and
 //! `after` of `core_law/specs/Steps.antt`, one line a kind of step.
+//!
+//! `run.rt` has one step and runs, `laws.rt` the laws over all cores, `step_laws.rt` those over all steps.
 #![tactic(auto)]
 
 mod laws;

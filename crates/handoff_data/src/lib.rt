@@ -1,5 +1,8 @@
 //! Plain data that every other crate speaks of: numbers of tasks, processors, seats and conditions, the shape
 //! of a machine, lines of text, and the one error of a call that takes memory.
+//!
+//! One file a type. `specs/`: `Rules` has the eleven rules of journals, `Legal` what one legal history is, `Moves` the
+//! moves of tasks, over `Positions`, `Numbers` and `History`. Every crate stands on this one.
 #![tactic(auto)]
 
 mod entry;

@@ -1,4 +1,7 @@
 //! What makes a core run: the reads and changes of what a seat has out and knows, the opening core, and copies.
+//!
+//! `held.rt`, `act.rt` and `pos.rt` are functions over what a seat has out and knows, `opening.rt` is the opening core,
+//! `copies.rt` has copies. Only the other `step` crates, `handoff_core` and `core_plays` stand on them.
 #![tactic(auto)]
 
 mod act;

@@ -1,4 +1,6 @@
 //! The gives of queues, wait queues and works: whether a seat may give one back with a value, and what that changes.
+//!
+//! `fits.rt` (a queue and the words), `switch.rt` (the current task), `queues.rt`, `waits.rt`, `works.rt`.
 #![tactic(auto)]
 
 mod fits;

@@ -1,4 +1,7 @@
 //! The kinds of atomic step: for each, whether a seat may make it in a core, and what it changes.
+//!
+//! `loads.rt`, `locks.rt`, `running.rt` and `waking.rt`, over `common.rt` and `notes.rt`. A kind may change without the
+//! others.
 #![tactic(auto)]
 
 mod common;

@@ -1,6 +1,9 @@
 //! The single stores of which each atomic step of a core is made, and the reads of its words.
 //!
 //! Each store says what it changes of the table of columns, and that nothing else does.
+//!
+//! A file for the words of each sort (`task_stores.rt`, `cpu_stores.rt`, `cond_stores.rt`, `seat_stores.rt`), `outs.rt`
+//! for what a seat has out, `facts.rt` for the facts that a step reads.
 #![tactic(auto)]
 
 mod cond_stores;
