@@ -15,8 +15,8 @@ use std::thread::{Threads, join};
 use std::time::Instant;
 use task_words::{Pass, Wk};
 
-/// So many seats, 1 to 16, each in a thread, take and give the lock of one processor's works so many times. Nanoseconds of
-/// each time that the lock is taken and given.
+/// So many seats, 1 to 16, each in a thread, take and give the lock of one processor's works so many times. Nanoseconds
+/// of each time that the lock is taken and given.
 pub fn crowd<R: Runtime + AllocGlobal + Threads + Wait + Sync>(
     rt: &R,
     seats: u32,
@@ -34,8 +34,8 @@ pub fn crowd<R: Runtime + AllocGlobal + Threads + Wait + Sync>(
     Some(took.as_secs_f64() * 1e9 / (f64::from(count) * f64::from(seats)))
 }
 
-/// Two seats, each in a thread: one takes and gives the lock of a task, the other that of the queue of the processor with
-/// the same number, whose words are the next ones. Nanoseconds of one turn of both.
+/// Two seats, each in a thread: one takes and gives the lock of a task, the other that of the queue of the processor
+/// with the same number, whose words are the next ones. Nanoseconds of one turn of both.
 pub fn beside<R: Runtime + AllocGlobal + Threads + Wait + Sync>(rt: &R, count: u32) -> Option<f64> {
     let Ok((wk, mut passes)) = small_table(rt.alloc(), 2, 1) else {
         return None;

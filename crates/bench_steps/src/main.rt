@@ -1,9 +1,9 @@
 //! How long each step of the shared table takes, beside the plain atomic operation.
 //!
 //! Usage: bench_steps [NAME COUNT [SEATS]]. With no words it makes each step some times and prints how many kinds there
-//! are. With two it prints the nanoseconds of one step and of its plain operations, over at least so many; `beside` is two
-//! seats, each in a thread, at locks that lie side by side. With three, so many seats, each in a thread, take and give one
-//! lock so many times each.
+//! are. With two it prints the nanoseconds of one step and of its plain operations, over at least so many; `beside` is
+//! two seats, each in a thread, at locks that lie side by side. With three, so many seats, each in a thread, take and
+//! give one lock so many times each.
 //!
 //! A file for each state in which a seat repeats a call: `step.rt`, `steps.rt` (it holds nothing), `own.rt` (it runs a
 //! task), `placing.rt` (it has a new task's lock), `starts.rt` (once a task). `plain.rt` has the plain operations,

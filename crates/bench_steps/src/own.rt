@@ -37,8 +37,8 @@ pub fn repeat_own<S: OwnStep, R: Wait>(rt: &R, wk: &Wk<()>, pass: &mut Pass, cou
     true
 }
 
-/// Starts the first task and picks it, and stores TASK_INTERRUPTIBLE as its state if it `dozes`; whether the seat now runs
-/// it.
+/// Starts the first task and picks it, and stores TASK_INTERRUPTIBLE as its state if it `dozes`; whether the seat now
+/// runs it.
 pub fn begin_own<R: Wait>(rt: &R, wk: &Wk<()>, pass: &mut Pass, dozes: bool) -> bool
     requires of { IsOf wk.now pass.old }
     requires small { IsSmall wk.now.shape }

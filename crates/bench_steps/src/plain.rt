@@ -35,8 +35,8 @@ pub trait Plain {
     fn once(words: &PlainWords);
 }
 
-/// Makes it so many times. A call that stands alone: else the compiler sees that no other thread has the words, and leaves
-/// stores and loads out.
+/// Makes it so many times. A call that stands alone: else the compiler sees that no other thread has the words, and
+/// leaves stores and loads out.
 #[inline(never)]
 pub fn repeat_plain<P: Plain>(words: &PlainWords, count: u32) {
     for _ in 0..count {

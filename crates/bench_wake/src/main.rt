@@ -1,7 +1,7 @@
 //! How long a wake-up takes, and a walk along a wait queue, beside the plain atomic operations that each makes.
 //!
-//! Usage: bench_wake [NAME COUNT]. With no words it wakes some tasks in each way and prints how many ways there are. With
-//! two it prints the nanoseconds of one wake-up or walk and of its plain operations, over at least so many.
+//! Usage: bench_wake [NAME COUNT]. With no words it wakes some tasks in each way and prints how many ways there are.
+//! With two it prints the nanoseconds of one wake-up or walk and of its plain operations, over at least so many.
 //!
 //! `queued.rt`, `walks.rt`, `runnable.rt` and `refused.rt` are what is done in a round, `rounds.rt` rounds, of which
 //! the wakes alone are measured; `calls.rt` has starts, wake-ups and walks by a seat that runs no task, `plain.rt` the

@@ -1,5 +1,5 @@
-//! The plain atomic operations of each kind of wake-up and walk, in their order, on words of their own. A lock taken is one
-//! compare-exchange, and a lock given one store.
+//! The plain atomic operations of each kind of wake-up and walk, in their order, on words of their own. A lock taken is
+//! one compare-exchange, and a lock given one store.
 use handoff_data::State;
 use std::sync::atomic::AtomicU64;
 use std::sync::atomic::Ordering::SeqCst;

@@ -3,7 +3,10 @@ use Rattle.std.specs.Prelude.{ℕ, ◌==◌, ◌&&◌, ◌++◌, ◌∷◌, [], 
 use Rattle.std.specs.List.{filter}
 use mathlib.Core.Bool.{not}
 use Rattle.core_data.specs.declared.act.Act.{Act}
-use Rattle.core_data.specs.declared.act.Act.TheVariants.{TookTask, Renewed, StoredWord, Matched, SawOff, Claimed, SawClear, SawRest, SawRestOff, SawRestIdle, TookQueue, Queued, Dequeued, Picked, TookWait, OwnStored, Slept, Passed, Bumped, Walked}
+use Rattle.core_data.specs.declared.act.Act.TheVariants.{TookTask, Renewed, StoredWord, Matched, SawOff, Claimed}
+use Rattle.core_data.specs.declared.act.Act.TheVariants.{SawClear, SawRest, SawRestOff, SawRestIdle, TookQueue, Queued}
+use Rattle.core_data.specs.declared.act.Act.TheVariants.{Dequeued, Picked, TookWait, OwnStored, Slept, Passed, Bumped}
+use Rattle.core_data.specs.declared.act.Act.TheVariants.{Walked}
 
 -- which sort of step it is
 abbrev pub sort_of : Act → ℕ
@@ -58,7 +61,8 @@ is_act a x = (sort_of a == sort_of x) && (number_of a == number_of x)
 -- whether the last step that is one of the two is the first of them
 abbrev pub since_from : Act → Act → Bool → List Act → Bool
 since_from fact end known [] = known
-since_from fact end known (x ∷ xs) = since_from fact end (if is_act fact x then true else if is_act end x then false else known) xs
+since_from fact end known (x ∷ xs) = since_from fact end (if is_act fact x then true else if is_act end x then false
+    else known) xs
 
 -- whether the seat has made the step `fact`, and not made the step `end` since
 abbrev pub since : Act → Act → List Act → Bool

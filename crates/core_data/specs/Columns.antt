@@ -1,12 +1,16 @@
 -- The core as a table: for each word, lock value, journal and fact of a position its value at each number.
-use Rattle.std.specs.Prelude.{ℕ, zero, suc, ◌==◌, ◌&&◌, Bool, true, false, List, [], ◌∷◌, Option, Some, None, length, if◌then◌else◌}
+use Rattle.std.specs.Prelude.{ℕ, zero, suc, ◌==◌, ◌&&◌, Bool, true, false, List, [], ◌∷◌, Option, Some, None, length}
+use Rattle.std.specs.Prelude.{if◌then◌else◌}
 use Rattle.handoff_data.specs.declared.entry.Entry.{Entry}
 use Rattle.handoff_data.specs.declared.shape.Shape.{Shape}
 use Rattle.handoff_data.specs.declared.state.State.{State}
 use Rattle.core_data.specs.Acts.{since}
 use Rattle.core_data.specs.Found.{found, no_reads}
 use Rattle.core_data.specs.Queue.{Queue}
-use Rattle.core_data.specs.declared.act.Act.TheVariants.{TookTask, Renewed, Matched, SawOff, Claimed, SawClear, SawRest, SawRestOff, SawRestIdle, StoredWord, TookQueue, Queued, Dequeued, Picked, TookWait, OwnStored, Slept, Passed, Bumped, Walked}
+use Rattle.core_data.specs.declared.act.Act.TheVariants.{TookTask, Renewed, Matched, SawOff, Claimed, SawClear, SawRest}
+use Rattle.core_data.specs.declared.act.Act.TheVariants.{SawRestOff, SawRestIdle, StoredWord, TookQueue, Queued}
+use Rattle.core_data.specs.declared.act.Act.TheVariants.{Dequeued, Picked, TookWait, OwnStored, Slept, Passed, Bumped}
+use Rattle.core_data.specs.declared.act.Act.TheVariants.{Walked}
 use Rattle.core_data.specs.declared.machine.Core.{Core}
 use Rattle.core_data.specs.declared.held.HeldTask.{HeldTask}
 use Rattle.core_data.specs.declared.held.HeldQueue.{HeldQueue}

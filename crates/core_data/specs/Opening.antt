@@ -25,7 +25,15 @@ first_task mask =
       cpu = 0;
       count = 0;
       lock = None;
-      val = Some (record { mask = mask; r = 0; narrowed = None; wake_cpu = 0; pending = None; stop_queued = false; dest = 0 });
+      val = Some (record {
+        mask = mask;
+        r = 0;
+        narrowed = None;
+        wake_cpu = 0;
+        pending = None;
+        stop_queued = false;
+        dest = 0;
+      });
       body = true;
       ended = false;
     }
@@ -88,10 +96,19 @@ no_position =
     }
 
 abbrev pub first_seat : SeatCore
-first_seat = record { mark = false; done = false; refs = 0; current = None; held = no_holding; pos = no_position; journal = [] }
+first_seat = record {
+  mark = false;
+  done = false;
+  refs = 0;
+  current = None;
+  held = no_holding;
+  pos = no_position;
+  journal = [];
+}
 
 -- the opening core of a shape
 pub record IsStart (shape : Shape) (core : Columns) : Type 0 where
   pub mask : CpuMask
   pub all : (c : ℕ) → HasCpu mask c ↔ (c < shape.cpus)
-  pub rows : core ≡ columns_of shape (replicate shape.tasks (first_task mask)) (replicate shape.cpus first_cpu) (replicate shape.conds first_cond) (replicate (shape.cpus + shape.agents) first_seat)
+  pub rows : core ≡ columns_of shape (replicate shape.tasks (first_task mask)) (replicate shape.cpus first_cpu)
+      (replicate shape.conds first_cond) (replicate (shape.cpus + shape.agents) first_seat)

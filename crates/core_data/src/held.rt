@@ -56,5 +56,12 @@ impl Model for Held {
 
     ghost Value = { Holding };
 
-    ghost view = { λ h. record { tasks = h.tasks.items; queues = h.queues.items; lists = h.lists.items; works = h.works.items; waits = h.waits.items; body = h.body } };
+    ghost view = { λ h. record {
+      tasks = h.tasks.items;
+      queues = h.queues.items;
+      lists = h.lists.items;
+      works = h.works.items;
+      waits = h.waits.items;
+      body = h.body;
+    } };
 }

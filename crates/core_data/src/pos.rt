@@ -159,5 +159,31 @@ impl Model for Pos {
 
     ghost Value = { Position };
 
-    ghost view = { λ p. record { to_clear = p.to_clear; seen = p.seen; level_known = p.level_known; recent = p.recent.items; tests = p.tests.items; asleep = p.asleep.items; reads = p.reads.items; hand = p.hand.items; actives = p.actives.items; counts = p.counts.items; lowered = p.lowered.items; given_up = p.given_up.items; due = p.due; ticket = p.ticket; zeroed = p.zeroed.items; joined = p.joined.items; refs_zero = p.refs_zero; completing = p.completing.items; posted = p.posted.items; works_hand = p.works_hand.items; phases = p.phases.items; unmarked = p.unmarked.items; alive = p.alive.items; turns = p.turns.items; served = p.served } };
+    ghost view = { λ p. record {
+      to_clear = p.to_clear;
+      seen = p.seen;
+      level_known = p.level_known;
+      recent = p.recent.items;
+      tests = p.tests.items;
+      asleep = p.asleep.items;
+      reads = p.reads.items;
+      hand = p.hand.items;
+      actives = p.actives.items;
+      counts = p.counts.items;
+      lowered = p.lowered.items;
+      given_up = p.given_up.items;
+      due = p.due;
+      ticket = p.ticket;
+      zeroed = p.zeroed.items;
+      joined = p.joined.items;
+      refs_zero = p.refs_zero;
+      completing = p.completing.items;
+      posted = p.posted.items;
+      works_hand = p.works_hand.items;
+      phases = p.phases.items;
+      unmarked = p.unmarked.items;
+      alive = p.alive.items;
+      turns = p.turns.items;
+      served = p.served;
+    } };
 }

@@ -28,7 +28,8 @@ impl Model for QueueVal {
 
     ghost view = { λ q. record { waiting = q.waiting.items; cur = q.cur; left = q.left } };
 
-    ghost invariant = { λ q. (200 ≤ deque_capacity q.waiting) × IsOnce q.waiting.items × (length q.waiting.items ≤ 200) };
+    ghost invariant = { λ q. (200 ≤ deque_capacity q.waiting) × IsOnce q.waiting.items
+        × (length q.waiting.items ≤ 200) };
 }
 
 /// How many tasks wait.
@@ -74,7 +75,8 @@ fn drop_task(waiting: &mut VecDeque<TaskNo>, t: TaskNo) -> bool
 }
 
 impl QueueVal {
-    ghost use Rattle.std.specs.Prelude.{◌≡◌, ◌<◌, ◌≤◌, ◌+◌, ◌^◌, ◌++◌, ◌∷◌, [], ◌↔◌, Some, None, length, drop, slice_get, IsTrue, IfOk, IsNone, MatchOption};
+    ghost use Rattle.std.specs.Prelude.{◌≡◌, ◌<◌, ◌≤◌, ◌+◌, ◌^◌, ◌++◌, ◌∷◌, [], ◌↔◌, Some, None, length, drop};
+    ghost use Rattle.std.specs.Prelude.{slice_get, IsTrue, IfOk, IsNone, MatchOption};
     ghost use Rattle.std.specs.List.{filter};
     ghost use Rattle.core_data.specs.Queue.{times_in, is_other, IsOnce, runnable_count};
 
@@ -104,7 +106,9 @@ impl QueueVal {
 
     /// Takes the task at the front out, if there is one.
     pub fn pop(&mut self) -> Option<TaskNo>
-        ensures { MatchOption result ((self.old.waiting ≡ []) × (self.new ≡ self.old)) (λ t. (self.old.waiting ≡ t ∷ self.new.waiting) × (self.new ≡ record self.old { waiting = self.new.waiting })) }
+        ensures { MatchOption result ((self.old.waiting ≡ []) × (self.new ≡ self.old))
+            (λ t. (self.old.waiting ≡ t ∷ self.new.waiting)
+            × (self.new ≡ record self.old { waiting = self.new.waiting })) }
     {
         self.waiting.pop_front()
     }

@@ -73,7 +73,8 @@ sum-terms f g (suc n) h e (suc k) lt =
 sum-times : (n : ℕ) (xs : List ℕ) → ((i t : ℕ) → slice_get xs i ≡ Some t → t < n) → sum_below (times_in xs) n ≡ length xs
 sum-times n [] h = sum-zero n
 sum-times n (x ∷ xs) h =
-    let split : sum_below (times_in (x ∷ xs)) n ≡ sum_below (λ k. one_if (x == k) + times_in xs k) n = sum-cong (times_in (x ∷ xs)) (λ k. one_if (x == k) + times_in xs k) n (λ k lt. times_in-cons x xs k) in
+    let split : sum_below (times_in (x ∷ xs)) n ≡ sum_below (λ k. one_if (x == k) + times_in xs k) n = sum-cong (times_in (x ∷ xs)) (λ k. one_if (x == k) + times_in xs k) n
+    (λ k lt. times_in-cons x xs k) in
     let parts = sum-add (λ k. one_if (x == k)) (times_in xs) n in
     let one = sum-one n x (h 0 x refl) in
     let rest = sum-times n xs (λ i t e. h (suc i) t e) in
@@ -163,7 +164,8 @@ bool_cases true = inl refl
 bool_cases false = inr refl
 
 -- a task of such a queue stands there at most as often as its words say
-times-le : (core : Core) (c : ℕ) (queue : Queue) → IsOnce queue.waiting → AreHere (columns core) c queue → IsCurHere (columns core) c queue → (k : ℕ) → times queue k ≤ one_if (is_at (columns core).on_rq (columns core).cpu c k)
+times-le : (core : Core) (c : ℕ) (queue : Queue) → IsOnce queue.waiting → AreHere (columns core) c queue → IsCurHere (columns core) c queue → (k : ℕ)
+    → times queue k ≤ one_if (is_at (columns core).on_rq (columns core).cpu c k)
 times-le core c queue once here cur k =
     elim (bool_cases (is_some_of queue.cur k)) [
       | inl runs ↦

@@ -7,7 +7,8 @@ use Rattle.core_data.specs.Queue.{Queue, runnable_count, times_in}
 use Rattle.core_gives.proofs.FitsLemmas.{place-of, times-at}
 
 -- what holds at the places below n and at n holds at those below n + 1
-pub more : {A : Type 0} (xs : List A) (P : A → Type 0) (n : ℕ) → ((i : ℕ) (x : A) → i < n → slice_get xs i ≡ Some x → P x) → ((x : A) → slice_get xs n ≡ Some x → P x) → (i : ℕ) (x : A) → i < n + 1 → slice_get xs i ≡ Some x → P x
+pub more : {A : Type 0} (xs : List A) (P : A → Type 0) (n : ℕ) → ((i : ℕ) (x : A) → i < n → slice_get xs i ≡ Some x → P x) → ((x : A) → slice_get xs n ≡ Some x → P x) → (i : ℕ) (x : A) → i < n + 1
+    → slice_get xs i ≡ Some x → P x
 more xs P n below here i x lt at =
     elim (cases_lt i n) [
       | inl a ↦ below i x a at
@@ -15,7 +16,8 @@ more xs P n below here i x lt at =
     ]
 
 -- and what holds at the places below the number of runnable tasks holds of each task that waits
-pub all-waiting : (queue : Queue) (P : ℕ → Type 0) (n : ℕ) → runnable_count queue ≤ n → ((i t : ℕ) → i < n → slice_get queue.waiting i ≡ Some t → P t) → (i t : ℕ) → slice_get queue.waiting i ≡ Some t → P t
+pub all-waiting : (queue : Queue) (P : ℕ → Type 0) (n : ℕ) → runnable_count queue ≤ n → ((i t : ℕ) → i < n → slice_get queue.waiting i ≡ Some t → P t) → (i t : ℕ) → slice_get queue.waiting i ≡ Some t
+    → P t
 all-waiting queue P n le below i t at = let lt = slice_get_within queue.waiting i t at in below i t (omega (arith, lt, le)) at
 
 -- what holds at each place holds of each number that stands there

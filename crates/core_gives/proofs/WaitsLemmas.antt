@@ -1,5 +1,6 @@
 -- The entries of a wait queue, one at a time.
-use Rattle.std.proofs.Common.{◌≡◌, ℕ, zero, suc, ◌+◌, ◌<◌, ◌==◌, ◌&&◌, ◌||◌, ◌⊎◌, inl, inr, List, [], ◌∷◌, Bool, true, false, Option, Some, None, length, get_or, take, drop, ◌-◌, ◌≤◌, refl, sym, ◌∙◌, ap, subst, arith}
+use Rattle.std.proofs.Common.{◌≡◌, ℕ, zero, suc, ◌+◌, ◌<◌, ◌==◌, ◌&&◌, ◌||◌, ◌⊎◌, inl, inr, List, [], ◌∷◌, Bool, true, false, Option, Some, None, length, get_or, take, drop, ◌-◌, ◌≤◌, refl, sym, ◌∙◌}
+use Rattle.std.proofs.Common.{ap, subst, arith}
 use Rattle.std.specs.Prelude.{if◌then◌else◌, slice_get}
 use Rattle.std.specs.List.{list_any}
 use Rattle.std.proofs.lemmas.Bool.Decides.{nat_tests}
@@ -78,7 +79,8 @@ pub place-entry : (entries : List WaitEntry) (i : ℕ) (x : WaitEntry) → slice
 place-entry entries i x at = place-any (λ y. same_entry y x) false entries i x at (same_entry-self x)
 
 -- what holds at each place holds of each entry
-pub each-entry : (entries : List WaitEntry) (P : WaitEntry → Type 0) → ((i : ℕ) (x : WaitEntry) → i < length entries → slice_get entries i ≡ Some x → P x) → (x : WaitEntry) → has_entry entries x ≡ true → P x
+pub each-entry : (entries : List WaitEntry) (P : WaitEntry → Type 0) → ((i : ℕ) (x : WaitEntry) → i < length entries → slice_get entries i ≡ Some x → P x) → (x : WaitEntry)
+    → has_entry entries x ≡ true → P x
 each-entry entries P at x h = let found = entry-place entries x h in at found.0 x (slice_get_within entries found.0 x found.1) found.1
 
 -- what holds of the entries before place n, and of the one there, holds of those before place n + 1
@@ -111,7 +113,8 @@ once-close entries i d lt other rest =
 pub once-past : (entries : List WaitEntry) (i : ℕ) → length entries ≤ i → HasEachOnce (drop i entries)
 once-past entries i le = subst (λ (xs : List WaitEntry). HasEachOnce xs) (sym (drop_of_length-le entries le)) tt
 
-pub walk-at : (passed : ℕ → Bool) (entries : List WaitEntry) (i : ℕ) (d : WaitEntry) → i < length entries → is_walk passed (drop i entries) ≡ (passed (get_or entries i d).t && is_walk passed (drop (i + 1) entries))
+pub walk-at : (passed : ℕ → Bool) (entries : List WaitEntry) (i : ℕ) (d : WaitEntry) → i < length entries
+    → is_walk passed (drop i entries) ≡ (passed (get_or entries i d).t && is_walk passed (drop (i + 1) entries))
 walk-at passed entries i d lt = ap (λ (xs : List WaitEntry). is_walk passed xs) (from-place entries i d lt)
 
 pub walk-past : (passed : ℕ → Bool) (entries : List WaitEntry) (i : ℕ) → length entries ≤ i → is_walk passed (drop i entries) ≡ true

@@ -1,5 +1,6 @@
 -- Giving a queue.
-use Rattle.std.specs.Prelude.{◌≡◌, ◌≢◌, ℕ, ◌<◌, ◌==◌, ◌&&◌, ◌⊎◌, ◌+◌, Bool, true, false, Option, Some, None, IsSome, is_none, if◌then◌else◌}
+use Rattle.std.specs.Prelude.{◌≡◌, ◌≢◌, ℕ, ◌<◌, ◌==◌, ◌&&◌, ◌⊎◌, ◌+◌, Bool, true, false, Option, Some, None, IsSome}
+use Rattle.std.specs.Prelude.{is_none, if◌then◌else◌}
 use Rattle.core_data.specs.Queue.{Queue, times_in}
 use Rattle.core_data.specs.Columns.{Columns, put, put_at}
 use Rattle.core_kinds.specs.Locks.{unseen}
@@ -36,7 +37,8 @@ MayGiveUp core s t = (core.body t ≡ true) × ((core.lock t ≡ Some s) ⊎ (co
 abbrev pub IsSwitch : Columns → ℕ → ℕ → Queue → Type 0
 IsSwitch core s c queue =
     (s ≢ c → (taken : Queue) → core.queue_held s c ≡ Some taken → (queue.cur ≡ taken.cur) × (queue.left ≡ taken.left))
-    × (s ≡ c → (t : ℕ) → core.current_task s ≡ Some t → (queue.cur ≡ Some t) ⊎ ((queue.cur ≡ None) × (queue.left ≡ Some t) × MayGiveUp core s t))
+    × (s ≡ c → (t : ℕ) → core.current_task s ≡ Some t → (queue.cur ≡ Some t)
+    ⊎ ((queue.cur ≡ None) × (queue.left ≡ Some t) × MayGiveUp core s t))
     × (s ≡ c → (t : ℕ) → core.task_to_clear s ≡ Some t → queue.left ≡ Some t)
 
 pub record MayGiveQueue (core : Columns) (s c : ℕ) (queue : Queue) : Type 0 where
@@ -57,7 +59,8 @@ abbrev pub give_up_if : Bool → Columns → ℕ → Columns
 give_up_if true core s =
     record core {
       current_task = put core.current_task s None;
-      task_to_clear = put core.task_to_clear s (if is_none (core.current_task s) then core.task_to_clear s else core.current_task s);
+      task_to_clear = put core.task_to_clear s (if is_none (core.current_task s) then core.task_to_clear s
+          else core.current_task s);
     }
 give_up_if false core s = core
 

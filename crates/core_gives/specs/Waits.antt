@@ -1,5 +1,6 @@
 -- Giving a wait queue.
-use Rattle.std.specs.Prelude.{◌≡◌, ℕ, ◌<◌, ◌==◌, ◌&&◌, ◌⊎◌, Bool, true, false, List, [], ◌∷◌, Option, Some, None, IsSome, if◌then◌else◌}
+use Rattle.std.specs.Prelude.{◌≡◌, ℕ, ◌<◌, ◌==◌, ◌&&◌, ◌⊎◌, Bool, true, false, List, [], ◌∷◌, Option, Some, None}
+use Rattle.std.specs.Prelude.{IsSome, if◌then◌else◌}
 use mathlib.Core.Bool.{not}
 use Rattle.core_data.specs.Entries.{any_from, has_entry}
 use Rattle.core_data.specs.Noted.{noted, given_asleep}
@@ -30,8 +31,10 @@ pub record MayGiveWait (core : Columns) (s k : ℕ) (given : List WaitEntry) : T
   pub locked : core.wait_lock k ≡ Some s
   pub out : IsSome (core.wait_held s k)
   pub once : HasEachOnce given
-  pub put_in : (taken : List WaitEntry) (x : WaitEntry) → core.wait_held s k ≡ Some taken → has_entry given x ≡ true → has_entry taken x ≡ false → IsPutIn core s k x
-  pub taken_out : (taken : List WaitEntry) (x : WaitEntry) → core.wait_held s k ≡ Some taken → has_entry taken x ≡ true → has_entry given x ≡ false → IsTakenOut core s k x
+  pub put_in : (taken : List WaitEntry) (x : WaitEntry) → core.wait_held s k ≡ Some taken → has_entry given x ≡ true
+      → has_entry taken x ≡ false → IsPutIn core s k x
+  pub taken_out : (taken : List WaitEntry) (x : WaitEntry) → core.wait_held s k ≡ Some taken → has_entry taken x ≡ true
+      → has_entry given x ≡ false → IsTakenOut core s k x
   pub tasks : (x : WaitEntry) → has_entry given x ≡ true → x.t < core.tasks
 
 -- the current task, where it has an entry and has stored a sleep state under this lock
@@ -55,7 +58,10 @@ give_taken core s k given taken =
       wait_lock = put core.wait_lock k None;
       wait = put core.wait k (Some given);
       wait_held = put_at core.wait_held s k None;
-      is_asleep = put core.is_asleep s (given_asleep k taken given (sleeper_of (core.current_task s) (core.has_slept_in s k) given) (core.is_asleep s));
+      is_asleep =
+          put core.is_asleep s
+          (given_asleep k taken given (sleeper_of (core.current_task s) (core.has_slept_in s k) given)
+          (core.is_asleep s));
     }) s k
 
 abbrev pub give_by : Columns → ℕ → ℕ → List WaitEntry → Option (List WaitEntry) → Columns

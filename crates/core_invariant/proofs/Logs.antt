@@ -49,7 +49,8 @@ get-within [] i x h = grind (arith, h)
 get-within (y ∷ xs) zero x h = omega arith
 get-within (y ∷ xs) (suc i) x h = let r = get-within xs i x h in omega arith
 
-at_history : (cpus tasks seats : ℕ) (journal : ℕ → List Entry) (s i : ℕ) → entry_at (history cpus tasks seats journal) s i ≡ option_and_then (λ xs. slice_get xs i) (slice_get (first_journals seats journal) s)
+at_history : (cpus tasks seats : ℕ) (journal : ℕ → List Entry) (s i : ℕ) → entry_at (history cpus tasks seats journal) s i ≡ option_and_then
+    (λ xs. slice_get xs i) (slice_get (first_journals seats journal) s)
 unfolding history
 at_history cpus tasks seats journal s i = refl
 

@@ -13,13 +13,15 @@ pub record OneRunner (on_cpu : ℕ → Bool) (cpu : ℕ → ℕ) (current to_cle
   pub clear_first : (s t : ℕ) → current s ≡ Some t → to_clear s ≡ None
   pub busy_is : (t : ℕ) → on_cpu t ≡ true → (current (cpu t) ≡ Some t) ⊎ (to_clear (cpu t) ≡ Some t)
 
--- While its busy word is still to be cleared, a task is the `left` of its processor's queue; a current task is its `cur`,
--- but while that seat has its own queue out.
-pub record NamedByQueue (current to_clear : ℕ → Option ℕ) (queue : ℕ → Option Queue) (queue_out : ℕ → ℕ → Option Queue) : Type 0 where
+-- While its busy word is still to be cleared, a task is the `left` of its processor's queue; a current task is its
+-- `cur`, but while that seat has its own queue out.
+pub record NamedByQueue (current to_clear : ℕ → Option ℕ) (queue : ℕ → Option Queue)
+    (queue_out : ℕ → ℕ → Option Queue) : Type 0 where
   pub left_home : (c t : ℕ) (val : Queue) → to_clear c ≡ Some t → queue c ≡ Some val → val.left ≡ Some t
   pub left_out : (s c t : ℕ) (taken : Queue) → to_clear c ≡ Some t → queue_out s c ≡ Some taken → taken.left ≡ Some t
   pub cur_home : (c t : ℕ) (val : Queue) → current c ≡ Some t → queue c ≡ Some val → val.cur ≡ Some t
-  pub cur_out : (s c t : ℕ) (taken : Queue) → s ≢ c → current c ≡ Some t → queue_out s c ≡ Some taken → taken.cur ≡ Some t
+  pub cur_out : (s c t : ℕ) (taken : Queue) → s ≢ c → current c ≡ Some t → queue_out s c ≡ Some taken
+      → taken.cur ≡ Some t
 
 -- A body is home, or out with the seat whose current task it is.
 pub record BodiesKept (tasks : ℕ) (body : ℕ → Bool) (body_out current : ℕ → Option ℕ) : Type 0 where

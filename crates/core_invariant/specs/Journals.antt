@@ -6,7 +6,8 @@ use Rattle.core_kinds.specs.Steps.{waking, dead}
 use Rattle.handoff_data.specs.History.{History}
 use Rattle.handoff_data.specs.Numbers.{change_of, run_of}
 use Rattle.handoff_data.specs.Positions.{Stands, IsIn, IsSomewhere}
-use Rattle.handoff_data.specs.Rules.{InRange, NotRepeated, Chained, Caused, RisesInJournal, RunsAlternate, LeavesWhileRunning, IsQueued, IsSleep}
+use Rattle.handoff_data.specs.Rules.{InRange, NotRepeated, Chained, Caused, RisesInJournal, RunsAlternate}
+use Rattle.handoff_data.specs.Rules.{LeavesWhileRunning, IsQueued, IsSleep}
 use Rattle.handoff_data.specs.declared.entry.Entry.{Entry}
 use Rattle.handoff_data.specs.declared.entry.Entry.TheVariants as entry
 use Rattle.handoff_data.specs.declared.state.State.{State}
@@ -50,20 +51,25 @@ pub record Numbered (j : History) (changes runs : ℕ → ℕ) : Type 0 where
   pub runs_end : (t : ℕ) → runs t ≤ 2 ^ 60
 
 -- The last change of a task is the one that its words tell.
-pub record LastChanges (j : History) (state : ℕ → State) (on_rq changes cpu : ℕ → ℕ) (on_cpu : ℕ → Bool) (lock : ℕ → Option ℕ) : Type 0 where
+pub record LastChanges (j : History) (state : ℕ → State) (on_rq changes cpu : ℕ → ℕ) (on_cpu : ℕ → Bool)
+    (lock : ℕ → Option ℕ) : Type 0 where
   pub queued : (t : ℕ) → on_rq t ≡ 1 → IsQueued j t (changes t) (cpu t)
   pub moving : (t s : ℕ) → on_rq t ≡ 2 → lock t ≡ Some s → (c : ℕ) × IsIn j s (entry.Out t (changes t) c)
-  pub ended : (t : ℕ) → changes t ≢ 0 → on_rq t ≡ 0 → state t ≡ dead → (c : ℕ) × IsSomewhere j (entry.Die t (changes t) c)
+  pub ended : (t : ℕ) → changes t ≢ 0 → on_rq t ≡ 0 → state t ≡ dead
+      → (c : ℕ) × IsSomewhere j (entry.Die t (changes t) c)
   pub off : (t : ℕ) → changes t ≢ 0 → on_rq t ≡ 0 → state t ≢ dead → IsSleep j t (changes t)
   -- one that is off its queue and still busy left it on the processor where it is busy
   pub leaving : (t : ℕ) → on_rq t ≡ 0 → on_cpu t ≡ true
       → IsIn j (cpu t) (entry.Sleep t (changes t) (cpu t)) ⊎ IsIn j (cpu t) (entry.Die t (changes t) (cpu t))
   -- and one that is asleep did so on its processor
-  pub asleep : (t : ℕ) → changes t ≢ 0 → on_rq t ≡ 0 → state t ≢ dead → state t ≢ waking → IsIn j (cpu t) (entry.Sleep t (changes t) (cpu t))
+  pub asleep : (t : ℕ) → changes t ≢ 0 → on_rq t ≡ 0 → state t ≢ dead → state t ≢ waking
+      → IsIn j (cpu t) (entry.Sleep t (changes t) (cpu t))
 
--- A wake is of an earlier sleep, or of the last one by the seat that has the task's lock; a listing is of an earlier sleep.
+-- A wake is of an earlier sleep, or of the last one by the seat that has the task's lock; a listing is of an earlier
+-- sleep.
 pub record Wakes (j : History) (state : ℕ → State) (on_rq changes : ℕ → ℕ) (lock : ℕ → Option ℕ) : Type 0 where
-  pub past : (s i t m : ℕ) → Stands j s i (entry.Wake t m) → (m < changes t) ⊎ ((m ≡ changes t) × (on_rq t ≡ 0) × (state t ≡ waking) × (lock t ≡ Some s))
+  pub past : (s i t m : ℕ) → Stands j s i (entry.Wake t m) → (m < changes t)
+      ⊎ ((m ≡ changes t) × (on_rq t ≡ 0) × (state t ≡ waking) × (lock t ≡ Some s))
   pub present : (t s : ℕ) → on_rq t ≡ 0 → state t ≡ waking → lock t ≡ Some s → IsIn j s (entry.Wake t (changes t))
   pub listed : (s i t m c e : ℕ) → Stands j s i (entry.List t m c e) → m < changes t
 
@@ -78,6 +84,7 @@ pub record JournalsHold (core : Columns) : Type 0 where
   pub plain : PlainEntries (history core.cpus core.tasks core.seats core.journal)
   pub rules : RulesKept (history core.cpus core.tasks core.seats core.journal)
   pub numbered : Numbered (history core.cpus core.tasks core.seats core.journal) core.changes core.runs
-  pub last_changes : LastChanges (history core.cpus core.tasks core.seats core.journal) core.state core.on_rq core.changes core.cpu core.on_cpu core.lock
+  pub last_changes : LastChanges (history core.cpus core.tasks core.seats core.journal) core.state core.on_rq
+      core.changes core.cpu core.on_cpu core.lock
   pub wakes : Wakes (history core.cpus core.tasks core.seats core.journal) core.state core.on_rq core.changes core.lock
   pub last_runs : LastRuns (history core.cpus core.tasks core.seats core.journal) core.on_cpu core.runs core.cpu

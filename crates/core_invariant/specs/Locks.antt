@@ -3,7 +3,8 @@ use Rattle.std.specs.Prelude.{◌≡◌, ℕ, ◌<◌, Option, Some, None, IsSom
 use Rattle.core_data.specs.Columns.{Columns}
 
 -- the locks of one kind, numbered below `count`
-pub record IsGuarded (A : Type 0) (count seats : ℕ) (lock : ℕ → Option ℕ) (home : ℕ → Option A) (out : ℕ → ℕ → Option A) : Type 0 where
+pub record IsGuarded (A : Type 0) (count seats : ℕ) (lock : ℕ → Option ℕ) (home : ℕ → Option A)
+    (out : ℕ → ℕ → Option A) : Type 0 where
   pub free_home : (k : ℕ) → k < count → lock k ≡ None → IsSome (home k)
   pub held_seat : (k s : ℕ) → lock k ≡ Some s → s < seats
   pub held_away : (k s : ℕ) → lock k ≡ Some s → home k ≡ None

@@ -1,4 +1,5 @@
--- A task that is queued on a processor stands once in the queue of that processor, or is its next; no other stands there.
+-- A task that is queued on a processor stands once in the queue of that processor, or is its next; no other stands
+-- there.
 use Rattle.std.specs.Prelude.{◌≡◌, ◌≤◌, ℕ, true, false, Option, Some, Bool, if◌then◌else◌}
 use Rattle.core_data.specs.Queue.{Queue}
 use Rattle.core_data.specs.Columns.{Columns}
@@ -45,10 +46,12 @@ pub record WasPut (j : History) (s t c : ℕ) : Type 0 where
 -- one that the holder put on this queue under the lock, and didn't take off again, is queued there
 abbrev pub AddedTasks : (ℕ → ℕ) → (ℕ → ℕ) → (ℕ → Option ℕ) → (ℕ → ℕ → Bool) → (ℕ → ℕ → ℕ → Bool) → History → Type 0
 AddedTasks on_rq cpu queue_lock requeued added j =
-    (s c t : ℕ) → queue_lock c ≡ Some s → added s c t ≡ true → requeued s t ≡ true → WasPut j s t c → is_at on_rq cpu c t ≡ true
+    (s c t : ℕ) → queue_lock c ≡ Some s → added s c t ≡ true → requeued s t ≡ true → WasPut j s t c
+    → is_at on_rq cpu c t ≡ true
 
 pub record QueuesHold (core : Columns) : Type 0 where
   pub at_home : HomeQueues core.on_rq core.cpu core.queue
   pub left : LeftQueues core.on_rq core.cpu core.queue_held core.has_added core.has_dropped
   pub dropped : DroppedTasks core.on_rq core.cpu core.queue_lock core.is_requeued core.has_dropped
-  pub added : AddedTasks core.on_rq core.cpu core.queue_lock core.is_requeued core.has_added (history core.cpus core.tasks core.seats core.journal)
+  pub added : AddedTasks core.on_rq core.cpu core.queue_lock core.is_requeued core.has_added
+      (history core.cpus core.tasks core.seats core.journal)

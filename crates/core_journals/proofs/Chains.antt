@@ -96,10 +96,14 @@ number-before u k t m q = let r = same-second u k t (m + 1) q in omega (arith, r
 -- the change before one of a started task, by what chains them
 chain-before : (j : History) (s i : ℕ) (e : Entry) (t m : ℕ) → Chained j s i e → change_of e ≡ Some (t, m + 1) → m ≢ 0 → HasChange LeavesAlive j t m
 chain-before j s i (entry.New u k c) t m h q some = absurd (some (let r = same-second u k t (m + 1) q in omega (arith, r, h)))
-chain-before j s i (entry.Sleep u k c) t m h q some = queued-change j t m c (subst (λ z. IsQueued j t z c) (number-before u k t m q) (subst (λ z. IsQueued j z (k - 1) c) (same-first u k t (m + 1) q) h.1))
-chain-before j s i (entry.Die u k c) t m h q some = queued-change j t m c (subst (λ z. IsQueued j t z c) (number-before u k t m q) (subst (λ z. IsQueued j z (k - 1) c) (same-first u k t (m + 1) q) h.1))
-chain-before j s i (entry.Out u k c) t m h q some = queued-change j t m c (subst (λ z. IsQueued j t z c) (number-before u k t m q) (subst (λ z. IsQueued j z (k - 1) c) (same-first u k t (m + 1) q) h.1))
-chain-before j s i (entry.Enq u k c by_list) t m h q some = sleep-change j t m (subst (λ z. IsSleep j t z) (number-before u k t m q) (subst (λ z. IsSleep j z (k - 1)) (same-first u k t (m + 1) q) h.1))
+chain-before j s i (entry.Sleep u k c) t m h q some =
+    queued-change j t m c (subst (λ z. IsQueued j t z c) (number-before u k t m q) (subst (λ z. IsQueued j z (k - 1) c) (same-first u k t (m + 1) q) h.1))
+chain-before j s i (entry.Die u k c) t m h q some =
+    queued-change j t m c (subst (λ z. IsQueued j t z c) (number-before u k t m q) (subst (λ z. IsQueued j z (k - 1) c) (same-first u k t (m + 1) q) h.1))
+chain-before j s i (entry.Out u k c) t m h q some =
+    queued-change j t m c (subst (λ z. IsQueued j t z c) (number-before u k t m q) (subst (λ z. IsQueued j z (k - 1) c) (same-first u k t (m + 1) q) h.1))
+chain-before j s i (entry.Enq u k c by_list) t m h q some =
+    sleep-change j t m (subst (λ z. IsSleep j t z) (number-before u k t m q) (subst (λ z. IsSleep j z (k - 1)) (same-first u k t (m + 1) q) h.1))
 chain-before j s i (entry.In u k c) t m h q some =
     let out = h.1.1 in
     record {
@@ -190,7 +194,9 @@ die-last core s i t m c holds h some =
       | inl same ↦ same
       | inr more ↦
           let next = each-change core t (m + 1) holds (λ z. omega (arith, z)) (omega (arith, below, more)) in
-          absurd (dies-there (past core) s i t m c p.rules.not_repeated h (chain-before (past core) next.seat next.index next.entry t m (p.rules.chained next.seat next.index next.entry next.stands) next.is some))
+          absurd
+          (dies-there (past core) s i t m c p.rules.not_repeated h
+          (chain-before (past core) next.seat next.index next.entry t m (p.rules.chained next.seat next.index next.entry next.stands) next.is some))
     ]
 
 -- A task with a death in some journal is dead.

@@ -24,17 +24,20 @@ number-log : {before after : History} {s n : ℕ} {e : Entry} (number : Entry �
 number-log number last l none p k i x t m h is = elim (l.log k i x h) [ inl a ↦ p k i x t m a is | inr b ↦ absurd (let r = sym is ∙ ap number b.2 ∙ none in grind (arith, r)) ]
 
 number-next : {before after : History} {s n : ℕ} {e : Entry} (number : Entry → Option (ℕ × ℕ)) (last : ℕ → ℕ) (t : ℕ) → Logged before after s n e → number e ≡ Some (t, last t + 1)
-    → ((k i : ℕ) (x : Entry) (u m : ℕ) → Stands before k i x → number x ≡ Some (u, m) → m ≤ last u) → (k i : ℕ) (x : Entry) (u m : ℕ) → Stands after k i x → number x ≡ Some (u, m) → m ≤ put last t (last t + 1) u
+    → ((k i : ℕ) (x : Entry) (u m : ℕ) → Stands before k i x → number x ≡ Some (u, m) → m ≤ last u) → (k i : ℕ) (x : Entry) (u m : ℕ) → Stands after k i x → number x ≡ Some (u, m)
+    → m ≤ put last t (last t + 1) u
 number-next number last t l next p k i x u m h is = elim (l.log k i x h) [
   | inl a ↦ let r = p k i x u m a is in grind (arith, nat_tests, r)
   | inr b ↦ let q = sym next ∙ ap number (sym b.2) ∙ is in let t-is = same-first t (last t + 1) u m q in let m-is = same-second t (last t + 1) u m q in grind (arith, nat_tests, t-is, m-is)
 ]
 
-pub Numbered-log : {before after : History} {s n : ℕ} {e : Entry} {changes runs : ℕ → ℕ} → Logged before after s n e → change_of e ≡ None → run_of e ≡ None → Numbered before changes runs → Numbered after changes runs
+pub Numbered-log : {before after : History} {s n : ℕ} {e : Entry} {changes runs : ℕ → ℕ} → Logged before after s n e → change_of e ≡ None → run_of e ≡ None → Numbered before changes runs
+    → Numbered after changes runs
 Numbered-log {changes = changes} {runs} l no-change no-run p =
     record { change = number-log change_of changes l no-change p.change; run = number-log run_of runs l no-run p.run; changes_end = p.changes_end; runs_end = p.runs_end }
 
-pub Numbered-change : {before after : History} {s n : ℕ} {e : Entry} {changes runs : ℕ → ℕ} (t : ℕ) → Logged before after s n e → change_of e ≡ Some (t, changes t + 1) → run_of e ≡ None → changes t < 2 ^ 60
+pub Numbered-change : {before after : History} {s n : ℕ} {e : Entry} {changes runs : ℕ → ℕ} (t : ℕ) → Logged before after s n e → change_of e ≡ Some (t, changes t + 1) → run_of e ≡ None
+    → changes t < 2 ^ 60
     → Numbered before changes runs → Numbered after (put changes t (changes t + 1)) runs
 Numbered-change {changes = changes} {runs} t l next no-run room p =
     record {
@@ -60,7 +63,8 @@ pub LastChanges-log : {before after : History} {s n : ℕ} {e : Entry} {state : 
     → LastChanges before state on_rq changes cpu on_cpu lock → LastChanges after state on_rq changes cpu on_cpu lock
 LastChanges-log l p = last-rows (λ u. LastRow-log l (last-row p u))
 
-pub LastChanges-change : {before after : History} {s n : ℕ} {e : Entry} {state : ℕ → State} {on_rq changes cpu : ℕ → ℕ} {on_cpu : ℕ → Bool} {lock : ℕ → Option ℕ} (t on m : ℕ) → Logged before after s n e
+pub LastChanges-change : {before after : History} {s n : ℕ} {e : Entry} {state : ℕ → State} {on_rq changes cpu : ℕ → ℕ} {on_cpu : ℕ → Bool} {lock : ℕ → Option ℕ} (t on m : ℕ)
+    → Logged before after s n e
     → LastRow after t (state t) on m (cpu t) (on_cpu t) (lock t) → LastChanges before state on_rq changes cpu on_cpu lock → LastChanges after state (put on_rq t on) (put changes t m) cpu on_cpu lock
 LastChanges-change {after = after} {state = state} {on_rq} {changes} {cpu} {on_cpu} {lock} t on m l here p =
     last-rows (rows t (λ u b. LastRow after u (state u) (if b then on else on_rq u) (if b then m else changes u) (cpu u) (on_cpu u) (lock u)) here (λ u q. LastRow-log l (last-row p u)))
@@ -70,12 +74,14 @@ pub LastChanges-lock : {j : History} {state : ℕ → State} {on_rq changes cpu 
 LastChanges-lock {j} {state} {on_rq} {changes} {cpu} {on_cpu} {lock} t new still p =
     last-rows (rows t (λ u b. LastRow j u (state u) (on_rq u) (changes u) (cpu u) (on_cpu u) (if b then new else lock u)) (LastRow-lock new still (last-row p t)) (λ u q. last-row p u))
 
-pub LastChanges-state : {j : History} {state : ℕ → State} {on_rq changes cpu : ℕ → ℕ} {on_cpu : ℕ → Bool} {lock : ℕ → Option ℕ} (t : ℕ) (new : State) → LastRow j t new (on_rq t) (changes t) (cpu t) (on_cpu t) (lock t)
+pub LastChanges-state : {j : History} {state : ℕ → State} {on_rq changes cpu : ℕ → ℕ} {on_cpu : ℕ → Bool} {lock : ℕ → Option ℕ} (t : ℕ) (new : State)
+    → LastRow j t new (on_rq t) (changes t) (cpu t) (on_cpu t) (lock t)
     → LastChanges j state on_rq changes cpu on_cpu lock → LastChanges j (put state t new) on_rq changes cpu on_cpu lock
 LastChanges-state {j} {state} {on_rq} {changes} {cpu} {on_cpu} {lock} t new here p =
     last-rows (rows t (λ u b. LastRow j u (if b then new else state u) (on_rq u) (changes u) (cpu u) (on_cpu u) (lock u)) here (λ u q. last-row p u))
 
-pub LastChanges-busy : {j : History} {state : ℕ → State} {on_rq changes cpu : ℕ → ℕ} {on_cpu : ℕ → Bool} {lock : ℕ → Option ℕ} (t : ℕ) (new : Bool) → LastRow j t (state t) (on_rq t) (changes t) (cpu t) new (lock t)
+pub LastChanges-busy : {j : History} {state : ℕ → State} {on_rq changes cpu : ℕ → ℕ} {on_cpu : ℕ → Bool} {lock : ℕ → Option ℕ} (t : ℕ) (new : Bool)
+    → LastRow j t (state t) (on_rq t) (changes t) (cpu t) new (lock t)
     → LastChanges j state on_rq changes cpu on_cpu lock → LastChanges j state on_rq changes cpu (put on_cpu t new) lock
 LastChanges-busy {j} {state} {on_rq} {changes} {cpu} {on_cpu} {lock} t new here p =
     last-rows (rows t (λ u b. LastRow j u (state u) (on_rq u) (changes u) (cpu u) (if b then new else on_cpu u) (lock u)) here (λ u q. last-row p u))
@@ -95,7 +101,8 @@ pub Wakes-log : {before after : History} {s n : ℕ} {e : Entry} {state : ℕ �
     → Wakes before state on_rq changes lock → Wakes after state on_rq changes lock
 Wakes-log l none other p = wake-rows (λ u. WakeRow-log l none (other u) (wake-row p u))
 
-pub Wakes-change : {before after : History} {s n : ℕ} {e : Entry} {state : ℕ → State} {on_rq changes : ℕ → ℕ} {lock : ℕ → Option ℕ} (t on : ℕ) → Logged before after s n e → IsNoList e → IsNoWake e → (on ≡ 0 → state t ≢ waking)
+pub Wakes-change : {before after : History} {s n : ℕ} {e : Entry} {state : ℕ → State} {on_rq changes : ℕ → ℕ} {lock : ℕ → Option ℕ} (t on : ℕ) → Logged before after s n e → IsNoList e → IsNoWake e
+    → (on ≡ 0 → state t ≢ waking)
     → Wakes before state on_rq changes lock → Wakes after state (put on_rq t on) (put changes t (changes t + 1)) lock
 Wakes-change {after = after} {state = state} {on_rq} {changes} {lock} t on l none other still p =
     wake-rows (rows t (λ u b. WakeRow after u (state u) (if b then on else on_rq u) (if b then changes t + 1 else changes u) (lock u))
@@ -111,7 +118,8 @@ pub Wakes-state : {j : History} {state : ℕ → State} {on_rq changes : ℕ →
 Wakes-state {j} {state} {on_rq} {changes} {lock} t new was still p =
     wake-rows (rows t (λ u b. WakeRow j u (if b then new else state u) (on_rq u) (changes u) (lock u)) (WakeRow-still new (lock t) (λ h w q. was h w) still (wake-row p t)) (λ u q. wake-row p u))
 
-pub Wakes-wake : {before after : History} {s n : ℕ} {state : ℕ → State} {on_rq changes : ℕ → ℕ} {lock : ℕ → Option ℕ} (t : ℕ) → Logged before after s n (entry.Wake t (changes t)) → on_rq t ≡ 0 → state t ≢ waking → lock t ≡ Some s
+pub Wakes-wake : {before after : History} {s n : ℕ} {state : ℕ → State} {on_rq changes : ℕ → ℕ} {lock : ℕ → Option ℕ} (t : ℕ) → Logged before after s n (entry.Wake t (changes t)) → on_rq t ≡ 0
+    → state t ≢ waking → lock t ≡ Some s
     → Wakes before state on_rq changes lock → Wakes after (put state t waking) on_rq changes lock
 Wakes-wake {after = after} {state = state} {on_rq} {changes} {lock} t l off awake locked p =
     wake-rows (rows t (λ u b. WakeRow after u (if b then waking else state u) (on_rq u) (changes u) (lock u)) (WakeRow-wakes l off awake locked (wake-row p t))

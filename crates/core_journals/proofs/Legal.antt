@@ -52,7 +52,8 @@ closed-idle core t holds none clear = elim (cases_Bool (core.on_cpu t)) [
   ]
 ]
 
-pub IsLegal-closed : (core : Columns) → Holds core → ((s : ℕ) → core.current_task s ≡ None) → ((s : ℕ) → core.task_to_clear s ≡ None) → ((t : ℕ) → t < core.tasks → core.state t ≡ dead) → IsLegal (past core)
+pub IsLegal-closed : (core : Columns) → Holds core → ((s : ℕ) → core.current_task s ≡ None) → ((s : ℕ) → core.task_to_clear s ≡ None) → ((t : ℕ) → t < core.tasks → core.state t ≡ dead)
+    → IsLegal (past core)
 IsLegal-closed core holds none clear all =
     record {
       no_bad = HasNoBad-journals core holds.journals;

@@ -91,7 +91,8 @@ refuse false core s t state r = r.journals
 read-state : (core : Columns) (s t : ℕ) (mask : Option State) (own : Bool) (old : TaskReads) (state : State) → Ready core s t → JournalsHold (load_this core s t mask own old state)
 read-state core s t mask own old state r =
     let p = r.journals in
-    refuse (is_refused state mask) _ s t state (note-passed (not (is_match state normal)) _ s t t (note-saw-rest (not (state.0 == 0x200)) _ s t t (note-matched (is_matched state mask) _ s t t (see own _ s t state (
+    refuse (is_refused state mask) _ s t state
+    (note-passed (not (is_match state normal)) _ s t t (note-saw-rest (not (state.0 == 0x200)) _ s t t (note-matched (is_matched state mask) _ s t t (see own _ s t state (
     record { journals = record { plain = p.plain; rules = p.rules; numbered = p.numbered; last_changes = p.last_changes; wakes = p.wakes; last_runs = p.last_runs }; seat = r.seat; task = r.task })))))
 
 pub JournalsHold-load_state : (core : Columns) (s t : ℕ) (mask : Option State) → Holds core → MayLoadState core s t mask → JournalsHold (load_state core s t mask)
@@ -102,7 +103,11 @@ read-rq : (core : Columns) (s t : ℕ) (fresh rests : Bool) (old : TaskReads) (o
 read-rq core s t fresh rests old on m r =
     let p = r.journals in
     (note-saw-rest-off ((on == 0) && rests) _ s t t (note-saw-off ((on == 0) && fresh) _ s t t (
-    record { journals = record { plain = p.plain; rules = p.rules; numbered = p.numbered; last_changes = p.last_changes; wakes = p.wakes; last_runs = p.last_runs }; seat = r.seat; task = r.task }))).journals
+    record {
+      journals = record { plain = p.plain; rules = p.rules; numbered = p.numbered; last_changes = p.last_changes; wakes = p.wakes; last_runs = p.last_runs };
+      seat = r.seat;
+      task = r.task;
+    }))).journals
 
 pub JournalsHold-load_rq : (core : Columns) (s t : ℕ) → Holds core → MayLoad core s t → JournalsHold (load_rq core s t)
 JournalsHold-load_rq core s t holds may =
@@ -112,20 +117,45 @@ read-busy : (core : Columns) (s t : ℕ) (rests : Bool) (old : TaskReads) (busy 
 read-busy core s t rests old busy r =
     let p = r.journals in
     (note-saw-rest-idle (not busy && rests) _ s t t (note-saw-clear (not busy) _ s t t (
-    record { journals = record { plain = p.plain; rules = p.rules; numbered = p.numbered; last_changes = p.last_changes; wakes = p.wakes; last_runs = p.last_runs }; seat = r.seat; task = r.task }))).journals
+    record {
+      journals = record { plain = p.plain; rules = p.rules; numbered = p.numbered; last_changes = p.last_changes; wakes = p.wakes; last_runs = p.last_runs };
+      seat = r.seat;
+      task = r.task;
+    }))).journals
 
 pub JournalsHold-load_busy : (core : Columns) (s t : ℕ) → Holds core → MayLoad core s t → JournalsHold (load_busy core s t)
 JournalsHold-load_busy core s t holds may =
     read-busy core s t (core.saw_rest_off s t) (core.last_reads s t) (core.on_cpu t) (record { journals = holds.journals; seat = may.seat; task = may.task })
 
 pub JournalsHold-load_cpu : (core : Columns) (s t : ℕ) → Holds core → MayLoad core s t → JournalsHold (load_cpu core s t)
-JournalsHold-load_cpu core s t holds may = let p = holds.journals in record { plain = p.plain; rules = p.rules; numbered = p.numbered; last_changes = p.last_changes; wakes = p.wakes; last_runs = p.last_runs }
+JournalsHold-load_cpu core s t holds may = let p = holds.journals in record {
+  plain = p.plain;
+  rules = p.rules;
+  numbered = p.numbered;
+  last_changes = p.last_changes;
+  wakes = p.wakes;
+  last_runs = p.last_runs;
+}
 
 pub JournalsHold-load_count : (core : Columns) (s t : ℕ) → Holds core → MayLoad core s t → JournalsHold (load_count core s t)
-JournalsHold-load_count core s t holds may = let p = holds.journals in record { plain = p.plain; rules = p.rules; numbered = p.numbered; last_changes = p.last_changes; wakes = p.wakes; last_runs = p.last_runs }
+JournalsHold-load_count core s t holds may = let p = holds.journals in record {
+  plain = p.plain;
+  rules = p.rules;
+  numbered = p.numbered;
+  last_changes = p.last_changes;
+  wakes = p.wakes;
+  last_runs = p.last_runs;
+}
 
 pub JournalsHold-bump : (core : Columns) (s k : ℕ) → Holds core → MayBump core s k → JournalsHold (bump core s k)
-JournalsHold-bump core s k holds may = let p = holds.journals in record { plain = p.plain; rules = p.rules; numbered = p.numbered; last_changes = p.last_changes; wakes = p.wakes; last_runs = p.last_runs }
+JournalsHold-bump core s k holds may = let p = holds.journals in record {
+  plain = p.plain;
+  rules = p.rules;
+  numbered = p.numbered;
+  last_changes = p.last_changes;
+  wakes = p.wakes;
+  last_runs = p.last_runs;
+}
 
 tested : (b : Bool) (core : Columns) (s t k v : ℕ) → JournalsHold core → JournalsHold (tested_if b core s t k v)
 tested true core s t k v p = record { plain = p.plain; rules = p.rules; numbered = p.numbered; last_changes = p.last_changes; wakes = p.wakes; last_runs = p.last_runs }

@@ -38,7 +38,14 @@ JournalsHold-give_task core s t val stood done holds may =
     }
 
 pub JournalsHold-take_queue : (core : Columns) (s c : ℕ) → Holds core → MayTakeQueue core s c → JournalsHold (take_queue core s c)
-JournalsHold-take_queue core s c holds may = let p = holds.journals in record { plain = p.plain; rules = p.rules; numbered = p.numbered; last_changes = p.last_changes; wakes = p.wakes; last_runs = p.last_runs }
+JournalsHold-take_queue core s c holds may = let p = holds.journals in record {
+  plain = p.plain;
+  rules = p.rules;
+  numbered = p.numbered;
+  last_changes = p.last_changes;
+  wakes = p.wakes;
+  last_runs = p.last_runs;
+}
 
 given-up : (b : Bool) (core : Columns) (s : ℕ) → JournalsHold core → JournalsHold (give_up_if b core s)
 given-up true core s p = record { plain = p.plain; rules = p.rules; numbered = p.numbered; last_changes = p.last_changes; wakes = p.wakes; last_runs = p.last_runs }
@@ -56,13 +63,34 @@ JournalsHold-give_queue core s c queue holds may =
     record { plain = p.plain; rules = p.rules; numbered = p.numbered; last_changes = p.last_changes; wakes = p.wakes; last_runs = p.last_runs }
 
 pub JournalsHold-take_works : (core : Columns) (s c : ℕ) → Holds core → MayTakeWorks core s c → JournalsHold (take_works core s c)
-JournalsHold-take_works core s c holds may = let p = holds.journals in record { plain = p.plain; rules = p.rules; numbered = p.numbered; last_changes = p.last_changes; wakes = p.wakes; last_runs = p.last_runs }
+JournalsHold-take_works core s c holds may = let p = holds.journals in record {
+  plain = p.plain;
+  rules = p.rules;
+  numbered = p.numbered;
+  last_changes = p.last_changes;
+  wakes = p.wakes;
+  last_runs = p.last_runs;
+}
 
 pub JournalsHold-give_works : (core : Columns) (s c : ℕ) (val : List WorkItem) → Holds core → MayGiveWorks core s c val → JournalsHold (give_works core s c val)
-JournalsHold-give_works core s c val holds may = let p = holds.journals in record { plain = p.plain; rules = p.rules; numbered = p.numbered; last_changes = p.last_changes; wakes = p.wakes; last_runs = p.last_runs }
+JournalsHold-give_works core s c val holds may = let p = holds.journals in record {
+  plain = p.plain;
+  rules = p.rules;
+  numbered = p.numbered;
+  last_changes = p.last_changes;
+  wakes = p.wakes;
+  last_runs = p.last_runs;
+}
 
 pub JournalsHold-take_wait : (core : Columns) (s k : ℕ) → Holds core → MayTakeWait core s k → JournalsHold (take_wait core s k)
-JournalsHold-take_wait core s k holds may = let p = holds.journals in record { plain = p.plain; rules = p.rules; numbered = p.numbered; last_changes = p.last_changes; wakes = p.wakes; last_runs = p.last_runs }
+JournalsHold-take_wait core s k holds may = let p = holds.journals in record {
+  plain = p.plain;
+  rules = p.rules;
+  numbered = p.numbered;
+  last_changes = p.last_changes;
+  wakes = p.wakes;
+  last_runs = p.last_runs;
+}
 
 walked : (b : Bool) (core : Columns) (s k : ℕ) → JournalsHold core → JournalsHold (walked_if b core s k)
 walked true core s k p = record { plain = p.plain; rules = p.rules; numbered = p.numbered; last_changes = p.last_changes; wakes = p.wakes; last_runs = p.last_runs }
@@ -77,7 +105,21 @@ pub JournalsHold-give_wait : (core : Columns) (s k : ℕ) (given : List WaitEntr
 JournalsHold-give_wait core s k given holds may = given-by core s k given (core.wait_held s k) holds.journals
 
 pub JournalsHold-body_out : (core : Columns) (s t : ℕ) → Holds core → MayBodyOut core s t → JournalsHold (body_out core s t)
-JournalsHold-body_out core s t holds may = let p = holds.journals in record { plain = p.plain; rules = p.rules; numbered = p.numbered; last_changes = p.last_changes; wakes = p.wakes; last_runs = p.last_runs }
+JournalsHold-body_out core s t holds may = let p = holds.journals in record {
+  plain = p.plain;
+  rules = p.rules;
+  numbered = p.numbered;
+  last_changes = p.last_changes;
+  wakes = p.wakes;
+  last_runs = p.last_runs;
+}
 
 pub JournalsHold-body_home : (core : Columns) (s t : ℕ) (ended : Bool) → Holds core → MayBodyHome core s t ended → JournalsHold (body_home core s t ended)
-JournalsHold-body_home core s t ended holds may = let p = holds.journals in record { plain = p.plain; rules = p.rules; numbered = p.numbered; last_changes = p.last_changes; wakes = p.wakes; last_runs = p.last_runs }
+JournalsHold-body_home core s t ended holds may = let p = holds.journals in record {
+  plain = p.plain;
+  rules = p.rules;
+  numbered = p.numbered;
+  last_changes = p.last_changes;
+  wakes = p.wakes;
+  last_runs = p.last_runs;
+}

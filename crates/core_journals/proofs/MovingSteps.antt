@@ -21,7 +21,8 @@ use Rattle.handoff_data.specs.declared.state.State.{State}
 
 -- the stored queue word moves its task
 
-pub stored-moves : (core : Columns) (s t on : ℕ) (e : Entry) → task_of e ≡ Some t → Moves s (place_of core t) e (place (core.changes t + 1) on (core.state t) (core.cpu t) (core.lock t) (core.on_cpu t))
+pub stored-moves : (core : Columns) (s t on : ℕ) (e : Entry) → task_of e ≡ Some t
+    → Moves s (place_of core t) e (place (core.changes t + 1) on (core.state t) (core.cpu t) (core.lock t) (core.on_cpu t))
     → IsMoved s core (store_rq core s t on e)
 stored-moves core s t on e of m =
     record {
@@ -30,8 +31,12 @@ stored-moves core s t on e of m =
       of_task = of;
       own_journal = put_here core.journal s (core.journal s ++ e ∷ []) s refl;
       other_journals = λ k h. put_there core.journal s (core.journal s ++ e ∷ []) k h;
-      moves = here t (λ b. Moves s (place_of core t) e (place (if b then core.changes t + 1 else core.changes t) (if b then on else core.on_rq t) (core.state t) (core.cpu t) (core.lock t) (core.on_cpu t))) m;
-      others = λ u h. apart t u (λ b. place (if b then core.changes t + 1 else core.changes u) (if b then on else core.on_rq u) (core.state u) (core.cpu u) (core.lock u) (core.on_cpu u) ≡ place_of core u) h refl;
+      moves =
+          here t
+          (λ b. Moves s (place_of core t) e (place (if b then core.changes t + 1 else core.changes t) (if b then on else core.on_rq t) (core.state t) (core.cpu t) (core.lock t) (core.on_cpu t))) m;
+      others =
+          λ u h. apart t u (λ b. place (if b then core.changes t + 1 else core.changes u) (if b then on else core.on_rq u) (core.state u) (core.cpu u) (core.lock u) (core.on_cpu u) ≡ place_of core u)
+          h refl;
     }
 
 -- a task that is put on the queue of its processor, from the place q
@@ -47,27 +52,36 @@ queue-moves : (core : Columns) (s c t : ℕ) → Holds core → MayQueue core s 
 queue-moves core s c t holds may = elim (cases_eq (core.changes t) 0) [
   | inl z ↦ subst (λ e. IsMoved s core (store_rq core s t 1 e)) (entry-new (core.changes t) (core.on_rq t) t c z) (stored-moves core s t 1 (entry.New t (core.changes t + 1) c) refl (
       let idle = holds.places.new.idle t z in
-      onto core s c t (entry.New t (core.changes t + 1) c) may.here idle (q-new (core.changes t) (core.on_rq t) (core.state t) (core.cpu t) (core.lock t) z, b-idle (core.on_cpu t) (core.cpu t) idle) refl))
+      onto core s c t (entry.New t (core.changes t + 1) c) may.here idle (
+        q-new (core.changes t) (core.on_rq t) (core.state t) (core.cpu t) (core.lock t) z,
+        b-idle (core.on_cpu t) (core.cpu t) idle,
+      ) refl))
   | inr m ↦ elim (cases_eq (core.on_rq t) 2) [
     | inl h ↦ subst (λ e. IsMoved s core (store_rq core s t 1 e)) (entry-in (core.changes t) (core.on_rq t) t c m h) (stored-moves core s t 1 (entry.In t (core.changes t + 1) c) refl (
         let idle = holds.places.moving.idle t h in
-        onto core s c t (entry.In t (core.changes t + 1) c) may.here idle (q-moving (core.changes t) (core.on_rq t) (core.state t) (core.cpu t) (core.lock t) s m h may.task_locked, b-idle (core.on_cpu t) (core.cpu t) idle) refl))
-    | inr h ↦ subst (λ e. IsMoved s core (store_rq core s t 1 e)) (entry-enq (core.changes t) (core.on_rq t) t c m h) (stored-moves core s t 1 (entry.Enq t (core.changes t + 1) c false) refl (elim (may.ready) [
-      | inl z ↦ absurd (m z)
-      | inr r ↦ elim r [
-        | inl w ↦
-            let idle = woken-idle core s t holds may.task_locked m w.0 w.1 w.2 in
-            onto core s c t (entry.Enq t (core.changes t + 1) c false) may.here idle
-            (q-waking (core.changes t) (core.on_rq t) (core.state t) (core.cpu t) (core.lock t) s m w.0 w.1 may.task_locked, b-idle (core.on_cpu t) (core.cpu t) idle) refl
-        | inr b ↦ absurd (h b)
-      ]
-    ]))
+        onto core s c t (entry.In t (core.changes t + 1) c) may.here idle (
+          q-moving (core.changes t) (core.on_rq t) (core.state t) (core.cpu t) (core.lock t) s m h may.task_locked,
+          b-idle (core.on_cpu t) (core.cpu t) idle,
+        ) refl))
+    | inr h ↦
+        subst (λ e. IsMoved s core (store_rq core s t 1 e)) (entry-enq (core.changes t) (core.on_rq t) t c m h)
+        (stored-moves core s t 1 (entry.Enq t (core.changes t + 1) c false) refl (elim (may.ready) [
+          | inl z ↦ absurd (m z)
+          | inr r ↦ elim r [
+            | inl w ↦
+                let idle = woken-idle core s t holds may.task_locked m w.0 w.1 w.2 in
+                onto core s c t (entry.Enq t (core.changes t + 1) c false) may.here idle
+                (q-waking (core.changes t) (core.on_rq t) (core.state t) (core.cpu t) (core.lock t) s m w.0 w.1 may.task_locked, b-idle (core.on_cpu t) (core.cpu t) idle) refl
+            | inr b ↦ absurd (h b)
+          ]
+        ]))
   ]
 ]
 
 pub Moves-queue_task : (core : Columns) (s c t : ℕ) → Holds core → MayQueue core s c t → OneMoveOrNone s core (queue_task core s c t)
 Moves-queue_task core s c t holds may =
-    let m = queue-moves core s c t holds may in inr (record { task = m.task; entry = m.entry; of_task = m.of_task; moves = m.moves; others = m.others; own_journal = m.own_journal; other_journals = m.other_journals })
+    let m = queue-moves core s c t holds may in
+    inr (record { task = m.task; entry = m.entry; of_task = m.of_task; moves = m.moves; others = m.others; own_journal = m.own_journal; other_journals = m.other_journals })
 
 -- the place of a task that runs
 on-here : (core : Columns) (s t : ℕ) → core.changes t ≢ 0 → core.on_rq t ≡ 1 → core.cpu t ≡ s → (q_of (core.changes t) (core.on_rq t) (core.state t) (core.cpu t) (core.lock t) ≡ q.On s)
@@ -91,7 +105,8 @@ dequeue-die core s t holds may ended =
       to = same-place _ _ _ _ (q-dead (core.changes t + 1) 0 (core.state t) (core.cpu t) (core.lock t) (λ z. omega (arith, z)) refl ended) busy;
     })
 
-dequeue-seen : (core : Columns) (s t : ℕ) (seen : Option State) → Holds core → MayDequeue core s s t → core.seen_state s ≡ seen → MayLeave seen (core.count t) → IsMoved s core (store_rq core s t 0 (dequeue_entry seen (core.changes t) t s))
+dequeue-seen : (core : Columns) (s t : ℕ) (seen : Option State) → Holds core → MayDequeue core s s t → core.seen_state s ≡ seen → MayLeave seen (core.count t)
+    → IsMoved s core (store_rq core s t 0 (dequeue_entry seen (core.changes t) t s))
 dequeue-seen core s t None holds may q h = absurd h
 dequeue-seen core s t (Some x) holds may q h =
     let is = holds.positions.seen.is s t x may.current may.queued q in

@@ -64,7 +64,8 @@ next-new j {changes} s n t c p task cpu never =
       leaves = tt;
     }
 
-pub next-enq : (j : History) {changes runs : ℕ → ℕ} (s n t c : ℕ) → Numbered j changes runs → t < j.tasks → c < j.cpus → changes t ≢ 0 → IsSleep j t (changes t) → IsBefore j s n (entry.Wake t (changes t)) → (IsListed j t (changes t) → ⊥)
+pub next-enq : (j : History) {changes runs : ℕ → ℕ} (s n t c : ℕ) → Numbered j changes runs → t < j.tasks → c < j.cpus → changes t ≢ 0 → IsSleep j t (changes t)
+    → IsBefore j s n (entry.Wake t (changes t)) → (IsListed j t (changes t) → ⊥)
     → IsNext j s n (entry.Enq t (changes t + 1) c false)
 next-enq j {changes} s n t c p task cpu some sleep wake unlisted =
     let made : Entry = entry.Enq t (changes t + 1) c false in
@@ -81,7 +82,8 @@ next-enq j {changes} s n t c p task cpu some sleep wake unlisted =
       leaves = tt;
     }
 
-pub next-in : (j : History) {changes runs : ℕ → ℕ} (s n t c d : ℕ) → Numbered j changes runs → t < j.tasks → c < j.cpus → changes t ≢ 0 → IsIn j s (entry.Out t (changes t) d) → IsNext j s n (entry.In t (changes t + 1) c)
+pub next-in : (j : History) {changes runs : ℕ → ℕ} (s n t c d : ℕ) → Numbered j changes runs → t < j.tasks → c < j.cpus → changes t ≢ 0 → IsIn j s (entry.Out t (changes t) d)
+    → IsNext j s n (entry.In t (changes t + 1) c)
 next-in j {changes} s n t c d p task cpu some out =
     let made : Entry = entry.In t (changes t + 1) c in
     record {
@@ -97,7 +99,8 @@ next-in j {changes} s n t c d p task cpu some out =
       leaves = tt;
     }
 
-pub next-out : (j : History) {changes runs : ℕ → ℕ} (s n t c : ℕ) → Numbered j changes runs → t < j.tasks → c < j.cpus → changes t ≢ 0 → IsQueued j t (changes t) c → IsNext j s n (entry.Out t (changes t + 1) c)
+pub next-out : (j : History) {changes runs : ℕ → ℕ} (s n t c : ℕ) → Numbered j changes runs → t < j.tasks → c < j.cpus → changes t ≢ 0 → IsQueued j t (changes t) c
+    → IsNext j s n (entry.Out t (changes t + 1) c)
 next-out j {changes} s n t c p task cpu some queued =
     let made : Entry = entry.Out t (changes t + 1) c in
     record {
@@ -113,7 +116,8 @@ next-out j {changes} s n t c p task cpu some queued =
       leaves = tt;
     }
 
-pub next-sleep : (j : History) {changes runs : ℕ → ℕ} (s n t : ℕ) → Numbered j changes runs → t < j.tasks → s < j.cpus → changes t ≢ 0 → IsQueued j t (changes t) s → IsRunning j s n t → IsNext j s n (entry.Sleep t (changes t + 1) s)
+pub next-sleep : (j : History) {changes runs : ℕ → ℕ} (s n t : ℕ) → Numbered j changes runs → t < j.tasks → s < j.cpus → changes t ≢ 0 → IsQueued j t (changes t) s → IsRunning j s n t
+    → IsNext j s n (entry.Sleep t (changes t + 1) s)
 next-sleep j {changes} s n t p task cpu some queued runs =
     let made : Entry = entry.Sleep t (changes t + 1) s in
     record {
@@ -129,7 +133,8 @@ next-sleep j {changes} s n t p task cpu some queued runs =
       leaves = runs;
     }
 
-pub next-die : (j : History) {changes runs : ℕ → ℕ} (s n t : ℕ) → Numbered j changes runs → t < j.tasks → s < j.cpus → changes t ≢ 0 → IsQueued j t (changes t) s → IsRunning j s n t → IsNext j s n (entry.Die t (changes t + 1) s)
+pub next-die : (j : History) {changes runs : ℕ → ℕ} (s n t : ℕ) → Numbered j changes runs → t < j.tasks → s < j.cpus → changes t ≢ 0 → IsQueued j t (changes t) s → IsRunning j s n t
+    → IsNext j s n (entry.Die t (changes t + 1) s)
 next-die j {changes} s n t p task cpu some queued runs =
     let made : Entry = entry.Die t (changes t + 1) s in
     record {
@@ -162,7 +167,8 @@ next-pick j {runs = runs} s n t p task cpu even finish =
       leaves = tt;
     }
 
-pub next-finish : (j : History) {changes runs : ℕ → ℕ} (s n t : ℕ) → Numbered j changes runs → t < j.tasks → s < j.cpus → runs t % 2 ≡ 1 → IsBefore j s n (entry.Pick t (runs t) s) → IsNext j s n (entry.Finish t (runs t + 1) s)
+pub next-finish : (j : History) {changes runs : ℕ → ℕ} (s n t : ℕ) → Numbered j changes runs → t < j.tasks → s < j.cpus → runs t % 2 ≡ 1 → IsBefore j s n (entry.Pick t (runs t) s)
+    → IsNext j s n (entry.Finish t (runs t + 1) s)
 next-finish j {runs = runs} s n t p task cpu odd pick =
     let made : Entry = entry.Finish t (runs t + 1) s in
     record {
@@ -179,7 +185,8 @@ next-finish j {runs = runs} s n t p task cpu odd pick =
     }
 
 -- before the end of the journal of its processor's seat, the last run entry of a busy task is a pick
-pub running-now : (j : History) {on_cpu : ℕ → Bool} {changes runs cpu : ℕ → ℕ} (s n t : ℕ) → LastRuns j on_cpu runs cpu → Numbered j changes runs → EachKeeps RisesInJournal j → on_cpu t ≡ true → cpu t ≡ s
+pub running-now : (j : History) {on_cpu : ℕ → Bool} {changes runs cpu : ℕ → ℕ} (s n t : ℕ) → LastRuns j on_cpu runs cpu → Numbered j changes runs → EachKeeps RisesInJournal j → on_cpu t ≡ true
+    → cpu t ≡ s
     → ((i : ℕ) (x : Entry) → Stands j s i x → i < n) → IsRunning j s n t
 running-now j {runs = runs} s n t p numbered rises busy here within =
     let pick : IsIn j s (entry.Pick t (runs t) s) = subst (λ z. IsIn j z (entry.Pick t (runs t) z)) here (p.busy t busy) in (

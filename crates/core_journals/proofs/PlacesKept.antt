@@ -39,7 +39,8 @@ waking-is : (x : State) → x.0 ≡ 0x200 → x ≡ waking
 waking-is x h = ap (λ n. record { 0 = n }) h
 
 -- The lock doesn't tell where a task is that isn't on its way to a queue.
-pub q-lock : (changes on_rq : ℕ) (state : State) (cpu : ℕ) (lock new : Option ℕ) → on_rq ≤ 2 → on_rq ≢ 2 → (on_rq ≡ 0 → state ≢ waking) → q_of changes on_rq state cpu new ≡ q_of changes on_rq state cpu lock
+pub q-lock : (changes on_rq : ℕ) (state : State) (cpu : ℕ) (lock new : Option ℕ) → on_rq ≤ 2 → on_rq ≢ 2 → (on_rq ≡ 0 → state ≢ waking)
+    → q_of changes on_rq state cpu new ≡ q_of changes on_rq state cpu lock
 q-lock changes on_rq state cpu lock new few still off =
     let awake : (on_rq ≡ 0 → state.0 ≢ 0x200) = λ h w. off h (waking-is state w) in
     grind (arith, nat_tests, few, still, awake)

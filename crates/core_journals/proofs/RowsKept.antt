@@ -37,7 +37,8 @@ LastRow-queued t state changes cpu on_cpu lock queued =
     }
 
 -- one that is moved
-pub LastRow-moving : {j : History} (s t : ℕ) (state : State) (changes cpu c : ℕ) (on_cpu : Bool) (lock : Option ℕ) → lock ≡ Some s → IsIn j s (entry.Out t changes c) → LastRow j t state 2 changes cpu on_cpu lock
+pub LastRow-moving : {j : History} (s t : ℕ) (state : State) (changes cpu c : ℕ) (on_cpu : Bool) (lock : Option ℕ) → lock ≡ Some s → IsIn j s (entry.Out t changes c)
+    → LastRow j t state 2 changes cpu on_cpu lock
 LastRow-moving {j} s t state changes cpu c on_cpu lock locked out =
     record {
       queued = λ h. absurd (omega (arith, h));
@@ -49,7 +50,8 @@ LastRow-moving {j} s t state changes cpu c on_cpu lock locked out =
     }
 
 -- one that went to sleep on its processor
-pub LastRow-sleeps : {j : History} (t : ℕ) (state : State) (changes cpu : ℕ) (on_cpu : Bool) (lock : Option ℕ) → state ≢ dead → IsIn j cpu (entry.Sleep t changes cpu) → LastRow j t state 0 changes cpu on_cpu lock
+pub LastRow-sleeps : {j : History} (t : ℕ) (state : State) (changes cpu : ℕ) (on_cpu : Bool) (lock : Option ℕ) → state ≢ dead → IsIn j cpu (entry.Sleep t changes cpu)
+    → LastRow j t state 0 changes cpu on_cpu lock
 LastRow-sleeps t state changes cpu on_cpu lock alive sleep =
     record {
       queued = λ h. absurd (omega (arith, h));
@@ -61,7 +63,8 @@ LastRow-sleeps t state changes cpu on_cpu lock alive sleep =
     }
 
 -- one that ended on its processor
-pub LastRow-dies : {j : History} (t : ℕ) (state : State) (changes cpu : ℕ) (on_cpu : Bool) (lock : Option ℕ) → state ≡ dead → IsIn j cpu (entry.Die t changes cpu) → LastRow j t state 0 changes cpu on_cpu lock
+pub LastRow-dies : {j : History} (t : ℕ) (state : State) (changes cpu : ℕ) (on_cpu : Bool) (lock : Option ℕ) → state ≡ dead → IsIn j cpu (entry.Die t changes cpu)
+    → LastRow j t state 0 changes cpu on_cpu lock
 LastRow-dies t state changes cpu on_cpu lock ended die =
     record {
       queued = λ h. absurd (omega (arith, h));
@@ -133,7 +136,8 @@ WakeRow-change on still p =
     }
 
 -- a lock or a state is stored of a task that isn't on its way to a queue, before and after
-pub WakeRow-still : {j : History} {t : ℕ} {state : State} {on_rq changes : ℕ} {lock : Option ℕ} (new : State) (taken : Option ℕ) → (on_rq ≡ 0 → state ≡ waking → lock ≢ None → ⊥) → (on_rq ≡ 0 → new ≢ waking)
+pub WakeRow-still : {j : History} {t : ℕ} {state : State} {on_rq changes : ℕ} {lock : Option ℕ} (new : State) (taken : Option ℕ) → (on_rq ≡ 0 → state ≡ waking → lock ≢ None → ⊥)
+    → (on_rq ≡ 0 → new ≢ waking)
     → WakeRow j t state on_rq changes lock → WakeRow j t new on_rq changes taken
 WakeRow-still new taken was still p =
     record {
@@ -143,7 +147,8 @@ WakeRow-still new taken was still p =
     }
 
 -- this seat wakes it
-pub WakeRow-wakes : {before after : History} {s n : ℕ} {t : ℕ} {state : State} {on_rq changes : ℕ} {lock : Option ℕ} → Logged before after s n (entry.Wake t changes) → on_rq ≡ 0 → state ≢ waking → lock ≡ Some s
+pub WakeRow-wakes : {before after : History} {s n : ℕ} {t : ℕ} {state : State} {on_rq changes : ℕ} {lock : Option ℕ} → Logged before after s n (entry.Wake t changes) → on_rq ≡ 0 → state ≢ waking
+    → lock ≡ Some s
     → WakeRow before t state on_rq changes lock → WakeRow after t waking on_rq changes lock
 WakeRow-wakes {after = after} {s} {n} {t} {changes = changes} {lock = lock} l off awake locked p =
     record {

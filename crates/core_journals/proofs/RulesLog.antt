@@ -59,7 +59,8 @@ repeated-log l p unlike =
       ]
     ]
 
-rises-log : {before after : History} {s n : ℕ} {e : Entry} → Logged before after s n e → EachKeeps RisesInJournal before → IsHighest change_of before s e → IsHighest run_of before s e → EachKeeps RisesInJournal after
+rises-log : {before after : History} {s n : ℕ} {e : Entry} → Logged before after s n e → EachKeeps RisesInJournal before → IsHighest change_of before s e → IsHighest run_of before s e
+    → EachKeeps RisesInJournal after
 rises-log {before} {after} {s} {n} {e} l p changes runs =
     λ k i x h. elim (l.log k i x h) [
       | inl a ↦ let up = up-old l k i x a in record {

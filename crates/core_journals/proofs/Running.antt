@@ -49,8 +49,10 @@ pub queued-some : (core : Columns) (t : ℕ) → Holds core → core.on_rq t ≢
 queued-some core t holds on z = on (holds.places.new.off t z)
 
 -- a queue word is stored with the entry of its change
-stored : (core : Columns) (s t on : ℕ) (e : Entry) → s < core.seats → core.changes t < 2 ^ 60 → IsNext (past core) s (length (core.journal s)) e → change_of e ≡ Some (t, core.changes t + 1) → run_of e ≡ None → IsNoWake e
-    → (on ≡ 0 → core.state t ≢ waking) → LastRow (with_entry core s e) t (core.state t) on (core.changes t + 1) (core.cpu t) (core.on_cpu t) (core.lock t) → JournalsHold core → JournalsHold (store_rq core s t on e)
+stored : (core : Columns) (s t on : ℕ) (e : Entry) → s < core.seats → core.changes t < 2 ^ 60 → IsNext (past core) s (length (core.journal s)) e → change_of e ≡ Some (t, core.changes t + 1)
+    → run_of e ≡ None → IsNoWake e
+    → (on ≡ 0 → core.state t ≢ waking) → LastRow (with_entry core s e) t (core.state t) on (core.changes t + 1) (core.cpu t) (core.on_cpu t) (core.lock t) → JournalsHold core
+    → JournalsHold (store_rq core s t on e)
 stored core s t on e seat room new change no-run no-wake still row p =
     let l = log core s e seat in
     record {
@@ -67,8 +69,10 @@ queue-new core s c t holds may never =
     let e : Entry = entry.New t (core.changes t + 1) c in
     let l = log core s e may.seat in
     let p = holds.journals in
-    let queued : IsQueued (with_entry core s e) t (core.changes t + 1) (core.cpu t) = subst (λ z. IsQueued (with_entry core s e) t (core.changes t + 1) z) (sym may.here) (inl (s, (length (core.journal s), l.new))) in
-    stored core s t 1 e may.seat may.room (next-new (past core) s (length (core.journal s)) t c p.numbered (in_tasks core t may.task) (in_cpus core c may.processor) never) refl refl (λ u m q. grind (arith, q))
+    let queued : IsQueued (with_entry core s e) t (core.changes t + 1) (core.cpu t) =
+    subst (λ z. IsQueued (with_entry core s e) t (core.changes t + 1) z) (sym may.here) (inl (s, (length (core.journal s), l.new))) in
+    stored core s t 1 e may.seat may.room (next-new (past core) s (length (core.journal s)) t c p.numbered (in_tasks core t may.task) (in_cpus core c may.processor) never) refl refl
+    (λ u m q. grind (arith, q))
     (λ h. absurd (omega (arith, h))) (LastRow-queued t _ _ _ _ _ queued) p
 
 queue-in : (core : Columns) (s c t : ℕ) → Holds core → MayQueue core s c t → core.on_rq t ≡ 2 → JournalsHold (store_rq core s t 1 (entry.In t (core.changes t + 1) c))
@@ -76,18 +80,22 @@ queue-in core s c t holds may moving =
     let e : Entry = entry.In t (core.changes t + 1) c in
     let l = log core s e may.seat in
     let p = holds.journals in
-    let queued : IsQueued (with_entry core s e) t (core.changes t + 1) (core.cpu t) = subst (λ z. IsQueued (with_entry core s e) t (core.changes t + 1) z) (sym may.here) (inr (inl (s, (length (core.journal s), l.new)))) in
+    let queued : IsQueued (with_entry core s e) t (core.changes t + 1) (core.cpu t) =
+    subst (λ z. IsQueued (with_entry core s e) t (core.changes t + 1) z) (sym may.here) (inr (inl (s, (length (core.journal s), l.new)))) in
     let out = p.last_changes.moving t s moving may.task_locked in
     let some = queued-some core t holds (λ z. omega (arith, z, moving)) in
-    stored core s t 1 e may.seat may.room (next-in (past core) s (length (core.journal s)) t c out.0 p.numbered (in_tasks core t may.task) (in_cpus core c may.processor) some out.1) refl refl (λ u m q. grind (arith, q))
+    stored core s t 1 e may.seat may.room (next-in (past core) s (length (core.journal s)) t c out.0 p.numbered (in_tasks core t may.task) (in_cpus core c may.processor) some out.1) refl refl
+    (λ u m q. grind (arith, q))
     (λ h. absurd (omega (arith, h))) (LastRow-queued t _ _ _ _ _ queued) p
 
-queue-enq : (core : Columns) (s c t : ℕ) → Holds core → MayQueue core s c t → core.changes t ≢ 0 → core.on_rq t ≡ 0 → core.state t ≡ waking → JournalsHold (store_rq core s t 1 (entry.Enq t (core.changes t + 1) c false))
+queue-enq : (core : Columns) (s c t : ℕ) → Holds core → MayQueue core s c t → core.changes t ≢ 0 → core.on_rq t ≡ 0 → core.state t ≡ waking
+    → JournalsHold (store_rq core s t 1 (entry.Enq t (core.changes t + 1) c false))
 queue-enq core s c t holds may some off woken =
     let e : Entry = entry.Enq t (core.changes t + 1) c false in
     let l = log core s e may.seat in
     let p = holds.journals in
-    let queued : IsQueued (with_entry core s e) t (core.changes t + 1) (core.cpu t) = subst (λ z. IsQueued (with_entry core s e) t (core.changes t + 1) z) (sym may.here) (inr (inr (false, (s, (length (core.journal s), l.new))))) in
+    let queued : IsQueued (with_entry core s e) t (core.changes t + 1) (core.cpu t) =
+    subst (λ z. IsQueued (with_entry core s e) t (core.changes t + 1) z) (sym may.here) (inr (inr (false, (s, (length (core.journal s), l.new))))) in
     let sleep = p.last_changes.off t some off (waking-dead (core.state t) woken) in
     let wake = p.wakes.present t s off woken may.task_locked in
     let unlisted : (IsListed (past core) t (core.changes t) → ⊥) = λ h. let r = p.wakes.listed h.2.0 h.2.1.0 t (core.changes t) h.0 h.1 h.2.1.1 in omega (arith, r) in
@@ -125,7 +133,8 @@ JournalsHold-queue_task core s c t holds may =
 runs-here : (core : Columns) (s t : ℕ) → Holds core → s < core.seats → core.current_task s ≡ Some t → IsRunning (past core) s (length (core.journal s)) t
 runs-here core s t holds seat current =
     let p = holds.journals in
-    running-now (past core) s (length (core.journal s)) t p.last_runs p.numbered p.rules.rises_in_journal (holds.busy.runner.current_busy s t current) (holds.busy.runner.current_here s t current) (λ i x. within core s i x seat)
+    running-now (past core) s (length (core.journal s)) t p.last_runs p.numbered p.rules.rises_in_journal (holds.busy.runner.current_busy s t current) (holds.busy.runner.current_here s t current)
+    (λ i x. within core s i x seat)
 
 dequeue-sleep : (core : Columns) (s t : ℕ) → Holds core → MayDequeue core s s t → is_sleep (core.state t) ≡ true → JournalsHold (store_rq core s t 0 (entry.Sleep t (core.changes t + 1) s))
 dequeue-sleep core s t holds may asleep =
@@ -137,7 +146,8 @@ dequeue-sleep core s t holds may asleep =
     let sleep : IsIn (with_entry core s e) (core.cpu t) (entry.Sleep t (core.changes t + 1) (core.cpu t)) =
     subst (λ z. IsIn (with_entry core s e) z (entry.Sleep t (core.changes t + 1) z)) (sym may.here) (length (core.journal s), l.new) in
     stored core s t 0 e may.seat may.room
-    (next-sleep (past core) s (length (core.journal s)) t p.numbered (in_tasks core t may.task) (in_cpus core s may.processor) some queued (runs-here core s t holds may.seat may.current)) refl refl (λ u m q. grind (arith, q))
+    (next-sleep (past core) s (length (core.journal s)) t p.numbered (in_tasks core t may.task) (in_cpus core s may.processor) some queued (runs-here core s t holds may.seat may.current)) refl refl
+    (λ u m q. grind (arith, q))
     (λ h w. waking-sleep (core.state t) w asleep) (LastRow-sleeps t _ _ _ _ _ (sleep-dead (core.state t) asleep) sleep) p
 
 dequeue-die : (core : Columns) (s t : ℕ) → Holds core → MayDequeue core s s t → core.state t ≡ dead → JournalsHold (store_rq core s t 0 (entry.Die t (core.changes t + 1) s))
@@ -150,7 +160,8 @@ dequeue-die core s t holds may ended =
     let die : IsIn (with_entry core s e) (core.cpu t) (entry.Die t (core.changes t + 1) (core.cpu t)) =
     subst (λ z. IsIn (with_entry core s e) z (entry.Die t (core.changes t + 1) z)) (sym may.here) (length (core.journal s), l.new) in
     stored core s t 0 e may.seat may.room
-    (next-die (past core) s (length (core.journal s)) t p.numbered (in_tasks core t may.task) (in_cpus core s may.processor) some queued (runs-here core s t holds may.seat may.current)) refl refl (λ u m q. grind (arith, q))
+    (next-die (past core) s (length (core.journal s)) t p.numbered (in_tasks core t may.task) (in_cpus core s may.processor) some queued (runs-here core s t holds may.seat may.current)) refl refl
+    (λ u m q. grind (arith, q))
     (λ h w. waking-dead (core.state t) w ended) (LastRow-dies t _ _ _ _ _ ended die) p
 
 pub entry-sleep : (x : State) (changes t c : ℕ) → is_sleep x ≡ true → entry.Sleep t (changes + 1) c ≡ dequeue_entry (Some x) changes t c
@@ -159,7 +170,8 @@ entry-sleep x changes t c h = grind (arith, nat_tests, h)
 pub entry-die : (x : State) (changes t c : ℕ) → x ≡ dead → entry.Die t (changes + 1) c ≡ dequeue_entry (Some x) changes t c
 entry-die x changes t c h = let q = ap (λ (y : State). y.0) h in grind (arith, nat_tests, q)
 
-dequeue-seen : (core : Columns) (s t : ℕ) (seen : Option State) → Holds core → MayDequeue core s s t → core.seen_state s ≡ seen → MayLeave seen (core.count t) → JournalsHold (store_rq core s t 0 (dequeue_entry seen (core.changes t) t s))
+dequeue-seen : (core : Columns) (s t : ℕ) (seen : Option State) → Holds core → MayDequeue core s s t → core.seen_state s ≡ seen → MayLeave seen (core.count t)
+    → JournalsHold (store_rq core s t 0 (dequeue_entry seen (core.changes t) t s))
 dequeue-seen core s t None holds may q h = absurd h
 dequeue-seen core s t (Some x) holds may q h =
     let is = holds.positions.seen.is s t x may.current may.queued q in
@@ -170,7 +182,14 @@ dequeue-seen core s t (Some x) holds may q h =
 
 dequeue-own : (core : Columns) (s t : ℕ) → Holds core → MayDequeue core s s t → JournalsHold (dequeue_task core s s t)
 dequeue-own core s t holds may =
-    let p = dequeue-seen core s t (core.seen_state s) holds may refl may.seen in record { plain = p.plain; rules = p.rules; numbered = p.numbered; last_changes = p.last_changes; wakes = p.wakes; last_runs = p.last_runs }
+    let p = dequeue-seen core s t (core.seen_state s) holds may refl may.seen in record {
+      plain = p.plain;
+      rules = p.rules;
+      numbered = p.numbered;
+      last_changes = p.last_changes;
+      wakes = p.wakes;
+      last_runs = p.last_runs;
+    }
 
 pub JournalsHold-dequeue_task : (core : Columns) (s c t : ℕ) → Holds core → MayDequeue core s c t → JournalsHold (dequeue_task core s c t)
 JournalsHold-dequeue_task core s c t holds may = subst (λ z. MayDequeue core s z t → JournalsHold (dequeue_task core s z t)) may.own (dequeue-own core s t holds) may
@@ -182,7 +201,8 @@ JournalsHold-move_task core s c t val holds may =
     let old = holds.journals in
     let some = queued-some core t holds (λ z. let r = may.queued in omega (arith, z, r)) in
     let queued = subst (λ z. IsQueued (past core) t (core.changes t) z) may.here (old.last_changes.queued t may.queued) in
-    let p = stored core s t 2 e may.seat may.room (next-out (past core) s (length (core.journal s)) t c old.numbered (in_tasks core t may.task) (in_cpus core c may.processor) some queued) refl refl (λ u m q. grind (arith, q))
+    let p = stored core s t 2 e may.seat may.room (next-out (past core) s (length (core.journal s)) t c old.numbered (in_tasks core t may.task) (in_cpus core c may.processor) some queued) refl refl
+    (λ u m q. grind (arith, q))
     (λ h. absurd (omega (arith, h))) (LastRow-moving s t _ _ _ c _ _ may.task_locked (length (core.journal s), l.new)) old in
     record { plain = p.plain; rules = p.rules; numbered = p.numbered; last_changes = p.last_changes; wakes = p.wakes; last_runs = p.last_runs }
 
@@ -191,9 +211,11 @@ busy-own core s t val holds may =
     let e : Entry = entry.Pick t (core.runs t + 1) s in
     let l = log core s e may.seat in
     let p = holds.journals in
-    let new = next-pick (past core) s (length (core.journal s)) t p.numbered (in_tasks core t may.task) (in_cpus core s may.processor) (p.last_runs.idle_even t may.idle) (p.last_runs.idle t may.idle) in
+    let new = next-pick (past core) s (length (core.journal s)) t p.numbered (in_tasks core t may.task) (in_cpus core s may.processor) (p.last_runs.idle_even t may.idle)
+    (p.last_runs.idle t may.idle) in
     let changes = LastChanges-log l p.last_changes in
-    let row = subst (λ o. LastRow (with_entry core s e) t (core.state t) o (core.changes t) (core.cpu t) true (core.lock t)) (sym may.queued) (LastRow-queued t _ _ _ _ _ (changes.queued t may.queued)) in
+    let row = subst (λ o. LastRow (with_entry core s e) t (core.state t) o (core.changes t) (core.cpu t) true (core.lock t)) (sym may.queued)
+    (LastRow-queued t _ _ _ _ _ (changes.queued t may.queued)) in
     let pick : IsIn (with_entry core s e) (core.cpu t) (entry.Pick t (core.runs t + 1) (core.cpu t)) =
     subst (λ z. IsIn (with_entry core s e) z (entry.Pick t (core.runs t + 1) z)) (sym may.here) (length (core.journal s), l.new) in
     record {
@@ -217,7 +239,11 @@ JournalsHold-clear_busy core s t holds may =
     let here = holds.busy.runner.left_here s t may.left in
     let cpu = subst (λ z. z < core.cpus) here (holds.shapes.cpu t may.task) in
     let pick : IsIn (past core) s (entry.Pick t (core.runs t) s) = subst (λ z. IsIn (past core) z (entry.Pick t (core.runs t) z)) here (p.last_runs.busy t busy) in
-    let new = next-finish (past core) s (length (core.journal s)) t p.numbered (in_tasks core t may.task) (in_cpus core s cpu) (p.last_runs.busy_odd t busy) (pick.0, within core s pick.0 _ may.seat pick.1, pick.1) in
+    let new = next-finish (past core) s (length (core.journal s)) t p.numbered (in_tasks core t may.task) (in_cpus core s cpu) (p.last_runs.busy_odd t busy) (
+      pick.0,
+      within core s pick.0 _ may.seat pick.1,
+      pick.1,
+    ) in
     let changes = LastChanges-log l p.last_changes in
     record {
       plain = plain-log l p.plain new.plain;

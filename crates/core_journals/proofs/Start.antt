@@ -74,7 +74,8 @@ blank f d x zero h k = refl
 blank f d x (suc n) h zero = h
 blank f d x (suc n) h (suc k) = blank f d x n h k
 
-rows-unmoved : (shape : Shape) (mask : CpuMask) → Unmoved (columns_of shape (replicate shape.tasks (first_task mask)) (replicate shape.cpus first_cpu) (replicate shape.conds first_cond) (replicate (shape.cpus + shape.agents) first_seat))
+rows-unmoved : (shape : Shape) (mask : CpuMask)
+    → Unmoved (columns_of shape (replicate shape.tasks (first_task mask)) (replicate shape.cpus first_cpu) (replicate shape.conds first_cond) (replicate (shape.cpus + shape.agents) first_seat))
 rows-unmoved shape mask =
     record {
       journal = blank journal_of [] first_seat (shape.cpus + shape.agents) refl;

@@ -89,7 +89,10 @@ stays-walked false core next s k p = p
 
 stays-given : (core : Columns) (s k : ℕ) (given : List WaitEntry) (taken : Option (List WaitEntry)) → Quiet core (give_by core s k given taken)
 stays-given core s k given None = unchanged core
-stays-given core s k given (Some taken) = stays-walked (core.owes_walk s k && (core.has_retaken s k && is_walk (core.has_passed s k) taken)) core _ s k (record { places = λ t. refl; journals = λ k. refl })
+stays-given core s k given (Some taken) = stays-walked (core.owes_walk s k && (core.has_retaken s k && is_walk (core.has_passed s k) taken)) core _ s k (record {
+  places = λ t. refl;
+  journals = λ k. refl;
+})
 
 pub Moves-give_wait : (core : Columns) (s k : ℕ) (given : List WaitEntry) → Holds core → MayGiveWait core s k given → OneMoveOrNone s core (give_wait core s k given)
 Moves-give_wait core s k given holds may = stays s core _ (stays-given core s k given (core.wait_held s k))
@@ -204,7 +207,8 @@ Moves-store_cpu core s t c holds may =
     let anew = placed-anew core s t c holds may in
     stays s core _ (record {
       places = rows t (λ u b. place (core.changes u) (core.on_rq u) (core.state u) (if b then c else core.cpu u) (core.lock u) (core.on_cpu u) ≡ place_of core u)
-          (same-place _ _ _ _ (q-cpu (core.changes t) (core.on_rq t) (core.state t) (core.cpu t) c (core.lock t) anew.off) (b-idle (core.on_cpu t) c anew.idle ∙ sym (b-idle (core.on_cpu t) (core.cpu t) anew.idle))) (λ u q. refl);
+          (same-place _ _ _ _ (q-cpu (core.changes t) (core.on_rq t) (core.state t) (core.cpu t) c (core.lock t) anew.off) (b-idle (core.on_cpu t) c anew.idle
+          ∙ sym (b-idle (core.on_cpu t) (core.cpu t) anew.idle))) (λ u q. refl);
       journals = λ k. refl;
     })
 

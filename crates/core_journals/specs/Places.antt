@@ -1,5 +1,6 @@
 -- Where a task is, by the words of the core, and how a step may change it.
-use Rattle.std.specs.Prelude.{◌≡◌, ◌≢◌, ℕ, ◌==◌, ◌⊎◌, ◌++◌, ◌∷◌, [], Bool, true, false, Option, Some, None, if◌then◌else◌}
+use Rattle.std.specs.Prelude.{◌≡◌, ◌≢◌, ℕ, ◌==◌, ◌⊎◌, ◌++◌, ◌∷◌, [], Bool, true, false, Option, Some, None}
+use Rattle.std.specs.Prelude.{if◌then◌else◌}
 use Rattle.core_data.specs.Columns.{Columns}
 use Rattle.core_kinds.specs.Steps.{dead, waking}
 use Rattle.handoff_data.specs.Moves.{task_of, Moves}
@@ -49,7 +50,8 @@ MovesNone _ = ⊥
 -- each task is where it was, and the journals tell of no move
 pub record AllStay (s : ℕ) (core next : Columns) : Type 0 where
   pub places : (t : ℕ) → place_of next t ≡ place_of core t
-  pub own_journal : (next.journal s ≡ core.journal s) ⊎ ((e : Entry) × MovesNone e × (next.journal s ≡ core.journal s ++ e ∷ []))
+  pub own_journal : (next.journal s ≡ core.journal s)
+      ⊎ ((e : Entry) × MovesNone e × (next.journal s ≡ core.journal s ++ e ∷ []))
   pub other_journals : (k : ℕ) → k ≢ s → next.journal k ≡ core.journal k
 
 -- one move of one task, with its entry in the journal of the seat

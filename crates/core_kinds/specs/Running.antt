@@ -1,5 +1,6 @@
 -- Running steps: a task's queue word, its busy word and its body.
-use Rattle.std.specs.Prelude.{◌≡◌, ◌≢◌, ℕ, ◌<◌, ◌==◌, ◌⊎◌, ◌++◌, ◌∷◌, ◌+◌, [], Bool, true, false, Option, Some, None, if◌then◌else◌}
+use Rattle.std.specs.Prelude.{◌≡◌, ◌≢◌, ℕ, ◌<◌, ◌==◌, ◌⊎◌, ◌++◌, ◌∷◌, ◌+◌, [], Bool, true, false, Option, Some, None}
+use Rattle.std.specs.Prelude.{if◌then◌else◌}
 use Rattle.core_data.specs.Noted.{noted}
 use Rattle.core_data.specs.Queue.{Queue, times_in}
 use Rattle.core_data.specs.Columns.{Columns, put, put_at}
@@ -37,7 +38,8 @@ pub record MayQueue (core : Columns) (s c t : ℕ) : Type 0 where
   pub room : IsBelowEnd (core.changes t)
 
 abbrev pub queue_entry : ℕ → ℕ → ℕ → ℕ → Entry
-queue_entry changes on t c = if changes == 0 then New t (changes + 1) c else if on == 2 then In t (changes + 1) c else Enq t (changes + 1) c false
+queue_entry changes on t c = if changes == 0 then New t (changes + 1) c else if on == 2 then In t (changes + 1) c
+    else Enq t (changes + 1) c false
 
 abbrev pub queue_task : Columns → ℕ → ℕ → ℕ → Columns
 queue_task core s c t = noted (store_rq core s t 1 (queue_entry (core.changes t) (core.on_rq t) t c)) s (Queued t)
@@ -67,7 +69,8 @@ abbrev pub dequeue_entry : Option State → ℕ → ℕ → ℕ → Entry
 dequeue_entry seen changes t c = if is_dead seen then Die t (changes + 1) c else Sleep t (changes + 1) c
 
 abbrev pub dequeue_task : Columns → ℕ → ℕ → ℕ → Columns
-dequeue_task core s c t = noted (store_rq core s t 0 (dequeue_entry (core.seen_state s) (core.changes t) t c)) s (Dequeued t)
+dequeue_task core s c t = noted (store_rq core s t 0 (dequeue_entry (core.seen_state s) (core.changes t) t c)) s
+    (Dequeued t)
 
 -- MoveTask: a waiting task is taken out to be moved
 pub record MayMove (core : Columns) (s c t : ℕ) (val : Queue) : Type 0 where

@@ -47,7 +47,8 @@ kept_reads t reads = record { t = t; state = None; rq = None; busy = None; numbe
 -- a seat has stored a word of task t
 abbrev pub stored_word : Columns → ℕ → ℕ → Columns
 stored_word core s t =
-    noted (noted (record core { last_reads = put_at core.last_reads s t (kept_reads t (core.last_reads s t)) }) s (Renewed t)) s (StoredWord t)
+    noted (noted (record core { last_reads = put_at core.last_reads s t (kept_reads t (core.last_reads s t)) }) s
+    (Renewed t)) s (StoredWord t)
 
 -- it has changed the number of t's changes to m
 abbrev pub numbered_reads : ℕ → ℕ → TaskReads → TaskReads

@@ -1,11 +1,13 @@
 -- Waking and condition steps.
-use Rattle.std.specs.Prelude.{◌≡◌, ◌≢◌, ℕ, ◌<◌, ◌==◌, ◌&&◌, ◌⊎◌, ◌++◌, ◌∷◌, ◌+◌, ◌%◌, ◌^◌, [], Bool, true, false, Option, Some, None, is_some, nat_lt, bit_and, if◌then◌else◌}
+use Rattle.std.specs.Prelude.{◌≡◌, ◌≢◌, ℕ, ◌<◌, ◌==◌, ◌&&◌, ◌⊎◌, ◌++◌, ◌∷◌, ◌+◌, ◌%◌, ◌^◌, [], Bool, true, false}
+use Rattle.std.specs.Prelude.{Option, Some, None, is_some, nat_lt, bit_and, if◌then◌else◌}
 use mathlib.Core.Bool.{not}
 use Rattle.core_data.specs.declared.act.Act.{Act}
 use Rattle.handoff_data.specs.declared.entry.Entry.{Entry}
 use Rattle.core_data.specs.Noted.{noted}
 use Rattle.core_data.specs.Columns.{Columns, put, put_at}
-use Rattle.core_data.specs.declared.act.Act.TheVariants.{Claimed, Passed, OwnStored, Slept, Matched, SawOff, SawClear, SawRest, SawRestOff, SawRestIdle, Bumped}
+use Rattle.core_data.specs.declared.act.Act.TheVariants.{Claimed, Passed, OwnStored, Slept, Matched, SawOff, SawClear}
+use Rattle.core_data.specs.declared.act.Act.TheVariants.{SawRest, SawRestOff, SawRestIdle, Bumped}
 use Rattle.core_data.specs.declared.pos.TaskReads.{TaskReads}
 use Rattle.core_kinds.specs.Steps.{running, waking, dead, normal, is_sleep, is_match, stored_word}
 use Rattle.handoff_data.specs.declared.entry.Entry.TheVariants.{Wake, Refused}
@@ -62,8 +64,10 @@ claim core s t =
 abbrev pub IsReadyToRun : Columns → ℕ → ℕ → Type 0
 IsReadyToRun core s t =
     ((core.lock t ≡ Some s) × (core.changes t ≡ 0))
-    ⊎ (((core.lock t ≡ Some s) × (core.has_matched s t ≡ true) × (core.on_rq t ≡ 1) × (core.queue_lock (core.cpu t) ≡ Some s) × (core.current_task s ≢ Some t))
-    ⊎ ((core.queue_lock (core.cpu t) ≡ Some s) × (core.has_added s (core.cpu t) t ≡ true) × (core.on_rq t ≡ 1) × (core.on_cpu t ≡ false)))
+    ⊎ (((core.lock t ≡ Some s) × (core.has_matched s t ≡ true) × (core.on_rq t ≡ 1)
+    × (core.queue_lock (core.cpu t) ≡ Some s) × (core.current_task s ≢ Some t))
+    ⊎ ((core.queue_lock (core.cpu t) ≡ Some s) × (core.has_added s (core.cpu t) t ≡ true) × (core.on_rq t ≡ 1)
+    × (core.on_cpu t ≡ false)))
 
 pub record MayMakeRunnable (core : Columns) (s t : ℕ) : Type 0 where
   pub seat : s < core.seats
@@ -82,7 +86,8 @@ pub record MayLoad (core : Columns) (s t : ℕ) : Type 0 where
 -- StoreCpu: at New, or half way to a queue
 abbrev pub IsPlaceable : Columns → ℕ → ℕ → Type 0
 IsPlaceable core s t =
-    (core.changes t ≡ 0) ⊎ (((core.on_rq t ≡ 0) × (core.state t ≡ waking) × (core.saw_clear s t ≡ true)) ⊎ (core.on_rq t ≡ 2))
+    (core.changes t ≡ 0) ⊎ (((core.on_rq t ≡ 0) × (core.state t ≡ waking) × (core.saw_clear s t ≡ true))
+    ⊎ (core.on_rq t ≡ 2))
 
 pub record MayStoreCpu (core : Columns) (s t c : ℕ) : Type 0 where
   pub seat : s < core.seats
@@ -139,12 +144,20 @@ is_refused state None = false
 is_refused state (Some mask) = not (is_match state mask)
 
 abbrev pub state_read : ℕ → State → TaskReads → TaskReads
-state_read t state reads = record { t = t; state = Some state; rq = None; busy = None; number = reads.number; cpu = reads.cpu }
+state_read t state reads = record {
+  t = t;
+  state = Some state;
+  rq = None;
+  busy = None;
+  number = reads.number;
+  cpu = reads.cpu;
+}
 
 -- the effect of reading this state; a state that doesn't match the mask is noted in the journal
 abbrev pub load_this : Columns → ℕ → ℕ → Option State → Bool → TaskReads → State → Columns
 load_this core s t mask own old state =
-    logged_if (is_refused state mask) (noted_if (not (is_match state normal)) (noted_if (not (state.0 == waking.0)) (noted_if (is_matched state mask)
+    logged_if (is_refused state mask)
+    (noted_if (not (is_match state normal)) (noted_if (not (state.0 == waking.0)) (noted_if (is_matched state mask)
     (seen_if own (record core { last_reads = put_at core.last_reads s t (state_read t state old) }) s state)
     s (Matched t)) s (SawRest t)) s (Passed t)) s (Refused t state)
 
@@ -153,36 +166,66 @@ load_state core s t mask = load_this core s t mask (is_own_read core s t) (core.
 
 -- LoadRq: what was read of `on_rq` after the state, and the number of its changes
 abbrev pub rq_read : ℕ → ℕ → ℕ → TaskReads → TaskReads
-rq_read t on m reads = record { t = t; state = reads.state; rq = if is_some reads.state then Some (record { on = on; m = m }) else None; busy = None; number = Some m; cpu = reads.cpu }
+rq_read t on m reads = record {
+  t = t;
+  state = reads.state;
+  rq = if is_some reads.state then Some (record { on = on; m = m }) else None;
+  busy = None;
+  number = Some m;
+  cpu = reads.cpu;
+}
 
 abbrev pub load_rq_so : Columns → ℕ → ℕ → Bool → Bool → TaskReads → ℕ → ℕ → Columns
 load_rq_so core s t fresh rests old on m =
-    noted_if ((on == 0) && rests) (noted_if ((on == 0) && fresh) (record core { last_reads = put_at core.last_reads s t (rq_read t on m old) }) s (SawOff t)) s (SawRestOff t)
+    noted_if ((on == 0) && rests)
+    (noted_if ((on == 0) && fresh) (record core { last_reads = put_at core.last_reads s t (rq_read t on m old) }) s
+    (SawOff t)) s (SawRestOff t)
 
 abbrev pub load_rq : Columns → ℕ → ℕ → Columns
-load_rq core s t = load_rq_so core s t (core.is_unstored s t) (core.saw_rest s t) (core.last_reads s t) (core.on_rq t) (core.changes t)
+load_rq core s t = load_rq_so core s t (core.is_unstored s t) (core.saw_rest s t) (core.last_reads s t) (core.on_rq t)
+    (core.changes t)
 
 -- LoadBusy: what was read of the busy word after the state and `on_rq`
 abbrev pub busy_read : ℕ → Bool → TaskReads → TaskReads
-busy_read t busy reads = record { t = t; state = reads.state; rq = reads.rq; busy = if is_some reads.rq then Some busy else None; number = reads.number; cpu = reads.cpu }
+busy_read t busy reads = record {
+  t = t;
+  state = reads.state;
+  rq = reads.rq;
+  busy = if is_some reads.rq then Some busy else None;
+  number = reads.number;
+  cpu = reads.cpu;
+}
 
 abbrev pub load_busy_so : Columns → ℕ → ℕ → Bool → TaskReads → Bool → Columns
 load_busy_so core s t rests old busy =
-    noted_if (not busy && rests) (noted_if (not busy) (record core { last_reads = put_at core.last_reads s t (busy_read t busy old) }) s (SawClear t)) s (SawRestIdle t)
+    noted_if (not busy && rests)
+    (noted_if (not busy) (record core { last_reads = put_at core.last_reads s t (busy_read t busy old) }) s
+    (SawClear t)) s (SawRestIdle t)
 
 abbrev pub load_busy : Columns → ℕ → ℕ → Columns
 load_busy core s t = load_busy_so core s t (core.saw_rest_off s t) (core.last_reads s t) (core.on_cpu t)
 
 -- LoadCpu, StoreCpu
 abbrev pub cpu_read : ℕ → ℕ → TaskReads → TaskReads
-cpu_read t c reads = record { t = t; state = reads.state; rq = reads.rq; busy = reads.busy; number = reads.number; cpu = Some c }
+cpu_read t c reads = record {
+  t = t;
+  state = reads.state;
+  rq = reads.rq;
+  busy = reads.busy;
+  number = reads.number;
+  cpu = Some c;
+}
 
 abbrev pub load_cpu : Columns → ℕ → ℕ → Columns
-load_cpu core s t = record core { last_reads = put_at core.last_reads s t (cpu_read t (core.cpu t) (core.last_reads s t)) }
+load_cpu core s t =
+    record core { last_reads = put_at core.last_reads s t (cpu_read t (core.cpu t) (core.last_reads s t)) }
 
 abbrev pub store_cpu : Columns → ℕ → ℕ → ℕ → Columns
 store_cpu core s t c =
-    stored_word (record core { cpu = put core.cpu t c; last_reads = put_at core.last_reads s t (cpu_read t c (core.last_reads s t)) }) s t
+    stored_word (record core {
+      cpu = put core.cpu t c;
+      last_reads = put_at core.last_reads s t (cpu_read t c (core.last_reads s t));
+    }) s t
 
 -- LoadCount: of its current task a seat keeps the migrate-disable level that it reads
 abbrev pub level_read : Option ℕ → ℕ → ℕ → Option ℕ → Option ℕ
@@ -190,11 +233,15 @@ level_read current t level known = if is_some_of current t then Some level else 
 
 abbrev pub load_count : Columns → ℕ → ℕ → Columns
 load_count core s t =
-    record core { level_known = put core.level_known s (level_read (core.current_task s) t (core.count t) (core.level_known s)) }
+    record core {
+      level_known =
+          put core.level_known s (level_read (core.current_task s) t (core.count t) (core.level_known s));
+    }
 
 -- LoadCond: a current task that has stored a sleep state has tested the condition
 abbrev pub tested_if : Bool → Columns → ℕ → ℕ → ℕ → ℕ → Columns
-tested_if true core s t k v = record core { tested = put core.tested s (λ u l. if (u == t) && (l == k) then Some v else core.tested s u l) }
+tested_if true core s t k v =
+    record core { tested = put core.tested s (λ u l. if (u == t) && (l == k) then Some v else core.tested s u l) }
 tested_if false core s t k v = core
 
 abbrev pub test_by : Columns → ℕ → Option ℕ → ℕ → Columns

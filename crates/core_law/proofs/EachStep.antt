@@ -2,13 +2,16 @@
 use Rattle.std.proofs.Common.{ℕ, inl, refl, ◌∙◌}
 use Rattle.core_data.specs.Columns.{Columns}
 use Rattle.core_invariant.specs.Invariant.{Holds}
-use Rattle.core_law.proofs.SameWords.{same-take_task, same-give_task, same-take_queue, same-give_queue, same-take_wait, same-give_wait, same-take_works, same-give_works, same-body_out, same-body_home, same-load_state, same-load_rq, same-load_busy, same-load_cpu, same-load_count, same-bump, same-load_cond}
-use Rattle.core_law.proofs.Stores.{ends-queue_task, ends-dequeue_task, ends-move_task, ends-set_busy, ends-clear_busy, ends-set_state, ends-claim, ends-make_runnable, ends-store_cpu, stores-set_state, stores-claim, stores-make_runnable, dead-set_state, dead-claim, dead-make_runnable}
+use Rattle.core_law.proofs.SameWords.{same-take_task, same-give_task, same-take_queue, same-give_queue, same-take_wait, same-give_wait, same-take_works, same-give_works, same-body_out, same-body_home}
+use Rattle.core_law.proofs.SameWords.{same-load_state, same-load_rq, same-load_busy, same-load_cpu, same-load_count, same-bump, same-load_cond}
+use Rattle.core_law.proofs.Stores.{ends-queue_task, ends-dequeue_task, ends-move_task, ends-set_busy, ends-clear_busy, ends-set_state, ends-claim, ends-make_runnable, ends-store_cpu, stores-set_state}
+use Rattle.core_law.proofs.Stores.{stores-claim, stores-make_runnable, dead-set_state, dead-claim, dead-make_runnable}
 use Rattle.core_law.proofs.Tests.{tests-give_queue, tests-give_wait, tests-set_busy, tests-set_state, tests-load_state, tests-load_rq, tests-load_busy, tests-load_cond}
 use Rattle.core_law.specs.StepLaws.{KeepsTests, KeepsTheDead, StoresItsStates, EndsReads}
 use Rattle.core_law.specs.Steps.{May, after}
 use Rattle.core_law.specs.declared.step.StepKind.{StepKind}
-use Rattle.core_law.specs.declared.step.StepKind.TheVariants.{TakeTask, GiveTask, TakeQueue, GiveQueue, TakeWait, GiveWait, TakeWorks, GiveWorks, BodyOut, BodyHome, QueueTask, DequeueTask, MoveTask, SetBusy, ClearBusy, SetState, ClaimTask, MakeRunnable, LoadState, LoadRq, LoadBusy, LoadCpu, LoadCount, StoreCpu, Bump, LoadCond}
+use Rattle.core_law.specs.declared.step.StepKind.TheVariants.{TakeTask, GiveTask, TakeQueue, GiveQueue, TakeWait, GiveWait, TakeWorks, GiveWorks, BodyOut, BodyHome, QueueTask, DequeueTask, MoveTask}
+use Rattle.core_law.specs.declared.step.StepKind.TheVariants.{SetBusy, ClearBusy, SetState, ClaimTask, MakeRunnable, LoadState, LoadRq, LoadBusy, LoadCpu, LoadCount, StoreCpu, Bump, LoadCond}
 
 pub Ends-after : (core : Columns) (s : ℕ) (step : StepKind) → May core s step → EndsReads s core (after core s step)
 Ends-after core s (TakeTask t) may = λ u. inl (same-take_task core s t u)

@@ -6,30 +6,37 @@ use Rattle.core_journals.proofs.Locks.{JournalsHold-take_queue, JournalsHold-tak
 use Rattle.core_journals.proofs.Running.{JournalsHold-clear_busy, JournalsHold-dequeue_task, JournalsHold-move_task, JournalsHold-queue_task, JournalsHold-set_busy}
 use Rattle.core_journals.proofs.Start.{JournalsHold-start}
 use Rattle.core_journals.proofs.Waking.{JournalsHold-claim, JournalsHold-set_state, JournalsHold-make_runnable, JournalsHold-store_cpu}
-use Rattle.core_locks.proofs.BusyKept.{BusyHolds-body_home, BusyHolds-body_out, BusyHolds-bump, BusyHolds-claim, BusyHolds-clear_busy, BusyHolds-dequeue_task, BusyHolds-give_queue, BusyHolds-give_task}
-use Rattle.core_locks.proofs.BusyKept.{BusyHolds-give_wait, BusyHolds-give_works, BusyHolds-load_busy, BusyHolds-load_cond, BusyHolds-load_count, BusyHolds-load_cpu, BusyHolds-load_rq, BusyHolds-load_state}
+use Rattle.core_locks.proofs.BusyKept.{BusyHolds-body_home, BusyHolds-body_out, BusyHolds-bump, BusyHolds-claim, BusyHolds-clear_busy, BusyHolds-dequeue_task, BusyHolds-give_queue}
+use Rattle.core_locks.proofs.BusyKept.{BusyHolds-give_task}
+use Rattle.core_locks.proofs.BusyKept.{BusyHolds-give_wait, BusyHolds-give_works, BusyHolds-load_busy, BusyHolds-load_cond, BusyHolds-load_count, BusyHolds-load_cpu, BusyHolds-load_rq}
+use Rattle.core_locks.proofs.BusyKept.{BusyHolds-load_state}
 use Rattle.core_locks.proofs.BusyKept.{BusyHolds-move_task, BusyHolds-set_state, BusyHolds-queue_task, BusyHolds-make_runnable, BusyHolds-set_busy, BusyHolds-store_cpu, BusyHolds-take_queue}
 use Rattle.core_locks.proofs.BusyKept.{BusyHolds-take_task, BusyHolds-take_wait, BusyHolds-take_works}
 use Rattle.core_locks.proofs.LocksKept.{LocksHold-body_home, LocksHold-body_out, LocksHold-bump, LocksHold-claim, LocksHold-clear_busy, LocksHold-dequeue_task, LocksHold-give_queue}
-use Rattle.core_locks.proofs.LocksKept.{LocksHold-give_task, LocksHold-give_wait, LocksHold-give_works, LocksHold-load_busy, LocksHold-load_cond, LocksHold-load_count, LocksHold-load_cpu, LocksHold-load_rq}
+use Rattle.core_locks.proofs.LocksKept.{LocksHold-give_task, LocksHold-give_wait, LocksHold-give_works, LocksHold-load_busy, LocksHold-load_cond, LocksHold-load_count, LocksHold-load_cpu}
+use Rattle.core_locks.proofs.LocksKept.{LocksHold-load_rq}
 use Rattle.core_locks.proofs.LocksKept.{LocksHold-load_state, LocksHold-move_task, LocksHold-set_state, LocksHold-queue_task, LocksHold-make_runnable, LocksHold-set_busy, LocksHold-store_cpu}
 use Rattle.core_locks.proofs.LocksKept.{LocksHold-take_queue, LocksHold-take_task, LocksHold-take_wait, LocksHold-take_works}
 use Rattle.core_locks.proofs.Opening.{BusyHolds-start, LocksHold-start, QueuesHold-start, ShapesHold-start}
 use Rattle.core_locks.proofs.QueuesKept.{QueuesHold-body_home, QueuesHold-body_out, QueuesHold-bump, QueuesHold-claim, QueuesHold-clear_busy, QueuesHold-dequeue_task, QueuesHold-give_queue}
-use Rattle.core_locks.proofs.QueuesKept.{QueuesHold-give_task, QueuesHold-give_wait, QueuesHold-give_works, QueuesHold-load_busy, QueuesHold-load_cond, QueuesHold-load_count, QueuesHold-load_cpu, QueuesHold-load_rq}
+use Rattle.core_locks.proofs.QueuesKept.{QueuesHold-give_task, QueuesHold-give_wait, QueuesHold-give_works, QueuesHold-load_busy, QueuesHold-load_cond, QueuesHold-load_count, QueuesHold-load_cpu}
+use Rattle.core_locks.proofs.QueuesKept.{QueuesHold-load_rq}
 use Rattle.core_locks.proofs.QueuesKept.{QueuesHold-load_state, QueuesHold-move_task, QueuesHold-set_state, QueuesHold-queue_task, QueuesHold-make_runnable, QueuesHold-set_busy, QueuesHold-store_cpu}
 use Rattle.core_locks.proofs.QueuesKept.{QueuesHold-take_queue, QueuesHold-take_task, QueuesHold-take_wait, QueuesHold-take_works}
 use Rattle.core_locks.proofs.ShapesKept.{ShapesHold-body_home, ShapesHold-body_out, ShapesHold-bump, ShapesHold-claim, ShapesHold-clear_busy, ShapesHold-dequeue_task, ShapesHold-give_queue}
-use Rattle.core_locks.proofs.ShapesKept.{ShapesHold-give_task, ShapesHold-give_wait, ShapesHold-give_works, ShapesHold-load_busy, ShapesHold-load_cond, ShapesHold-load_count, ShapesHold-load_cpu, ShapesHold-load_rq}
+use Rattle.core_locks.proofs.ShapesKept.{ShapesHold-give_task, ShapesHold-give_wait, ShapesHold-give_works, ShapesHold-load_busy, ShapesHold-load_cond, ShapesHold-load_count, ShapesHold-load_cpu}
+use Rattle.core_locks.proofs.ShapesKept.{ShapesHold-load_rq}
 use Rattle.core_locks.proofs.ShapesKept.{ShapesHold-load_state, ShapesHold-move_task, ShapesHold-set_state, ShapesHold-queue_task, ShapesHold-make_runnable, ShapesHold-set_busy, ShapesHold-store_cpu}
 use Rattle.core_locks.proofs.ShapesKept.{ShapesHold-take_queue, ShapesHold-take_task, ShapesHold-take_wait, ShapesHold-take_works}
 use Rattle.core_places.proofs.Loads.{PositionsHold-load_busy, PositionsHold-load_rq, PositionsHold-load_state}
 use Rattle.core_places.proofs.Places.{PlacesHold-body_home, PlacesHold-body_out, PlacesHold-bump, PlacesHold-claim, PlacesHold-clear_busy, PlacesHold-dequeue_task, PlacesHold-give_task}
-use Rattle.core_places.proofs.Places.{PlacesHold-give_works, PlacesHold-load_count, PlacesHold-load_cpu, PlacesHold-move_task, PlacesHold-queue_task, PlacesHold-make_runnable, PlacesHold-set_busy, PlacesHold-store_cpu}
+use Rattle.core_places.proofs.Places.{PlacesHold-give_works, PlacesHold-load_count, PlacesHold-load_cpu, PlacesHold-move_task, PlacesHold-queue_task, PlacesHold-make_runnable, PlacesHold-set_busy}
+use Rattle.core_places.proofs.Places.{PlacesHold-store_cpu}
 use Rattle.core_places.proofs.Places.{PlacesHold-take_queue, PlacesHold-take_task, PlacesHold-take_wait, PlacesHold-take_works}
 use Rattle.core_places.proofs.PlacesByTests.{PlacesHold-give_queue, PlacesHold-give_wait, PlacesHold-load_busy, PlacesHold-load_cond, PlacesHold-load_rq, PlacesHold-load_state, PlacesHold-set_state}
 use Rattle.core_places.proofs.Positions.{PositionsHold-body_home, PositionsHold-body_out, PositionsHold-bump, PositionsHold-claim, PositionsHold-clear_busy, PositionsHold-dequeue_task}
-use Rattle.core_places.proofs.Positions.{PositionsHold-give_task, PositionsHold-give_works, PositionsHold-load_count, PositionsHold-load_cpu, PositionsHold-move_task, PositionsHold-queue_task, PositionsHold-make_runnable}
+use Rattle.core_places.proofs.Positions.{PositionsHold-give_task, PositionsHold-give_works, PositionsHold-load_count, PositionsHold-load_cpu, PositionsHold-move_task, PositionsHold-queue_task}
+use Rattle.core_places.proofs.Positions.{PositionsHold-make_runnable}
 use Rattle.core_places.proofs.Positions.{PositionsHold-set_busy, PositionsHold-store_cpu, PositionsHold-take_queue, PositionsHold-take_task, PositionsHold-take_wait, PositionsHold-take_works}
 use Rattle.core_places.proofs.PositionsByTests.{PositionsHold-give_queue, PositionsHold-give_wait, PositionsHold-load_cond, PositionsHold-set_state}
 use Rattle.core_places.proofs.StartOfPlaces.{PlacesHold-start, PositionsHold-start}
@@ -38,7 +45,8 @@ use Rattle.core_sleepers.proofs.Gives.{SleepersHold-give_wait}
 use Rattle.core_sleepers.proofs.Opens.{SleepersHold-start}
 use Rattle.core_sleepers.proofs.Passes.{SleepersHold-load_state}
 use Rattle.core_sleepers.proofs.Still.{SleepersHold-body_home, SleepersHold-body_out, SleepersHold-clear_busy, SleepersHold-dequeue_task, SleepersHold-give_task, SleepersHold-give_works}
-use Rattle.core_sleepers.proofs.Still.{SleepersHold-load_busy, SleepersHold-load_count, SleepersHold-load_cpu, SleepersHold-load_rq, SleepersHold-move_task, SleepersHold-queue_task, SleepersHold-take_queue}
+use Rattle.core_sleepers.proofs.Still.{SleepersHold-load_busy, SleepersHold-load_count, SleepersHold-load_cpu, SleepersHold-load_rq, SleepersHold-move_task, SleepersHold-queue_task}
+use Rattle.core_sleepers.proofs.Still.{SleepersHold-take_queue}
 use Rattle.core_sleepers.proofs.Still.{SleepersHold-take_task, SleepersHold-take_works}
 use Rattle.core_sleepers.proofs.Stores.{SleepersHold-claim, SleepersHold-give_queue, SleepersHold-set_state, SleepersHold-make_runnable, SleepersHold-set_busy}
 use Rattle.core_sleepers.proofs.Takes.{SleepersHold-take_wait}
@@ -53,7 +61,8 @@ use Rattle.core_gives.specs.Waits.{MayGiveWait, give_wait}
 use Rattle.core_invariant.specs.Invariant.{Holds}
 use Rattle.core_kinds.specs.Locks.{MayTakeTask, take_task, MayGiveTask, give_task, MayTakeQueue, take_queue, MayTakeWait, take_wait, MayTakeWorks, take_works, MayGiveWorks, give_works}
 use Rattle.core_kinds.specs.Running.{MayQueue, queue_task, MayDequeue, dequeue_task, MayMove, move_task, MaySetBusy, set_busy, MayClearBusy, clear_busy, MayBodyOut, body_out, MayBodyHome, body_home}
-use Rattle.core_kinds.specs.Waking.{MaySetState, set_state, MayClaim, claim, MayMakeRunnable, make_runnable, MayLoad, MayLoadState, load_state, load_rq, load_busy, load_cpu, load_count, MayStoreCpu, store_cpu, MayBump, bump, load_cond}
+use Rattle.core_kinds.specs.Waking.{MaySetState, set_state, MayClaim, claim, MayMakeRunnable, make_runnable, MayLoad, MayLoadState, load_state, load_rq, load_busy, load_cpu, load_count, MayStoreCpu}
+use Rattle.core_kinds.specs.Waking.{store_cpu, MayBump, bump, load_cond}
 use Rattle.handoff_data.specs.Shape.{IsShape}
 use Rattle.handoff_data.specs.declared.shape.Shape.{Shape}
 use Rattle.handoff_data.specs.declared.state.State.{State}

@@ -8,10 +8,14 @@ use Rattle.handoff_data.specs.Shape.{IsShape}
 use Rattle.handoff_data.specs.declared.shape.Shape.{Shape}
 use Rattle.core_invariant.specs.Invariant.{Holds}
 use Rattle.core_journals.proofs.MovingSteps.{Moves-queue_task, Moves-dequeue_task, Moves-move_task, Moves-set_busy, Moves-clear_busy, Moves-claim}
-use Rattle.core_journals.proofs.StayingSteps.{Moves-take_task, Moves-give_task, Moves-take_queue, Moves-give_queue, Moves-take_wait, Moves-give_wait, Moves-take_works, Moves-give_works, Moves-body_out, Moves-body_home, Moves-set_state, Moves-make_runnable, Moves-load_state, Moves-load_rq, Moves-load_busy, Moves-load_cpu, Moves-load_count, Moves-store_cpu, Moves-bump, Moves-load_cond}
+use Rattle.core_journals.proofs.StayingSteps.{Moves-take_task, Moves-give_task, Moves-take_queue, Moves-give_queue, Moves-take_wait, Moves-give_wait, Moves-take_works, Moves-give_works}
+use Rattle.core_journals.proofs.StayingSteps.{Moves-body_out, Moves-body_home, Moves-set_state, Moves-make_runnable, Moves-load_state, Moves-load_rq, Moves-load_busy, Moves-load_cpu, Moves-load_count}
+use Rattle.core_journals.proofs.StayingSteps.{Moves-store_cpu, Moves-bump, Moves-load_cond}
 use Rattle.core_journals.specs.Places.{OneMoveOrNone}
 use Rattle.core_locks.proofs.Rows.{each_word}
-use Rattle.core_law.proofs.Kept.{Holds-start, Holds-take_task, Holds-give_task, Holds-take_queue, Holds-give_queue, Holds-take_wait, Holds-give_wait, Holds-take_works, Holds-give_works, Holds-body_out, Holds-body_home, Holds-queue_task, Holds-dequeue_task, Holds-move_task, Holds-set_busy, Holds-clear_busy, Holds-set_state, Holds-claim, Holds-make_runnable, Holds-load_state, Holds-load_rq, Holds-load_busy, Holds-load_cpu, Holds-load_count, Holds-store_cpu, Holds-bump, Holds-load_cond}
+use Rattle.core_law.proofs.Kept.{Holds-start, Holds-take_task, Holds-give_task, Holds-take_queue, Holds-give_queue, Holds-take_wait, Holds-give_wait, Holds-take_works, Holds-give_works}
+use Rattle.core_law.proofs.Kept.{Holds-body_out, Holds-body_home, Holds-queue_task, Holds-dequeue_task, Holds-move_task, Holds-set_busy, Holds-clear_busy, Holds-set_state, Holds-claim}
+use Rattle.core_law.proofs.Kept.{Holds-make_runnable, Holds-load_state, Holds-load_rq, Holds-load_busy, Holds-load_cpu, Holds-load_count, Holds-store_cpu, Holds-bump, Holds-load_cond}
 use Rattle.core_kinds.specs.Steps.{dead}
 use Rattle.core_law.specs.Reached.{IsReached, IsOpening}
 use Rattle.core_law.specs.Runs.{Ran, EachMoves}
@@ -19,7 +23,8 @@ use Rattle.core_law.specs.Steps.{May, after, Step}
 use Rattle.core_data.specs.declared.words.TaskWords.{TaskWords}
 use Rattle.core_law.specs.declared.event.Event.{Event}
 use Rattle.core_law.specs.declared.step.StepKind.{StepKind}
-use Rattle.core_law.specs.declared.step.StepKind.TheVariants.{TakeTask, GiveTask, TakeQueue, GiveQueue, TakeWait, GiveWait, TakeWorks, GiveWorks, BodyOut, BodyHome, QueueTask, DequeueTask, MoveTask, SetBusy, ClearBusy, SetState, ClaimTask, MakeRunnable, LoadState, LoadRq, LoadBusy, LoadCpu, LoadCount, StoreCpu, Bump, LoadCond}
+use Rattle.core_law.specs.declared.step.StepKind.TheVariants.{TakeTask, GiveTask, TakeQueue, GiveQueue, TakeWait, GiveWait, TakeWorks, GiveWorks, BodyOut, BodyHome, QueueTask, DequeueTask, MoveTask}
+use Rattle.core_law.specs.declared.step.StepKind.TheVariants.{SetBusy, ClearBusy, SetState, ClaimTask, MakeRunnable, LoadState, LoadRq, LoadBusy, LoadCpu, LoadCount, StoreCpu, Bump, LoadCond}
 
 pub Holds-after : (core : Columns) (s : ℕ) (step : StepKind) → Holds core → May core s step → Holds (after core s step)
 Holds-after core s (TakeTask t) holds may = Holds-take_task core s t holds may

@@ -257,7 +257,8 @@ clear-reads true false core s t = refl
 clear-reads false true core s t = refl
 clear-reads false false core s t = refl
 
-state-reads : (core : Columns) (s t : ℕ) (mask : Option State) → (logged_if (is_refused (core.state t) mask) (passed_core core s t mask) s (Refused t (core.state t))).last_reads s t ≡ state_read t (core.state t) (core.last_reads s t)
+state-reads : (core : Columns) (s t : ℕ) (mask : Option State)
+    → (logged_if (is_refused (core.state t) mask) (passed_core core s t mask) s (Refused t (core.state t))).last_reads s t ≡ state_read t (core.state t) (core.last_reads s t)
 state-reads core s t mask =
     let state = core.state t in
     let r = state_read t state (core.last_reads s t) in
@@ -271,14 +272,16 @@ state-reads core s t mask =
     ∙ reads_here core.last_reads s t r s t refl refl
 
 rq-reads : (core : Columns) (s t : ℕ) → (noted_if ((core.on_rq t == 0) && core.saw_rest s t) (noted_if ((core.on_rq t == 0) && core.is_unstored s t)
-    (record core { last_reads = put_at core.last_reads s t (rq_read t (core.on_rq t) (core.changes t) (core.last_reads s t)) }) s (SawOff t)) s (SawRestOff t)).last_reads s t ≡ rq_read t (core.on_rq t) (core.changes t) (core.last_reads s t)
+    (record core { last_reads = put_at core.last_reads s t (rq_read t (core.on_rq t) (core.changes t) (core.last_reads s t)) }) s (SawOff t)) s (SawRestOff t)).last_reads s t
+    ≡ rq_read t (core.on_rq t) (core.changes t) (core.last_reads s t)
 rq-reads core s t =
     let r = rq_read t (core.on_rq t) (core.changes t) (core.last_reads s t) in
     ap (λ f. f s t) (off-reads ((core.on_rq t == 0) && core.saw_rest s t) ((core.on_rq t == 0) && core.is_unstored s t) (record core { last_reads = put_at core.last_reads s t r }) s t)
     ∙ reads_here core.last_reads s t r s t refl refl
 
 busy-reads : (core : Columns) (s t : ℕ) → (noted_if (not (core.on_cpu t) && core.saw_rest_off s t) (noted_if (not (core.on_cpu t))
-    (record core { last_reads = put_at core.last_reads s t (busy_read t (core.on_cpu t) (core.last_reads s t)) }) s (SawClear t)) s (SawRestIdle t)).last_reads s t ≡ busy_read t (core.on_cpu t) (core.last_reads s t)
+    (record core { last_reads = put_at core.last_reads s t (busy_read t (core.on_cpu t) (core.last_reads s t)) }) s (SawClear t)) s (SawRestIdle t)).last_reads s t ≡ busy_read t (core.on_cpu t)
+    (core.last_reads s t)
 busy-reads core s t =
     let r = busy_read t (core.on_cpu t) (core.last_reads s t) in
     ap (λ f. f s t) (clear-reads (not (core.on_cpu t) && core.saw_rest_off s t) (not (core.on_cpu t)) (record core { last_reads = put_at core.last_reads s t r }) s t)

@@ -115,7 +115,9 @@ stores-claim core s t may u =
 pub stores-make_runnable : (core : Columns) (s t : ℕ) → MayMakeRunnable core s t → StoresItsStates s core (make_runnable core s t)
 stores-make_runnable core s t may u =
     elim (cases_eq u t) [
-      | inl q ↦ inr (subst (λ z. (core.current_task s ≡ Some z) ⊎ ((core.lock z ≡ Some s) ⊎ ((core.queue_lock (core.cpu z) ≡ Some s) × (core.has_added s (core.cpu z) z ≡ true)))) (sym q) (inr (by may.ready)))
+      | inl q ↦
+          inr (subst (λ z. (core.current_task s ≡ Some z) ⊎ ((core.lock z ≡ Some s) ⊎ ((core.queue_lock (core.cpu z) ≡ Some s) × (core.has_added s (core.cpu z) z ≡ true)))) (sym q)
+          (inr (by may.ready)))
       | inr q ↦ inl (put_there core.state t running u q)
     ]
   where

@@ -177,7 +177,15 @@ reached : IsReached raised
 reached =
     record {
       shape = shape;
-      is_shape = record { some_cpu = omega arith; few_cpus = omega arith; some_cache = omega arith; few_caches = omega arith; few_tasks = omega arith; few_conds = omega arith; few_agents = omega arith };
+      is_shape = record {
+        some_cpu = omega arith;
+        few_cpus = omega arith;
+        some_cache = omega arith;
+        few_caches = omega arith;
+        few_tasks = omega arith;
+        few_conds = omega arith;
+        few_agents = omega arith;
+      };
       opening = start;
       is_opening = record { start = start; is_start = is_start; ended = start.ended; alike = refl };
       events = events;

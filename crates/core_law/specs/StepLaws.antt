@@ -1,5 +1,6 @@
 -- What steps may change and what they keep, said in the words of the machine rather than in those of its steps.
-use Rattle.std.specs.Prelude.{◌≡◌, ◌≢◌, ◌+◌, ◌^◌, ◌<◌, ◌⊎◌, ◌↔◌, ◌++◌, ◌∷◌, [], ℕ, Bool, true, false, List, Option, Some, None, IsSome, bit_and}
+use Rattle.std.specs.Prelude.{◌≡◌, ◌≢◌, ◌+◌, ◌^◌, ◌<◌, ◌⊎◌, ◌↔◌, ◌++◌, ◌∷◌, [], ℕ, Bool, true, false, List, Option}
+use Rattle.std.specs.Prelude.{Some, None, IsSome, bit_and}
 use Rattle.core_data.specs.Queue.{Queue, times_in}
 use Rattle.core_data.specs.Columns.{Columns}
 use Rattle.core_data.specs.declared.pos.TaskReads.{TaskReads}
@@ -12,7 +13,8 @@ use Rattle.core_invariant.specs.Sleepers.{IsAwake}
 use Rattle.core_kinds.specs.Locks.{MayGiveTask, MayGiveWorks}
 use Rattle.core_kinds.specs.Running.{MayDequeue, MayMove, MaySetBusy, set_busy, queue_task, dequeue_task, move_task}
 use Rattle.core_kinds.specs.Steps.{dead, fresh, is_sleep, IsBelowEnd}
-use Rattle.core_kinds.specs.Waking.{set_state, make_runnable, load_state, load_rq, load_busy, load_cpu, load_count, store_cpu, load_cond}
+use Rattle.core_kinds.specs.Waking.{set_state, make_runnable, load_state, load_rq, load_busy, load_cpu, load_count}
+use Rattle.core_kinds.specs.Waking.{store_cpu, load_cond}
 use Rattle.handoff_data.specs.declared.entry.Entry.TheVariants.{Refused}
 use Rattle.handoff_data.specs.declared.state.State.{State}
 
@@ -57,7 +59,8 @@ KeepsTests seat core next =
 -- What a sleeper stored and tested, and where it was put to sleep, is kept for the laws on wakes.
 pub record SleepsAreKept (core : Columns) : Type 0 where
   pub slept : (s t : ℕ) (state : State) → is_sleep state ≡ true → (set_state core s t state).has_slept s t ≡ true
-  pub slept_in : (s t k : ℕ) (state : State) → is_sleep state ≡ true → (set_state core s t state).has_slept_in s k t ≡ true
+  pub slept_in : (s t k : ℕ) (state : State) → is_sleep state ≡ true
+      → (set_state core s t state).has_slept_in s k t ≡ true
   pub own_stored : (s t k : ℕ) (state : State) → (set_state core s t state).has_own_stored s k t ≡ true
   -- a sleeper that loads its condition has tested it
   pub tests : (s t k : ℕ) → core.current_task s ≡ Some t → core.has_slept s t ≡ true
@@ -88,7 +91,8 @@ pub record LoadsTell (core : Columns) : Type 0 where
   pub state : (s t : ℕ) (mask : Option State) → ((load_state core s t mask).last_reads s t).state ≡ Some (core.state t)
   pub rq : (s t : ℕ) → IsSome (core.last_reads s t).state
       → ((load_rq core s t).last_reads s t).rq ≡ Some (record { on = core.on_rq t; m = core.changes t })
-  pub busy : (s t : ℕ) → IsSome (core.last_reads s t).rq → ((load_busy core s t).last_reads s t).busy ≡ Some (core.on_cpu t)
+  pub busy : (s t : ℕ) → IsSome (core.last_reads s t).rq
+      → ((load_busy core s t).last_reads s t).busy ≡ Some (core.on_cpu t)
   pub cpu : (s t : ℕ) → ((load_cpu core s t).last_reads s t).cpu ≡ Some (core.cpu t)
   -- a seat keeps the level of its current task, not that of another, until it picks
   pub level : (s t : ℕ) → core.current_task s ≡ Some t → (load_count core s t).level_known s ≡ Some (core.count t)
@@ -100,8 +104,8 @@ pub record LoadsTell (core : Columns) : Type 0 where
   pub left : (s c t : ℕ) → ((dequeue_task core s c t).last_reads s t).number ≡ Some (core.changes t + 1)
   pub moved : (s c t : ℕ) → ((move_task core s c t).last_reads s t).number ≡ Some (core.changes t + 1)
 
--- Until the steps that change them come: a give of a task's lock leaves what it guards but for `wake_cpu` and `dest`, and
--- tells neither that the task stood nor that a record is done; a give of works leaves them.
+-- Until the steps that change them come: a give of a task's lock leaves what it guards but for `wake_cpu` and `dest`,
+-- and tells neither that the task stood nor that a record is done; a give of works leaves them.
 pub record GivesKeep (core : Columns) : Type 0 where
   pub mask : (s t : ℕ) (val taken : TaskVal) (stood done : Bool) → MayGiveTask core s t val stood done
       → core.task_held s t ≡ Some taken → (val.mask ≡ taken.mask) × (val.r ≡ taken.r)
@@ -116,7 +120,8 @@ pub record GivesKeep (core : Columns) : Type 0 where
 -- pick is of the task that the queue has as its next, and a move of one that waits there.
 pub record StepsAsk (core : Columns) : Type 0 where
   pub dies : (s c t : ℕ) → MayDequeue core s c t → core.seen_state s ≡ Some dead → core.count t ≡ 0
-  pub given_up : (s t : ℕ) (queue : Queue) → MayGiveQueue core s s queue → core.current_task s ≡ Some t → queue.cur ≡ None
+  pub given_up : (s t : ℕ) (queue : Queue) → MayGiveQueue core s s queue → core.current_task s ≡ Some t
+      → queue.cur ≡ None
       → (core.lock t ≡ Some s) ⊎ (core.count t ≡ 0)
   pub picked : (s c t : ℕ) (queue : Queue) → MaySetBusy core s c t queue → queue.cur ≡ Some t
   pub moved : (s c t : ℕ) (queue : Queue) → MayMove core s c t queue → times_in queue.waiting t ≡ 1

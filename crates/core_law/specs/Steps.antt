@@ -3,12 +3,20 @@ use Rattle.std.specs.Prelude.{◌≡◌, ℕ}
 use Rattle.core_data.specs.Columns.{Columns}
 use Rattle.core_gives.specs.Queues.{MayGiveQueue, give_queue}
 use Rattle.core_gives.specs.Waits.{MayGiveWait, give_wait}
-use Rattle.core_kinds.specs.Locks.{MayTakeTask, take_task, MayGiveTask, give_task, MayTakeQueue, take_queue, MayTakeWait, take_wait, MayTakeWorks, take_works, MayGiveWorks, give_works}
-use Rattle.core_kinds.specs.Running.{MayQueue, queue_task, MayDequeue, dequeue_task, MayMove, move_task, MaySetBusy, set_busy, MayClearBusy, clear_busy, MayBodyOut, body_out, MayBodyHome, body_home}
-use Rattle.core_kinds.specs.Waking.{MaySetState, set_state, MayClaim, claim, MayMakeRunnable, make_runnable, MayLoad, MayLoadState, load_state, load_rq, load_busy, load_cpu, load_count, MayStoreCpu, store_cpu, MayBump, bump, load_cond}
+use Rattle.core_kinds.specs.Locks.{MayTakeTask, take_task, MayGiveTask, give_task, MayTakeQueue, take_queue}
+use Rattle.core_kinds.specs.Locks.{MayTakeWait, take_wait, MayTakeWorks, take_works, MayGiveWorks, give_works}
+use Rattle.core_kinds.specs.Running.{MayQueue, queue_task, MayDequeue, dequeue_task, MayMove, move_task, MaySetBusy}
+use Rattle.core_kinds.specs.Running.{set_busy, MayClearBusy, clear_busy, MayBodyOut, body_out, MayBodyHome, body_home}
+use Rattle.core_kinds.specs.Waking.{MaySetState, set_state, MayClaim, claim, MayMakeRunnable, make_runnable, MayLoad}
+use Rattle.core_kinds.specs.Waking.{MayLoadState, load_state, load_rq, load_busy, load_cpu, load_count, MayStoreCpu}
+use Rattle.core_kinds.specs.Waking.{store_cpu, MayBump, bump, load_cond}
 use Rattle.core_law.specs.declared.event.Event.{Event}
 use Rattle.core_law.specs.declared.step.StepKind.{StepKind}
-use Rattle.core_law.specs.declared.step.StepKind.TheVariants.{TakeTask, GiveTask, TakeQueue, GiveQueue, TakeWait, GiveWait, TakeWorks, GiveWorks, BodyOut, BodyHome, QueueTask, DequeueTask, MoveTask, SetBusy, ClearBusy, SetState, ClaimTask, MakeRunnable, LoadState, LoadRq, LoadBusy, LoadCpu, LoadCount, StoreCpu, Bump, LoadCond}
+use Rattle.core_law.specs.declared.step.StepKind.TheVariants.{TakeTask, GiveTask, TakeQueue, GiveQueue, TakeWait}
+use Rattle.core_law.specs.declared.step.StepKind.TheVariants.{GiveWait, TakeWorks, GiveWorks, BodyOut, BodyHome}
+use Rattle.core_law.specs.declared.step.StepKind.TheVariants.{QueueTask, DequeueTask, MoveTask, SetBusy, ClearBusy}
+use Rattle.core_law.specs.declared.step.StepKind.TheVariants.{SetState, ClaimTask, MakeRunnable, LoadState, LoadRq}
+use Rattle.core_law.specs.declared.step.StepKind.TheVariants.{LoadBusy, LoadCpu, LoadCount, StoreCpu, Bump, LoadCond}
 
 abbrev pub May : Columns → ℕ → StepKind → Type 0
 May core s (TakeTask t) = MayTakeTask core s t

@@ -89,7 +89,8 @@ was_put before after s n e k t c l other w =
     }
 
 -- an entry that is no change
-pub AddedTasks-log : (on_rq cpu : ℕ → ℕ) (lock : ℕ → Option ℕ) (requeued : ℕ → ℕ → Bool) (added : ℕ → ℕ → ℕ → Bool) (before after : History) (s n : ℕ) (e : Entry) → AddedTasks on_rq cpu lock requeued added before
+pub AddedTasks-log : (on_rq cpu : ℕ → ℕ) (lock : ℕ → Option ℕ) (requeued : ℕ → ℕ → Bool) (added : ℕ → ℕ → ℕ → Bool) (before after : History) (s n : ℕ) (e : Entry)
+    → AddedTasks on_rq cpu lock requeued added before
     → Logged before after s n e → change_of e ≡ None → AddedTasks on_rq cpu lock requeued added after
 AddedTasks-log on_rq cpu lock requeued added before after s n e p l none =
     λ k c t locked a r w. p k c t locked a r (was_put before after s n e k t c l (λ q m h. grind (arith, none, h)) w)
@@ -116,9 +117,11 @@ AddedTasks-queue on_rq cpu changes lock requeued added before after s n e t c p 
     λ k d u locked a r w. elim (cases_eq u t) [
       | inl q ↦ elim (cases_eq k s) [
         | inl g ↦ let same = last_put d (subst (λ z. WasPut after z t d) g (subst (λ z. WasPut after k z d) q w)) in grind (arith, nat_tests, q, same, here)
-        | inr g ↦ let h = p k d u locked (grind (arith, nat_tests, a, g)) (grind (arith, nat_tests, r, g)) (was_put before after s n e k u d l (λ z. absurd (g z)) w) in absurd (grind (arith, nat_tests, h, q, off))
+        | inr g ↦ let h = p k d u locked (grind (arith, nat_tests, a, g)) (grind (arith, nat_tests, r, g)) (was_put before after s n e k u d l (λ z. absurd (g z)) w) in
+            absurd (grind (arith, nat_tests, h, q, off))
       ]
-      | inr q ↦ let h = p k d u locked (grind (arith, nat_tests, a, q)) (grind (arith, nat_tests, r, q)) (was_put before after s n e k u d l (λ z m g. q (other m u g)) w) in grind (arith, nat_tests, h, q)
+      | inr q ↦ let h = p k d u locked (grind (arith, nat_tests, a, q)) (grind (arith, nat_tests, r, q)) (was_put before after s n e k u d l (λ z m g. q (other m u g)) w) in
+          grind (arith, nat_tests, h, q)
     ]
   where
     change : change_of e ≡ Some (t, changes t + 1)
@@ -129,7 +132,8 @@ AddedTasks-queue on_rq cpu changes lock requeued added before after s n e t c p 
 
     last_put : (d : ℕ) → WasPut after s t d → d ≡ c
     last_put d w = elim (l.log s w.index w.entry w.stands) [
-      | inl a ↦ let below = numbered s w.index w.entry t w.number a (puts_change w.entry t w.number d w.puts) in let above = w.last n (changes t + 1) e l.new change in absurd (omega (arith, below, above))
+      | inl a ↦ let below = numbered s w.index w.entry t w.number a (puts_change w.entry t w.number d w.puts) in let above = w.last n (changes t + 1) e l.new change in
+          absurd (omega (arith, below, above))
       | inr a ↦ puts_one e t (changes t + 1) w.number c d puts (subst (λ z. PutsOn z t w.number d) a.2 w.puts)
     ]
 

@@ -8,7 +8,8 @@ use Rattle.core_data.specs.declared.act.Act.{Act}
 use Rattle.core_data.specs.declared.act.Act.TheVariants.{Matched, SawOff, SawClear, SawRest, SawRestOff, SawRestIdle, Passed, OwnStored, Slept}
 use Rattle.core_data.specs.declared.pos.TaskReads.{TaskReads}
 use Rattle.core_kinds.specs.Steps.{normal, is_match, is_sleep, stored_word}
-use Rattle.core_kinds.specs.Waking.{noted_if, logged_if, seen_if, slept_if, ran_if, set_state, load_state, is_own_read, is_matched, is_refused, state_read, load_rq, rq_read, load_busy, busy_read, load_cond, test_by, tested_if}
+use Rattle.core_kinds.specs.Waking.{noted_if, logged_if, seen_if, slept_if, ran_if, set_state, load_state, is_own_read, is_matched, is_refused, state_read, load_rq, rq_read, load_busy, busy_read}
+use Rattle.core_kinds.specs.Waking.{load_cond, test_by, tested_if}
 use Rattle.handoff_data.specs.declared.entry.Entry.{Entry}
 use Rattle.handoff_data.specs.declared.entry.Entry.TheVariants.{Refused}
 use Rattle.handoff_data.specs.declared.state.State.{State}

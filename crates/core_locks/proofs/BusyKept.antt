@@ -16,7 +16,8 @@ use Rattle.core_invariant.specs.Invariant.{Holds}
 use Rattle.core_kinds.specs.Locks.{MayTakeTask, take_task, MayGiveTask, give_task, MayTakeQueue, take_queue, unseen, MayTakeWorks, take_works, MayGiveWorks, give_works, MayTakeWait, take_wait}
 use Rattle.core_kinds.specs.Running.{MayQueue, queue_task, MayDequeue, dequeue_task, MayMove, move_task, MaySetBusy, set_busy, MayClearBusy, clear_busy, MayBodyOut, body_out, MayBodyHome, body_home}
 use Rattle.core_kinds.specs.Steps.{waking, running, dead}
-use Rattle.core_kinds.specs.Waking.{IsSettable, MaySetState, set_state, MayClaim, claim, MayMakeRunnable, make_runnable, MayLoad, MayStoreCpu, store_cpu, MayBump, bump, MayLoadState, load_state, load_rq, load_busy, load_cpu, load_count, load_cond}
+use Rattle.core_kinds.specs.Waking.{IsSettable, MaySetState, set_state, MayClaim, claim, MayMakeRunnable, make_runnable, MayLoad, MayStoreCpu, store_cpu, MayBump, bump, MayLoadState, load_state}
+use Rattle.core_kinds.specs.Waking.{load_rq, load_busy, load_cpu, load_count, load_cond}
 use Rattle.core_locks.proofs.Branches.{IsLoadFree, load_state-keeps, load_rq-keeps, load_busy-keeps, load_cond-keeps, IsOwnFree, set_state-keeps}
 use Rattle.core_locks.proofs.Found.{some_of, only_out, idle_placeable}
 use Rattle.core_locks.proofs.Runners.{OneRunner-set_busy, OneRunner-clear_busy, OneRunner-store_cpu, OneRunner-give_up, NamedByQueue-take, NamedByQueue-set_busy, NamedByQueue-clear_busy}
@@ -95,7 +96,10 @@ given_queue true core s c queue holds may b =
     → BusyHolds (unseen (give_up_if true (record core { queue_lock = put core.queue_lock z None; queue = put core.queue z (Some queue); queue_held = put_at core.queue_held s z None }) s) s z))
     own (λ m g. given_up core s queue holds m g) may b
 given_queue false core s c queue holds may b =
-    assumption (holds.busy, NamedByQueue-give core.current_task core.task_to_clear core.queue core.queue_held s c queue holds.busy.named (left_kept core s c queue holds may) (cur_kept core s c queue holds may b))
+    assumption (
+      holds.busy,
+      NamedByQueue-give core.current_task core.task_to_clear core.queue core.queue_held s c queue holds.busy.named (left_kept core s c queue holds may) (cur_kept core s c queue holds may b),
+    )
 
 pub BusyHolds-give_queue : (core : Columns) (s c : ℕ) (queue : Queue) → Holds core → MayGiveQueue core s c queue → BusyHolds (give_queue core s c queue)
 BusyHolds-give_queue core s c queue holds may = given_queue (gives_up s c queue) core s c queue holds may refl
@@ -161,7 +165,8 @@ BusyHolds-clear_busy core s t holds may =
     )
 
 -- a state is stored that isn't the death of a task whose body hasn't ended
-ended_kept : (state : ℕ → State) (ended : ℕ → Bool) (t : ℕ) (new : State) → ((u : ℕ) → state u ≡ dead → ended u ≡ true) → (new ≡ dead → ended t ≡ true) → (u : ℕ) → put state t new u ≡ dead → ended u ≡ true
+ended_kept : (state : ℕ → State) (ended : ℕ → Bool) (t : ℕ) (new : State) → ((u : ℕ) → state u ≡ dead → ended u ≡ true) → (new ≡ dead → ended t ≡ true) → (u : ℕ) → put state t new u ≡ dead
+    → ended u ≡ true
 ended_kept state ended t new p h u e = elim (cases_eq u t) [
   | inl q ↦ subst (λ z. ended z ≡ true) (sym q) (h (sym (put_here state t new u q) ∙ e))
   | inr q ↦ p u (sym (put_there state t new u q) ∙ e)
@@ -199,7 +204,8 @@ pub BusyHolds-load_count : (core : Columns) (s t : ℕ) → Holds core → MayLo
 BusyHolds-load_count core s t holds may = assumption (holds.busy)
 
 pub BusyHolds-store_cpu : (core : Columns) (s t c : ℕ) → Holds core → MayStoreCpu core s t c → BusyHolds (store_cpu core s t c)
-BusyHolds-store_cpu core s t c holds may = assumption (holds.busy, OneRunner-store_cpu core.on_cpu core.cpu core.current_task core.task_to_clear t c holds.busy.runner (idle_placeable core s t holds may.locked may.placeable))
+BusyHolds-store_cpu core s t c holds may =
+    assumption (holds.busy, OneRunner-store_cpu core.on_cpu core.cpu core.current_task core.task_to_clear t c holds.busy.runner (idle_placeable core s t holds may.locked may.placeable))
 
 pub BusyHolds-bump : (core : Columns) (s k : ℕ) → Holds core → MayBump core s k → BusyHolds (bump core s k)
 BusyHolds-bump core s k holds may = assumption (holds.busy)

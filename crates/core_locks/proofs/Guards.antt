@@ -5,7 +5,8 @@ use Rattle.std.proofs.lemmas.Bool.Decides.{nat_tests}
 use Rattle.core_data.specs.Columns.{put, put_at}
 use Rattle.core_invariant.specs.Locks.{IsGuarded}
 
-pub IsGuarded-take : (A : Type 0) (count seats : ℕ) (lock : ℕ → Option ℕ) (home : ℕ → Option A) (out : ℕ → ℕ → Option A) (s k : ℕ) → IsGuarded A count seats lock home out → s < seats → lock k ≡ None → IsSome (home k)
+pub IsGuarded-take : (A : Type 0) (count seats : ℕ) (lock : ℕ → Option ℕ) (home : ℕ → Option A) (out : ℕ → ℕ → Option A) (s k : ℕ) → IsGuarded A count seats lock home out → s < seats → lock k ≡ None
+    → IsSome (home k)
     → IsGuarded A count seats (put lock k (Some s)) (put home k None) (put_at out s k (home k))
 IsGuarded-take A count seats lock home out s k p seat free there =
     record {

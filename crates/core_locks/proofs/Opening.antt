@@ -5,7 +5,8 @@ use Rattle.std.proofs.lemmas.List.{length-replicate}
 use Rattle.std.proofs.lemmas.Bool.Decides.{nat_tests}
 use Rattle.core_data.specs.Opening.{IsStart, first_task, first_cpu, first_cond, first_seat, no_tasks}
 use Rattle.core_data.specs.Queue.{Queue}
-use Rattle.core_data.specs.Columns.{Columns, column, columns_of, current_task_of, task_to_clear_of, task_held_of, queue_held_of, list_held_of, works_held_of, wait_held_of, body_held_of, has_added_of, has_dropped_of, owes_walk_of}
+use Rattle.core_data.specs.Columns.{Columns, column, columns_of, current_task_of, task_to_clear_of, task_held_of, queue_held_of, list_held_of, works_held_of, wait_held_of, body_held_of, has_added_of}
+use Rattle.core_data.specs.Columns.{has_dropped_of, owes_walk_of}
 use Rattle.core_data.specs.declared.values.TaskVal.{TaskVal}
 use Rattle.core_data.specs.declared.values.WaitEntry.{WaitEntry}
 use Rattle.core_data.specs.declared.words.CondWords.{CondWords}
@@ -28,7 +29,8 @@ abbrev opening : Shape → CpuMask → Columns
 opening shape mask = columns_of shape (replicate shape.tasks (first_task mask)) (replicate shape.cpus first_cpu) (replicate shape.conds first_cond) (replicate (shape.cpus + shape.agents) first_seat)
 
 -- locks that are all free, with what they guard at home
-all_free : (A : Type 0) (count seats : ℕ) (lock : ℕ → Option ℕ) (home : ℕ → Option A) (out : ℕ → ℕ → Option A) → ((k : ℕ) → lock k ≡ None) → ((k : ℕ) → k < count → IsSome (home k)) → ((s k : ℕ) → out s k ≡ None)
+all_free : (A : Type 0) (count seats : ℕ) (lock : ℕ → Option ℕ) (home : ℕ → Option A) (out : ℕ → ℕ → Option A) → ((k : ℕ) → lock k ≡ None) → ((k : ℕ) → k < count → IsSome (home k))
+    → ((s k : ℕ) → out s k ≡ None)
     → IsGuarded A count seats lock home out
 all_free A count seats lock home out free there none =
     record {
@@ -188,8 +190,10 @@ opening-shapes shape mask is all =
       to_clear = λ s t e. absurd (grind (arith, none_left shape mask s, e));
       task_values = all_home _ _ _ (IsTaskVal (length (replicate shape.cpus first_cpu)) (length (replicate (shape.cpus + shape.agents) first_seat)))
           (λ (w : TaskWords). w.val) shape.tasks (first_task mask) task_held_of (shape.cpus + shape.agents) first_seat
-          (λ v e. first_named (length (replicate shape.cpus first_cpu)) (length (replicate (shape.cpus + shape.agents) first_seat)) mask v some_cpu (λ c h. subst (λ z. c < z) (sym cpus) (all c h)) e) (λ k. refl);
-      queue_values = all_home _ _ _ (IsQueueVal (length (replicate shape.tasks (first_task mask)))) (λ (w : CpuWords). w.queue) shape.cpus first_cpu queue_held_of (shape.cpus + shape.agents) first_seat
+          (λ v e. first_named (length (replicate shape.cpus first_cpu)) (length (replicate (shape.cpus + shape.agents) first_seat)) mask v some_cpu (λ c h. subst (λ z. c < z) (sym cpus) (all c h)) e)
+          (λ k. refl);
+      queue_values = all_home _ _ _ (IsQueueVal (length (replicate shape.tasks (first_task mask))))
+          (λ (w : CpuWords). w.queue) shape.cpus first_cpu queue_held_of (shape.cpus + shape.agents) first_seat
           (λ v e. no_named (length (replicate shape.tasks (first_task mask))) v e) (λ k. refl);
       wait_values = all_home _ _ _ (IsWaitVal (length (replicate shape.tasks (first_task mask)))) (λ (w : CondWords). w.wait) shape.conds first_cond wait_held_of (shape.cpus + shape.agents) first_seat
           (λ v e. no_entries (length (replicate shape.tasks (first_task mask))) v e) (λ k. refl);
@@ -222,7 +226,8 @@ opening-queues : (shape : Shape) (mask : CpuMask) → QueuesHold (opening shape 
 opening-queues shape mask =
     let core = opening shape mask in
     record {
-      at_home = λ c val e t. subst (λ (q : Queue). times q t ≡ (if is_at core.on_rq core.cpu c t then 1 else 0)) (empty_queue shape mask c val e) (empty_fits core.on_rq core.cpu c t (no_rq shape mask t));
+      at_home = λ c val e t. subst (λ (q : Queue). times q t ≡ (if is_at core.on_rq core.cpu c t then 1 else 0)) (empty_queue shape mask c val e)
+          (empty_fits core.on_rq core.cpu c t (no_rq shape mask t));
       left = λ s c val t e a d. absurd (grind (arith, no_taken shape mask s c, e));
       dropped = λ s c t l d r. absurd (grind (arith, none_dropped shape mask s c t, d));
       added = λ s c t l a r w. absurd (grind (arith, none_added shape mask s c t, a));

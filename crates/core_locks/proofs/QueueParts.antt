@@ -21,7 +21,8 @@ HomeQueues-store on_rq cpu queue c t on p out here = λ k v e u. grind (arith, n
 pub HomeQueues-place : (on_rq cpu : ℕ → ℕ) (queue : ℕ → Option Queue) (t c : ℕ) → HomeQueues on_rq cpu queue → on_rq t ≢ 1 → HomeQueues on_rq (put cpu t c) queue
 HomeQueues-place on_rq cpu queue t c p off = λ k v e u. grind (arith, nat_tests, p k v e u, off)
 
-pub LeftQueues-take : (on_rq cpu : ℕ → ℕ) (queue : ℕ → Option Queue) (out : ℕ → ℕ → Option Queue) (added dropped : ℕ → ℕ → ℕ → Bool) (s c : ℕ) → LeftQueues on_rq cpu out added dropped → HomeQueues on_rq cpu queue
+pub LeftQueues-take : (on_rq cpu : ℕ → ℕ) (queue : ℕ → Option Queue) (out : ℕ → ℕ → Option Queue) (added dropped : ℕ → ℕ → ℕ → Bool) (s c : ℕ) → LeftQueues on_rq cpu out added dropped
+    → HomeQueues on_rq cpu queue
     → LeftQueues on_rq cpu (put_at out s c (queue c)) (put added s (λ d t. if d == c then false else added s d t)) (put dropped s (λ d t. if d == c then false else dropped s d t))
 LeftQueues-take on_rq cpu queue out added dropped s c p home = λ u d taken t e a r. grind (arith, nat_tests, p u d taken t, home c taken)
 

@@ -15,8 +15,10 @@ use Rattle.core_invariant.specs.Histories.{history}
 use Rattle.core_invariant.specs.Invariant.{Holds}
 use Rattle.core_invariant.specs.Queues.{QueuesHold, AddedTasks}
 use Rattle.core_kinds.specs.Locks.{MayTakeTask, take_task, MayGiveTask, give_task, MayTakeQueue, take_queue, unseen, MayTakeWorks, take_works, MayGiveWorks, give_works, MayTakeWait, take_wait}
-use Rattle.core_kinds.specs.Running.{MayQueue, queue_task, queue_entry, store_rq, MayDequeue, dequeue_task, dequeue_entry, MayMove, move_task, MaySetBusy, set_busy, MayClearBusy, clear_busy, MayBodyOut, body_out, MayBodyHome, body_home}
-use Rattle.core_kinds.specs.Waking.{MaySetState, set_state, MayClaim, claim, MayMakeRunnable, make_runnable, MayLoad, MayStoreCpu, store_cpu, MayBump, bump, MayLoadState, load_state, load_rq, load_busy, load_cpu, load_count, load_cond}
+use Rattle.core_kinds.specs.Running.{MayQueue, queue_task, queue_entry, store_rq, MayDequeue, dequeue_task, dequeue_entry, MayMove, move_task, MaySetBusy, set_busy, MayClearBusy, clear_busy}
+use Rattle.core_kinds.specs.Running.{MayBodyOut, body_out, MayBodyHome, body_home}
+use Rattle.core_kinds.specs.Waking.{MaySetState, set_state, MayClaim, claim, MayMakeRunnable, make_runnable, MayLoad, MayStoreCpu, store_cpu, MayBump, bump, MayLoadState, load_state, load_rq}
+use Rattle.core_kinds.specs.Waking.{load_busy, load_cpu, load_count, load_cond}
 use Rattle.core_locks.proofs.AddedParts.{AddedTasks-log, AddedTasks-take, AddedTasks-give, AddedTasks-place, AddedTasks-queue, AddedTasks-off, queue_entry-puts, dequeue_entry-change}
 use Rattle.core_locks.proofs.Branches.{IsLoadFree, load_state-keeps, load_rq-keeps, load_busy-keeps, load_cond-keeps, IsOwnFree, set_state-keeps}
 use Rattle.core_locks.proofs.Found.{only_out, off_placeable}
@@ -161,7 +163,8 @@ left_queue core s c t on entry holds seat locked here off change =
 
 pub QueuesHold-dequeue_task : (core : Columns) (s c t : ℕ) → Holds core → MayDequeue core s c t → QueuesHold (dequeue_task core s c t)
 QueuesHold-dequeue_task core s c t holds may =
-    left_queue core s c t 0 (dequeue_entry (core.seen_state s) (core.changes t) t c) holds may.seat may.locked may.here (λ h. grind (arith, h)) (dequeue_entry-change (core.seen_state s) (core.changes t) t c)
+    left_queue core s c t 0 (dequeue_entry (core.seen_state s) (core.changes t) t c) holds may.seat may.locked may.here
+    (λ h. grind (arith, h)) (dequeue_entry-change (core.seen_state s) (core.changes t) t c)
 
 pub QueuesHold-move_task : (core : Columns) (s c t : ℕ) (val : Queue) → Holds core → MayMove core s c t val → QueuesHold (move_task core s c t)
 QueuesHold-move_task core s c t val holds may = left_queue core s c t 2 (Out t (core.changes t + 1) c) holds may.seat may.locked may.here (λ h. grind (arith, h)) refl

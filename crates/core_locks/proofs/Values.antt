@@ -24,7 +24,8 @@ at_there f s k v u j r = elim (cases_eq u s) [
 pub at_other : {A : Type 0} (f : ℕ → ℕ → A) (s k : ℕ) (v : A) (u j : ℕ) → u ≢ s → put_at f s k v u j ≡ f u j
 at_other f s k v u j q = ap (λ g. g j) (put_there f s (put (f s) k v) u q)
 
-pub HoldsOfValues-take : (A : Type 0) (P : A → Type 0) (home : ℕ → Option A) (out : ℕ → ℕ → Option A) (s k : ℕ) → HoldsOfValues A P home out → HoldsOfValues A P (put home k None) (put_at out s k (home k))
+pub HoldsOfValues-take : (A : Type 0) (P : A → Type 0) (home : ℕ → Option A) (out : ℕ → ℕ → Option A) (s k : ℕ) → HoldsOfValues A P home out
+    → HoldsOfValues A P (put home k None) (put_at out s k (home k))
 HoldsOfValues-take A P home out s k p =
     record {
       at_home = λ j v e. elim (cases_eq j k) [
@@ -69,7 +70,8 @@ IsTaskVal-kept cpus seats taken given p kept wake_cpu dest =
     }
 
 -- a queue that has the tasks that are queued there names what is there
-pub IsQueueVal-given : (tasks : ℕ) (on_rq cpu : ℕ → ℕ) (c : ℕ) (queue : Queue) → ((t : ℕ) → on_rq t ≢ 0 → t < tasks) → IsQueueOf on_rq cpu c queue → ((t : ℕ) → queue.left ≡ Some t → t < tasks) → IsQueueVal tasks queue
+pub IsQueueVal-given : (tasks : ℕ) (on_rq cpu : ℕ → ℕ) (c : ℕ) (queue : Queue) → ((t : ℕ) → on_rq t ≢ 0 → t < tasks) → IsQueueOf on_rq cpu c queue → ((t : ℕ) → queue.left ≡ Some t → t < tasks)
+    → IsQueueVal tasks queue
 IsQueueVal-given tasks on_rq cpu c queue queued fits left =
     record {
       waiting = λ t h. queued t (λ z. grind (arith, nat_tests, fits t, h, z));

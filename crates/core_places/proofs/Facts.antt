@@ -62,7 +62,8 @@ pub claim_started : (core : Columns) (s t : ℕ) → Holds core → MayClaim cor
 claim_started core s t holds may = holds.positions.matched.started s t may.locked (holds.positions.matched.saw_after s t may.saw_off)
 
 -- one that is moved isn't busy
-pub move_idle : (core : Columns) (s c t : ℕ) → Holds core → core.queue_lock c ≡ Some s → core.saw_idle s c t ≡ true → core.on_rq t ≡ 1 → core.cpu t ≡ c → core.current_task s ≢ Some t → core.on_cpu t ≡ false
+pub move_idle : (core : Columns) (s c t : ℕ) → Holds core → core.queue_lock c ≡ Some s → core.saw_idle s c t ≡ true → core.on_rq t ≡ 1 → core.cpu t ≡ c → core.current_task s ≢ Some t
+    → core.on_cpu t ≡ false
 move_idle core s c t holds locked idle queued here other =
     elim (holds.positions.idle.read s c t locked idle queued here) [ inl a ↦ a | inr a ↦ absurd (other a) ]
 

@@ -43,18 +43,21 @@ pub IdleTasks-give : (on_rq cpu : ℕ → ℕ) (on_cpu : ℕ → Bool) (queue_lo
 IdleTasks-give on_rq cpu on_cpu queue_lock current next idle added c p kept =
     record { read = IdleTasks-given on_rq cpu on_cpu queue_lock current next idle c p.read kept; put = IdleTasks-given on_rq cpu on_cpu queue_lock current next added c p.put kept }
 
-IdleTasks-noted : (on_rq cpu : ℕ → ℕ) (on_cpu : ℕ → Bool) (queue_lock current : ℕ → Option ℕ) (noted : ℕ → ℕ → ℕ → Bool) (s t : ℕ) → HoldsIdle on_rq cpu on_cpu queue_lock current noted → on_cpu t ≡ false
+IdleTasks-noted : (on_rq cpu : ℕ → ℕ) (on_cpu : ℕ → Bool) (queue_lock current : ℕ → Option ℕ) (noted : ℕ → ℕ → ℕ → Bool) (s t : ℕ) → HoldsIdle on_rq cpu on_cpu queue_lock current noted
+    → on_cpu t ≡ false
     → HoldsIdle on_rq cpu on_cpu queue_lock current (put noted s (λ d u. if u == t then true else noted s d u))
 IdleTasks-noted on_rq cpu on_cpu queue_lock current noted s t p idle k d u l h e here =
     elim (cases_eq u t) [ inl q ↦ inl (ap on_cpu q ∙ idle) | inr q ↦ p k d u l (grind (arith, nat_tests, h, q)) e here ]
 
-IdleTasks-queued : (on_rq cpu : ℕ → ℕ) (on_cpu : ℕ → Bool) (queue_lock current : ℕ → Option ℕ) (noted : ℕ → ℕ → ℕ → Bool) (t : ℕ) → HoldsIdle on_rq cpu on_cpu queue_lock current noted → on_cpu t ≡ false
+IdleTasks-queued : (on_rq cpu : ℕ → ℕ) (on_cpu : ℕ → Bool) (queue_lock current : ℕ → Option ℕ) (noted : ℕ → ℕ → ℕ → Bool) (t : ℕ) → HoldsIdle on_rq cpu on_cpu queue_lock current noted
+    → on_cpu t ≡ false
     → HoldsIdle (put on_rq t 1) cpu on_cpu queue_lock current noted
 IdleTasks-queued on_rq cpu on_cpu queue_lock current noted t p idle k d u l h e here =
     elim (cases_eq u t) [ inl q ↦ inl (ap on_cpu q ∙ idle) | inr q ↦ p k d u l h (sym (put_there on_rq t 1 u q) ∙ e) here ]
 
 -- a task that isn't busy is queued
-pub IdleTasks-queue : (on_rq cpu : ℕ → ℕ) (on_cpu : ℕ → Bool) (queue_lock current : ℕ → Option ℕ) (idle added : ℕ → ℕ → ℕ → Bool) (s t : ℕ) → IdleTasks on_rq cpu on_cpu queue_lock current idle added → on_cpu t ≡ false
+pub IdleTasks-queue : (on_rq cpu : ℕ → ℕ) (on_cpu : ℕ → Bool) (queue_lock current : ℕ → Option ℕ) (idle added : ℕ → ℕ → ℕ → Bool) (s t : ℕ) → IdleTasks on_rq cpu on_cpu queue_lock current idle added
+    → on_cpu t ≡ false
     → IdleTasks (put on_rq t 1) cpu on_cpu queue_lock current idle (put added s (λ d u. if u == t then true else added s d u))
 IdleTasks-queue on_rq cpu on_cpu queue_lock current idle added s t p clear =
     record {
@@ -62,7 +65,8 @@ IdleTasks-queue on_rq cpu on_cpu queue_lock current idle added s t p clear =
       put = IdleTasks-noted (put on_rq t 1) cpu on_cpu queue_lock current added s t (IdleTasks-queued on_rq cpu on_cpu queue_lock current added t p.put clear) clear;
     }
 
-pub IdleTasks-off : (on_rq cpu : ℕ → ℕ) (on_cpu : ℕ → Bool) (queue_lock current : ℕ → Option ℕ) (idle added : ℕ → ℕ → ℕ → Bool) (t v : ℕ) → IdleTasks on_rq cpu on_cpu queue_lock current idle added → v ≢ 1
+pub IdleTasks-off : (on_rq cpu : ℕ → ℕ) (on_cpu : ℕ → Bool) (queue_lock current : ℕ → Option ℕ) (idle added : ℕ → ℕ → ℕ → Bool) (t v : ℕ) → IdleTasks on_rq cpu on_cpu queue_lock current idle added
+    → v ≢ 1
     → IdleTasks (put on_rq t v) cpu on_cpu queue_lock current idle added
 IdleTasks-off on_rq cpu on_cpu queue_lock current idle added t v p off =
     record {
@@ -98,7 +102,8 @@ IdleTasks-clear on_rq cpu on_cpu queue_lock current idle added t p =
     }
 
 -- the processor word of a task that isn't queued is stored
-pub IdleTasks-cpu : (on_rq cpu : ℕ → ℕ) (on_cpu : ℕ → Bool) (queue_lock current : ℕ → Option ℕ) (idle added : ℕ → ℕ → ℕ → Bool) (t c : ℕ) → IdleTasks on_rq cpu on_cpu queue_lock current idle added → on_rq t ≢ 1
+pub IdleTasks-cpu : (on_rq cpu : ℕ → ℕ) (on_cpu : ℕ → Bool) (queue_lock current : ℕ → Option ℕ) (idle added : ℕ → ℕ → ℕ → Bool) (t c : ℕ) → IdleTasks on_rq cpu on_cpu queue_lock current idle added
+    → on_rq t ≢ 1
     → IdleTasks on_rq (put cpu t c) on_cpu queue_lock current idle added
 IdleTasks-cpu on_rq cpu on_cpu queue_lock current idle added t c p off =
     record {
@@ -106,7 +111,8 @@ IdleTasks-cpu on_rq cpu on_cpu queue_lock current idle added t c p off =
       put = λ k d u l h e here. p.put k d u l h e (grind (arith, nat_tests, here, off, e));
     }
 
-pub IdleTasks-saw_clear : (on_rq cpu : ℕ → ℕ) (on_cpu : ℕ → Bool) (queue_lock current : ℕ → Option ℕ) (idle added : ℕ → ℕ → ℕ → Bool) (s t : ℕ) → IdleTasks on_rq cpu on_cpu queue_lock current idle added → on_cpu t ≡ false
+pub IdleTasks-saw_clear : (on_rq cpu : ℕ → ℕ) (on_cpu : ℕ → Bool) (queue_lock current : ℕ → Option ℕ) (idle added : ℕ → ℕ → ℕ → Bool) (s t : ℕ)
+    → IdleTasks on_rq cpu on_cpu queue_lock current idle added → on_cpu t ≡ false
     → IdleTasks on_rq cpu on_cpu queue_lock current (put idle s (λ d u. if u == t then true else idle s d u)) added
 IdleTasks-saw_clear on_rq cpu on_cpu queue_lock current idle added s t p clear =
     record { read = IdleTasks-noted on_rq cpu on_cpu queue_lock current idle s t p.read clear; put = p.put }

@@ -107,7 +107,8 @@ WakingStored-change state on_rq lock stored s t v p by k u l e w =
     let other : u ≢ t = λ q. grind (arith, put_here on_rq t v u q, e, ap state q, w, by) in
     mark_keeps stored s t k u (p k u l (sym (put_there on_rq t v u other) ∙ e) w)
 
-pub WakingStored-state : (state : ℕ → State) (on_rq : ℕ → ℕ) (lock : ℕ → Option ℕ) (stored : ℕ → ℕ → Bool) (s t : ℕ) (x : State) → WakingStored state on_rq lock stored → (lock t ≡ Some s) ⊎ (x ≢ waking)
+pub WakingStored-state : (state : ℕ → State) (on_rq : ℕ → ℕ) (lock : ℕ → Option ℕ) (stored : ℕ → ℕ → Bool) (s t : ℕ) (x : State) → WakingStored state on_rq lock stored → (lock t ≡ Some s)
+    ⊎ (x ≢ waking)
     → WakingStored (put state t x) on_rq lock (mark stored s t)
 WakingStored-state state on_rq lock stored s t x p by k u l e w =
     elim (cases_eq u t) [

@@ -13,7 +13,8 @@ use Rattle.core_invariant.specs.Histories.{history}
 use Rattle.core_invariant.specs.Invariant.{Holds}
 use Rattle.core_invariant.specs.Positions.{PositionsHold}
 use Rattle.core_kinds.specs.Steps.{waking, dead, normal, is_match, is_sleep, IsRunnable}
-use Rattle.core_kinds.specs.Waking.{MayLoadState, IsMask, load_state, is_own_read, is_some_of, is_matched, is_refused, state_read, rq_read, busy_read, logged_if, noted_if, seen_if, MayLoad, load_rq, load_busy}
+use Rattle.core_kinds.specs.Waking.{MayLoadState, IsMask, load_state, is_own_read, is_some_of, is_matched, is_refused, state_read, rq_read, busy_read, logged_if, noted_if, seen_if, MayLoad, load_rq}
+use Rattle.core_kinds.specs.Waking.{load_busy}
 use Rattle.core_places.proofs.Claimed.{ClaimedTasks-saw_clear}
 use Rattle.core_places.proofs.Idle.{IdleTasks-saw_clear}
 use Rattle.core_places.proofs.LastReads.{CpusRead-same}
@@ -77,7 +78,8 @@ record IsRead (core : Columns) (s t : ℕ) (x : State) (meets : Bool) : Type 0 w
   is : core.state t ≡ x
   met : meets ≡ true → Meets core.state core.on_rq core.changes t
 
-keep_state : (own : Bool) (core : Columns) (s t : ℕ) (x : State) (m : Bool) → IsRead core s t x m → (own ≡ true → (core.current_task s ≡ Some t) × (core.queue_lock s ≡ Some s)) → IsRead (seen_if own core s x) s t x m
+keep_state : (own : Bool) (core : Columns) (s t : ℕ) (x : State) (m : Bool) → IsRead core s t x m → (own ≡ true → (core.current_task s ≡ Some t) × (core.queue_lock s ≡ Some s))
+    → IsRead (seen_if own core s x) s t x m
 keep_state false core s t x m r h = r
 keep_state true core s t x m r h =
     let p = r.positions in
@@ -157,13 +159,15 @@ PositionsHold-load_state core s t mask holds may =
     let rests = not (x.0 == 0x200) in
     let passes = not (is_match x normal) in
     let awake : rests ≡ true → x ≢ waking = λ h q. grind (arith, nat_tests, ap (λ (z : State). z.0) q, h) in
-    note_refused (is_refused x mask) _ s t x m (entry.Refused t x) (note_passed passes _ s t x m (note_rest rests _ s t x m (note_matched m _ s t x (keep_state own _ s t x m first (own_read core s t))) awake))
+    note_refused (is_refused x mask) _ s t x m (entry.Refused t x)
+    (note_passed passes _ s t x m (note_rest rests _ s t x m (note_matched m _ s t x (keep_state own _ s t x m first (own_read core s t))) awake))
 
 saw : (b : Bool) (core : Columns) (s t : ℕ) → PositionsHold core → (b ≡ true → (core.is_unstored s t ≡ true) × (core.on_rq t ≡ 0)) → PositionsHold (noted_if b core s (SawOff t))
 saw false core s t p h = p
 saw true core s t p h = let o = h refl in assumption (p, MatchedTasks-saw_off core.state core.on_rq core.changes core.lock core.is_unstored core.saw_off s t p.matched o.0 o.1)
 
-saw_rest : (b c : Bool) (core : Columns) (s t : ℕ) → PositionsHold (noted_if c core s (SawOff t)) → (b ≡ true → (core.saw_rest s t ≡ true) × (core.on_rq t ≡ 0)) → PositionsHold (noted_if b (noted_if c core s (SawOff t)) s (SawRestOff t))
+saw_rest : (b c : Bool) (core : Columns) (s t : ℕ) → PositionsHold (noted_if c core s (SawOff t)) → (b ≡ true → (core.saw_rest s t ≡ true) × (core.on_rq t ≡ 0))
+    → PositionsHold (noted_if b (noted_if c core s (SawOff t)) s (SawRestOff t))
 saw_rest false c core s t p h = p
 saw_rest true false core s t p h =
     let o = h refl in
@@ -184,7 +188,8 @@ of_bits n = record { 0 = n }
 
 -- what the last change of a task off its queue was
 left_by : (core : Columns) (t : ℕ) → Holds core → core.changes t ≢ 0 → core.on_rq t ≡ 0
-    → (c : ℕ) × (IsSomewhere (history core.cpus core.tasks core.seats core.journal) (entry.Sleep t (core.changes t) c) ⊎ IsSomewhere (history core.cpus core.tasks core.seats core.journal) (entry.Die t (core.changes t) c))
+    → (c : ℕ) × (IsSomewhere (history core.cpus core.tasks core.seats core.journal) (entry.Sleep t (core.changes t) c)
+    ⊎ IsSomewhere (history core.cpus core.tasks core.seats core.journal) (entry.Die t (core.changes t) c))
 left_by core t holds started off =
     elim (cases_eq ((core.state t).0) 0x80) [
       | inl q ↦ let d = holds.journals.last_changes.ended t started off (ap of_bits q) in (d.0, inr d.1)
@@ -202,7 +207,8 @@ PositionsHold-load_rq core s t holds may =
     let read : PositionsHold (record core { last_reads = put_at core.last_reads s t r }) = assumption (
       p,
       CpusRead-same core.cpu core.lock core.last_reads s t r p.cpu refl,
-      ReadsTold-load_rq j core.cpu core.on_rq core.changes core.lock core.last_reads s t r p.reads refl refl (λ rq h. words rq h) (holds.journals.last_changes.queued t) (λ off some. left_by core t holds some off),
+      ReadsTold-load_rq j core.cpu core.on_rq core.changes core.lock core.last_reads s t r p.reads refl refl (λ rq h. words rq h) (holds.journals.last_changes.queued t)
+          (λ off some. left_by core t holds some off),
     ) in
     saw_rest ((on == 0) && core.saw_rest s t) ((on == 0) && core.is_unstored s t) (record core { last_reads = put_at core.last_reads s t r }) s t
     (saw ((on == 0) && core.is_unstored s t) (record core { last_reads = put_at core.last_reads s t r }) s t read (zero_test on (core.is_unstored s t)))

@@ -21,7 +21,8 @@ pub MadeRunnable-give : (state : ℕ → State) (on_rq : ℕ → ℕ) (lock curr
 MadeRunnable-give state on_rq lock current matched t p k u l h q other = p k u (lock_given lock t k u l) h q other
 
 -- its queue word is stored: it is taken off, or it isn't dead
-pub MadeRunnable-change : (state : ℕ → State) (on_rq : ℕ → ℕ) (lock current : ℕ → Option ℕ) (matched : ℕ → ℕ → Bool) (t v : ℕ) → MadeRunnableTasks state on_rq lock current matched → (v ≢ 1) ⊎ (state t ≢ dead)
+pub MadeRunnable-change : (state : ℕ → State) (on_rq : ℕ → ℕ) (lock current : ℕ → Option ℕ) (matched : ℕ → ℕ → Bool) (t v : ℕ) → MadeRunnableTasks state on_rq lock current matched
+    → (v ≢ 1) ⊎ (state t ≢ dead)
     → MadeRunnableTasks state (put on_rq t v) lock current matched
 MadeRunnable-change state on_rq lock current matched t v p by k u l h q other =
     elim (cases_eq u t) [

@@ -103,7 +103,8 @@ MatchedTasks-change state on_rq changes lock unstored saw_off s t v p by =
         ]
 
 -- its state is stored by the seat that has its lock, or while it is queued
-pub MatchedTasks-state : (state : ℕ → State) (on_rq changes : ℕ → ℕ) (lock : ℕ → Option ℕ) (unstored saw_off : ℕ → ℕ → Bool) (s t : ℕ) (x : State) → MatchedTasks state on_rq changes lock unstored saw_off
+pub MatchedTasks-state : (state : ℕ → State) (on_rq changes : ℕ → ℕ) (lock : ℕ → Option ℕ) (unstored saw_off : ℕ → ℕ → Bool) (s t : ℕ) (x : State)
+    → MatchedTasks state on_rq changes lock unstored saw_off
     → (lock t ≡ Some s) ⊎ ((on_rq t ≡ 1) × (x ≢ dead))
     → MatchedTasks (put state t x) on_rq changes lock (renew unstored s t) (renew saw_off s t)
 MatchedTasks-state state on_rq changes lock unstored saw_off s t x p by =

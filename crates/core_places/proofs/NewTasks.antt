@@ -52,7 +52,8 @@ NewStates-take tasks state changes lock stored s t p free =
       runnable = p.runnable;
     }
 
-pub NewStates-give : (tasks : ℕ) (state : ℕ → State) (changes : ℕ → ℕ) (lock : ℕ → Option ℕ) (stored : ℕ → ℕ → Bool) (t : ℕ) → NewStates tasks state changes lock stored → (changes t ≡ 0 → state t ≡ fresh)
+pub NewStates-give : (tasks : ℕ) (state : ℕ → State) (changes : ℕ → ℕ) (lock : ℕ → Option ℕ) (stored : ℕ → ℕ → Bool) (t : ℕ) → NewStates tasks state changes lock stored
+    → (changes t ≡ 0 → state t ≡ fresh)
     → NewStates tasks state changes (put lock t None) stored
 NewStates-give tasks state changes lock stored t p new =
     record {

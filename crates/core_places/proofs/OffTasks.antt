@@ -13,7 +13,8 @@ use Rattle.handoff_data.specs.declared.state.State.{State}
 abbrev IsOff : State → Option ℕ → (ℕ → Bool) → Type 0
 IsOff x l claimed = (is_sleep x ≡ true) ⊎ ((x ≡ dead) ⊎ ((x ≡ waking) × ((s : ℕ) × (l ≡ Some s) × (claimed s ≡ true))))
 
-off_keep : (x y : State) (l m : Option ℕ) (claimed next : ℕ → Bool) → IsOff x l claimed → y ≡ x → ((s : ℕ) → x ≡ waking → l ≡ Some s → claimed s ≡ true → (m ≡ Some s) × (next s ≡ true)) → IsOff y m next
+off_keep : (x y : State) (l m : Option ℕ) (claimed next : ℕ → Bool) → IsOff x l claimed → y ≡ x → ((s : ℕ) → x ≡ waking → l ≡ Some s → claimed s ≡ true → (m ≡ Some s) × (next s ≡ true))
+    → IsOff y m next
 off_keep x y l m claimed next (inl a) q k = inl (ap is_sleep q ∙ a)
 off_keep x y l m claimed next (inr (inl a)) q k = inr (inl (q ∙ a))
 off_keep x y l m claimed next (inr (inr w)) q k = let r = k w.1.0 w.0 w.1.1 w.1.2 in inr (inr (q ∙ w.0, (w.1.0, r.0, r.1)))
@@ -75,6 +76,7 @@ pub OffTasks-claim : (state : ℕ → State) (on_rq changes : ℕ → ℕ) (lock
 OffTasks-claim state on_rq changes lock claimed s t p locked u h e =
     elim (cases_eq u t) [
       | inl q ↦ inr (inr (put_here state t waking u q, (s, ap lock q ∙ locked, grind (arith, nat_tests, q))))
-      | inr q ↦ off_keep (state u) (put state t waking u) (lock u) (lock u) (λ k. claimed k u) (λ k. put claimed s (λ v. if v == t then true else claimed s v) k u) (p u h e) (put_there state t waking u q)
+      | inr q ↦ off_keep (state u) (put state t waking u) (lock u) (lock u) (λ k. claimed k u)
+          (λ k. put claimed s (λ v. if v == t then true else claimed s v) k u) (p u h e) (put_there state t waking u q)
           (λ k w l c. (l, grind (arith, nat_tests, c, q)))
     ]

@@ -11,9 +11,11 @@ use Rattle.core_kinds.specs.Running.{MayQueue, queue_task, MayDequeue, dequeue_t
 use Rattle.core_kinds.specs.Steps.{waking, running}
 use Rattle.core_kinds.specs.Waking.{MayClaim, claim, IsReadyToRun, MayMakeRunnable, make_runnable, MayLoad, load_cpu, load_count, MayStoreCpu, store_cpu, MayBump, bump}
 use Rattle.core_places.proofs.Facts.{idle_apart, ready_idle, ready_state, leaves, queued_started, claim_off, claim_started, move_idle, placeable_off}
-use Rattle.core_places.proofs.NewTasks.{on_rq-put, NewTasks-change, NewTasks-busy, NewTasks-clear, NewStates-take, NewStates-give, NewStates-stored, NewStates-change, NewStates-state, NewValues-take, NewValues-give, NewValues-change}
+use Rattle.core_places.proofs.NewTasks.{on_rq-put, NewTasks-change, NewTasks-busy, NewTasks-clear, NewStates-take, NewStates-give, NewStates-stored, NewStates-change, NewStates-state, NewValues-take}
+use Rattle.core_places.proofs.NewTasks.{NewValues-give, NewValues-change}
 use Rattle.core_places.proofs.OffTasks.{OffTasks-take, OffTasks-give, OffTasks-queue, OffTasks-move, OffTasks-leave, OffTasks-state, OffTasks-claim}
-use Rattle.core_places.proofs.Running.{CurrentTasks-queue, CurrentTasks-off, CurrentTasks-pick, CurrentTasks-state, WaitingTasks-take, WaitingTasks-queue, WaitingTasks-off, WaitingTasks-pick, WaitingTasks-state, WaitingTasks-cpu}
+use Rattle.core_places.proofs.Running.{CurrentTasks-queue, CurrentTasks-off, CurrentTasks-pick, CurrentTasks-state, WaitingTasks-take, WaitingTasks-queue, WaitingTasks-off, WaitingTasks-pick}
+use Rattle.core_places.proofs.Running.{WaitingTasks-state, WaitingTasks-cpu}
 use Rattle.core_places.proofs.Running.{MovingTasks-take, MovingTasks-give, MovingTasks-change, MovingTasks-move, MovingTasks-busy, MovingTasks-clear, MovingTasks-state}
 
 pub PlacesHold-take_task : (core : Columns) (s t : ℕ) → Holds core → MayTakeTask core s t → PlacesHold (take_task core s t)
@@ -145,7 +147,10 @@ pub PlacesHold-make_runnable : (core : Columns) (s t : ℕ) → Holds core → M
 PlacesHold-make_runnable core s t holds may =
     let p = holds.places in
     assumption (
-      NewStates-state core.tasks core.state core.changes core.lock core.has_stored s t running p.new_states (elim (made_runnable core s t holds may.ready) [ inl a ↦ inl a | inr a ↦ inr (a, inl refl) ]),
+      NewStates-state core.tasks core.state core.changes core.lock core.has_stored s t running p.new_states (elim (made_runnable core s t holds may.ready) [
+        | inl a ↦ inl a
+        | inr a ↦ inr (a, inl refl)
+      ]),
       OffTasks-state core.state core.on_rq core.changes core.lock core.is_claimed t running p.off (new_or_queued core s t may.ready),
       CurrentTasks-state core.state core.on_rq core.current_task t running p.current (inr (inl (inl refl))),
       WaitingTasks-state core.state core.on_rq core.cpu core.current_task core.queue_lock core.has_added t running p.waiting (inr (inr (inl refl))),

@@ -16,7 +16,8 @@ use Rattle.core_invariant.specs.Invariant.{Holds}
 use Rattle.core_invariant.specs.Places.{PlacesHold}
 use Rattle.core_kinds.specs.Locks.{unseen}
 use Rattle.core_kinds.specs.Steps.{dead, normal, is_match, is_sleep, IsRunnable, stored_word}
-use Rattle.core_kinds.specs.Waking.{MaySetState, set_state, IsSettable, slept_if, ran_if, MayLoadState, load_state, is_own_read, is_matched, is_refused, state_read, rq_read, busy_read, logged_if, noted_if, seen_if, MayLoad}
+use Rattle.core_kinds.specs.Waking.{MaySetState, set_state, IsSettable, slept_if, ran_if, MayLoadState, load_state, is_own_read, is_matched, is_refused, state_read, rq_read, busy_read, logged_if}
+use Rattle.core_kinds.specs.Waking.{noted_if, seen_if, MayLoad}
 use Rattle.core_kinds.specs.Waking.{load_rq, load_busy, MayBump, load_cond, test_by, tested_if}
 use Rattle.core_places.proofs.Facts.{queued_started}
 use Rattle.core_places.proofs.NewTasks.{NewStates-state}
@@ -154,7 +155,8 @@ given_up core s c queue true up holds may =
     assumption (
       p,
       CurrentTasks-less core.state core.on_rq core.current_task (put core.current_task s None) p.current (λ k u h. grind (arith, nat_tests, h)),
-      WaitingTasks-give core.state core.on_rq core.cpu core.current_task (put core.current_task s None) core.queue_lock core.has_added c queue p.waiting may.fits may.runnable.0 (λ u h. absurd (grind (arith, none, h)))
+      WaitingTasks-give core.state core.on_rq core.cpu core.current_task (put core.current_task s None) core.queue_lock core.has_added c queue p.waiting may.fits may.runnable.0
+          (λ u h. absurd (grind (arith, none, h)))
           (λ k u h. elim (cases_eq k s) [ inl q ↦ inr (holds.busy.runner.current_here k u h ∙ (q ∙ own)) | inr q ↦ inl (put_there core.current_task s None k q ∙ h) ]),
     )
   where

@@ -11,7 +11,8 @@ use Rattle.core_invariant.specs.Histories.{history}
 use Rattle.core_invariant.specs.Invariant.{Holds}
 use Rattle.core_invariant.specs.Positions.{PositionsHold, ReadsTold}
 use Rattle.core_kinds.specs.Locks.{MayTakeTask, take_task, MayGiveTask, give_task, MayTakeQueue, take_queue, MayTakeWait, take_wait, MayTakeWorks, take_works, MayGiveWorks, give_works}
-use Rattle.core_kinds.specs.Running.{MayQueue, queue_task, queue_entry, MayDequeue, dequeue_task, dequeue_entry, MayMove, move_task, MaySetBusy, set_busy, MayClearBusy, clear_busy, MayBodyOut, body_out, MayBodyHome, body_home}
+use Rattle.core_kinds.specs.Running.{MayQueue, queue_task, queue_entry, MayDequeue, dequeue_task, dequeue_entry, MayMove, move_task, MaySetBusy, set_busy, MayClearBusy, clear_busy, MayBodyOut}
+use Rattle.core_kinds.specs.Running.{body_out, MayBodyHome, body_home}
 use Rattle.core_kinds.specs.Steps.{waking, running, dead, kept_reads, numbered_reads}
 use Rattle.core_kinds.specs.Waking.{MayClaim, claim, IsReadyToRun, MayMakeRunnable, make_runnable, MayLoad, load_cpu, cpu_read, load_count, MayStoreCpu, store_cpu, MayBump, bump}
 use Rattle.core_places.proofs.Claimed.{ClaimedTasks-take, ClaimedTasks-give, ClaimedTasks-queue, ClaimedTasks-off, ClaimedTasks-busy, ClaimedTasks-clear, ClaimedTasks-state, ClaimedTasks-claim}

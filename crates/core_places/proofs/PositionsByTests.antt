@@ -98,7 +98,8 @@ PositionsHold-set_state core s t state holds may =
     ran _ _ s t (slept _ _ s t q)
 
 -- a task that its seat gives up while it is queued waits in that queue, so it may run
-left_alive : (core : Columns) (s c : ℕ) (queue : Queue) → gives_up s c queue ≡ true → Holds core → MayGiveQueue core s c queue → (u : ℕ) → core.current_task s ≡ Some u → core.on_rq u ≡ 1 → core.state u ≢ dead
+left_alive : (core : Columns) (s c : ℕ) (queue : Queue) → gives_up s c queue ≡ true → Holds core → MayGiveQueue core s c queue → (u : ℕ) → core.current_task s ≡ Some u → core.on_rq u ≡ 1
+    → core.state u ≢ dead
 left_alive core s c queue up holds may u current queued =
     by queue.cur refl
   where

@@ -29,13 +29,15 @@ forgets state on_rq on_cpu lock rest_state rest_off rest_idle next_state next_rq
           cpus k u l o (p.off k u (locks k u l o) (p.idle_after k u i)) (p.idle k u (locks k u l o) i);
     }
 
-pub RestingTasks-take : (state : ℕ → State) (on_rq : ℕ → ℕ) (on_cpu : ℕ → Bool) (lock : ℕ → Option ℕ) (rest_state rest_off rest_idle : ℕ → ℕ → Bool) (s t : ℕ) → RestingTasks state on_rq on_cpu lock rest_state rest_off rest_idle
+pub RestingTasks-take : (state : ℕ → State) (on_rq : ℕ → ℕ) (on_cpu : ℕ → Bool) (lock : ℕ → Option ℕ) (rest_state rest_off rest_idle : ℕ → ℕ → Bool) (s t : ℕ)
+    → RestingTasks state on_rq on_cpu lock rest_state rest_off rest_idle
     → RestingTasks state on_rq on_cpu (put lock t (Some s)) (renew rest_state s t) (renew rest_off s t) (renew rest_idle s t)
 RestingTasks-take state on_rq on_cpu lock rest_state rest_off rest_idle s t p =
     forgets state on_rq on_cpu lock rest_state rest_off rest_idle state on_rq on_cpu (put lock t (Some s)) s t p
     (λ k u l o. elim (lock_taken lock s t k u l) [ inl a ↦ a | inr a ↦ absurd (o a.1 a.0) ]) (λ k u l o h. h) (λ k u l o h. h) (λ k u l o h i. i)
 
-pub RestingTasks-give : (state : ℕ → State) (on_rq : ℕ → ℕ) (on_cpu : ℕ → Bool) (lock : ℕ → Option ℕ) (rest_state rest_off rest_idle : ℕ → ℕ → Bool) (t : ℕ) → RestingTasks state on_rq on_cpu lock rest_state rest_off rest_idle
+pub RestingTasks-give : (state : ℕ → State) (on_rq : ℕ → ℕ) (on_cpu : ℕ → Bool) (lock : ℕ → Option ℕ) (rest_state rest_off rest_idle : ℕ → ℕ → Bool) (t : ℕ)
+    → RestingTasks state on_rq on_cpu lock rest_state rest_off rest_idle
     → RestingTasks state on_rq on_cpu (put lock t None) rest_state rest_off rest_idle
 RestingTasks-give state on_rq on_cpu lock rest_state rest_off rest_idle t p =
     record {
@@ -47,13 +49,15 @@ RestingTasks-give state on_rq on_cpu lock rest_state rest_off rest_idle t p =
     }
 
 -- a seat stores another word of a task
-pub RestingTasks-stored : (state : ℕ → State) (on_rq : ℕ → ℕ) (on_cpu : ℕ → Bool) (lock : ℕ → Option ℕ) (rest_state rest_off rest_idle : ℕ → ℕ → Bool) (s t : ℕ) → RestingTasks state on_rq on_cpu lock rest_state rest_off rest_idle
+pub RestingTasks-stored : (state : ℕ → State) (on_rq : ℕ → ℕ) (on_cpu : ℕ → Bool) (lock : ℕ → Option ℕ) (rest_state rest_off rest_idle : ℕ → ℕ → Bool) (s t : ℕ)
+    → RestingTasks state on_rq on_cpu lock rest_state rest_off rest_idle
     → RestingTasks state on_rq on_cpu lock (renew rest_state s t) (renew rest_off s t) (renew rest_idle s t)
 RestingTasks-stored state on_rq on_cpu lock rest_state rest_off rest_idle s t p =
     forgets state on_rq on_cpu lock rest_state rest_off rest_idle state on_rq on_cpu lock s t p (λ k u l o. l) (λ k u l o h. h) (λ k u l o h. h) (λ k u l o h i. i)
 
 -- its `on_rq` word is stored by the seat that has its lock, or as 0
-pub RestingTasks-change : (state : ℕ → State) (on_rq : ℕ → ℕ) (on_cpu : ℕ → Bool) (lock : ℕ → Option ℕ) (rest_state rest_off rest_idle : ℕ → ℕ → Bool) (s t v : ℕ) → RestingTasks state on_rq on_cpu lock rest_state rest_off rest_idle
+pub RestingTasks-change : (state : ℕ → State) (on_rq : ℕ → ℕ) (on_cpu : ℕ → Bool) (lock : ℕ → Option ℕ) (rest_state rest_off rest_idle : ℕ → ℕ → Bool) (s t v : ℕ)
+    → RestingTasks state on_rq on_cpu lock rest_state rest_off rest_idle
     → (lock t ≡ Some s) ⊎ (v ≡ 0)
     → RestingTasks state (put on_rq t v) on_cpu lock (renew rest_state s t) (renew rest_off s t) (renew rest_idle s t)
 RestingTasks-change state on_rq on_cpu lock rest_state rest_off rest_idle s t v p by =
@@ -64,21 +68,24 @@ RestingTasks-change state on_rq on_cpu lock rest_state rest_off rest_idle s t v 
     ])
     (λ k u l o h i. i)
 
-pub RestingTasks-busy : (state : ℕ → State) (on_rq : ℕ → ℕ) (on_cpu : ℕ → Bool) (lock : ℕ → Option ℕ) (rest_state rest_off rest_idle : ℕ → ℕ → Bool) (s t : ℕ) → RestingTasks state on_rq on_cpu lock rest_state rest_off rest_idle
+pub RestingTasks-busy : (state : ℕ → State) (on_rq : ℕ → ℕ) (on_cpu : ℕ → Bool) (lock : ℕ → Option ℕ) (rest_state rest_off rest_idle : ℕ → ℕ → Bool) (s t : ℕ)
+    → RestingTasks state on_rq on_cpu lock rest_state rest_off rest_idle
     → on_rq t ≡ 1
     → RestingTasks state on_rq (put on_cpu t true) lock (renew rest_state s t) (renew rest_off s t) (renew rest_idle s t)
 RestingTasks-busy state on_rq on_cpu lock rest_state rest_off rest_idle s t p queued =
     forgets state on_rq on_cpu lock rest_state rest_off rest_idle state on_rq (put on_cpu t true) lock s t p (λ k u l o. l) (λ k u l o h. h) (λ k u l o h. h)
     (λ k u l o h i. grind (arith, nat_tests, h, i, queued))
 
-pub RestingTasks-clear : (state : ℕ → State) (on_rq : ℕ → ℕ) (on_cpu : ℕ → Bool) (lock : ℕ → Option ℕ) (rest_state rest_off rest_idle : ℕ → ℕ → Bool) (s t : ℕ) → RestingTasks state on_rq on_cpu lock rest_state rest_off rest_idle
+pub RestingTasks-clear : (state : ℕ → State) (on_rq : ℕ → ℕ) (on_cpu : ℕ → Bool) (lock : ℕ → Option ℕ) (rest_state rest_off rest_idle : ℕ → ℕ → Bool) (s t : ℕ)
+    → RestingTasks state on_rq on_cpu lock rest_state rest_off rest_idle
     → RestingTasks state on_rq (put on_cpu t false) lock (renew rest_state s t) (renew rest_off s t) (renew rest_idle s t)
 RestingTasks-clear state on_rq on_cpu lock rest_state rest_off rest_idle s t p =
     forgets state on_rq on_cpu lock rest_state rest_off rest_idle state on_rq (put on_cpu t false) lock s t p (λ k u l o. l) (λ k u l o h. h) (λ k u l o h. h)
     (λ k u l o h i. grind (arith, nat_tests, i))
 
 -- its state is stored by the seat that has its lock, or isn't TASK_WAKING
-pub RestingTasks-state : (state : ℕ → State) (on_rq : ℕ → ℕ) (on_cpu : ℕ → Bool) (lock : ℕ → Option ℕ) (rest_state rest_off rest_idle : ℕ → ℕ → Bool) (s t : ℕ) (x : State) → RestingTasks state on_rq on_cpu lock rest_state rest_off rest_idle
+pub RestingTasks-state : (state : ℕ → State) (on_rq : ℕ → ℕ) (on_cpu : ℕ → Bool) (lock : ℕ → Option ℕ) (rest_state rest_off rest_idle : ℕ → ℕ → Bool) (s t : ℕ) (x : State)
+    → RestingTasks state on_rq on_cpu lock rest_state rest_off rest_idle
     → (lock t ≡ Some s) ⊎ (x ≢ waking)
     → RestingTasks (put state t x) on_rq on_cpu lock (renew rest_state s t) (renew rest_off s t) (renew rest_idle s t)
 RestingTasks-state state on_rq on_cpu lock rest_state rest_off rest_idle s t x p by =
@@ -89,7 +96,8 @@ RestingTasks-state state on_rq on_cpu lock rest_state rest_off rest_idle s t x p
     ])
     (λ k u l o h. h) (λ k u l o h i. i)
 
-pub RestingTasks-state_read : (state : ℕ → State) (on_rq : ℕ → ℕ) (on_cpu : ℕ → Bool) (lock : ℕ → Option ℕ) (rest_state rest_off rest_idle : ℕ → ℕ → Bool) (s t : ℕ) → RestingTasks state on_rq on_cpu lock rest_state rest_off rest_idle
+pub RestingTasks-state_read : (state : ℕ → State) (on_rq : ℕ → ℕ) (on_cpu : ℕ → Bool) (lock : ℕ → Option ℕ) (rest_state rest_off rest_idle : ℕ → ℕ → Bool) (s t : ℕ)
+    → RestingTasks state on_rq on_cpu lock rest_state rest_off rest_idle
     → state t ≢ waking
     → RestingTasks state on_rq on_cpu lock (mark rest_state s t) rest_off rest_idle
 RestingTasks-state_read state on_rq on_cpu lock rest_state rest_off rest_idle s t p rests =
@@ -104,7 +112,8 @@ RestingTasks-state_read state on_rq on_cpu lock rest_state rest_off rest_idle s 
 known_at : (f : ℕ → ℕ → Bool) (s t k u : ℕ) → f s t ≡ true → k ≡ s → u ≡ t → f k u ≡ true
 known_at f s t k u h q r = ap (λ z. f z u) q ∙ (ap (f s) r ∙ h)
 
-pub RestingTasks-off_read : (state : ℕ → State) (on_rq : ℕ → ℕ) (on_cpu : ℕ → Bool) (lock : ℕ → Option ℕ) (rest_state rest_off rest_idle : ℕ → ℕ → Bool) (s t : ℕ) → RestingTasks state on_rq on_cpu lock rest_state rest_off rest_idle
+pub RestingTasks-off_read : (state : ℕ → State) (on_rq : ℕ → ℕ) (on_cpu : ℕ → Bool) (lock : ℕ → Option ℕ) (rest_state rest_off rest_idle : ℕ → ℕ → Bool) (s t : ℕ)
+    → RestingTasks state on_rq on_cpu lock rest_state rest_off rest_idle
     → rest_state s t ≡ true → on_rq t ≡ 0
     → RestingTasks state on_rq on_cpu lock rest_state (mark rest_off s t) rest_idle
 RestingTasks-off_read state on_rq on_cpu lock rest_state rest_off rest_idle s t p known off =
@@ -116,7 +125,8 @@ RestingTasks-off_read state on_rq on_cpu lock rest_state rest_off rest_idle s t 
       idle = p.idle;
     }
 
-pub RestingTasks-idle_read : (state : ℕ → State) (on_rq : ℕ → ℕ) (on_cpu : ℕ → Bool) (lock : ℕ → Option ℕ) (rest_state rest_off rest_idle : ℕ → ℕ → Bool) (s t : ℕ) → RestingTasks state on_rq on_cpu lock rest_state rest_off rest_idle
+pub RestingTasks-idle_read : (state : ℕ → State) (on_rq : ℕ → ℕ) (on_cpu : ℕ → Bool) (lock : ℕ → Option ℕ) (rest_state rest_off rest_idle : ℕ → ℕ → Bool) (s t : ℕ)
+    → RestingTasks state on_rq on_cpu lock rest_state rest_off rest_idle
     → rest_off s t ≡ true → on_cpu t ≡ false
     → RestingTasks state on_rq on_cpu lock rest_state rest_off (mark rest_idle s t)
 RestingTasks-idle_read state on_rq on_cpu lock rest_state rest_off rest_idle s t p known idle =

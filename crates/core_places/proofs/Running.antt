@@ -53,7 +53,8 @@ waiting_keep : (x y : State) (l m : Option ℕ) (added next : ℕ → Bool) → 
 waiting_keep x y l m added next (inl a) q k = inl (subst IsRunnable (sym q) a)
 waiting_keep x y l m added next (inr w) q k = let r = k w.1.0 w.1.1 w.1.2 in inr (q ∙ w.0, (w.1.0, r.0, r.1))
 
-pub WaitingTasks-take : (state : ℕ → State) (on_rq cpu : ℕ → ℕ) (current queue_lock : ℕ → Option ℕ) (added : ℕ → ℕ → ℕ → Bool) (s c : ℕ) → WaitingTasks state on_rq cpu current queue_lock added → queue_lock c ≡ None
+pub WaitingTasks-take : (state : ℕ → State) (on_rq cpu : ℕ → ℕ) (current queue_lock : ℕ → Option ℕ) (added : ℕ → ℕ → ℕ → Bool) (s c : ℕ) → WaitingTasks state on_rq cpu current queue_lock added
+    → queue_lock c ≡ None
     → WaitingTasks state on_rq cpu current (put queue_lock c (Some s)) (put added s (λ d u. if d == c then false else added s d u))
 WaitingTasks-take state on_rq cpu current queue_lock added s c p free u e idle =
     waiting_keep (state u) (state u) (queue_lock (cpu u)) (put queue_lock c (Some s) (cpu u)) (λ k. added k (cpu u) u) (λ k. put added s (λ d v. if d == c then false else added s d v) k (cpu u) u)
@@ -79,13 +80,15 @@ WaitingTasks-off state on_rq cpu current queue_lock added t v p off u e idle =
     let other : u ≢ t = λ q. off (sym (put_here on_rq t v u q) ∙ e) in
     p u (sym (put_there on_rq t v u other) ∙ e) idle
 
-pub WaitingTasks-pick : (state : ℕ → State) (on_rq cpu : ℕ → ℕ) (current queue_lock : ℕ → Option ℕ) (added : ℕ → ℕ → ℕ → Bool) (s t : ℕ) → WaitingTasks state on_rq cpu current queue_lock added → current s ≡ None
+pub WaitingTasks-pick : (state : ℕ → State) (on_rq cpu : ℕ → ℕ) (current queue_lock : ℕ → Option ℕ) (added : ℕ → ℕ → ℕ → Bool) (s t : ℕ) → WaitingTasks state on_rq cpu current queue_lock added
+    → current s ≡ None
     → WaitingTasks state on_rq cpu (put current s (Some t)) queue_lock added
 WaitingTasks-pick state on_rq cpu current queue_lock added s t p none u e idle =
     p u e (λ k h. let other : k ≢ s = λ q. grind (arith, none, h, q) in idle k (put_there current s (Some t) k other ∙ h))
 
 -- the state of a task is stored: of a current one, of one off its queue, or so that it may run
-pub WaitingTasks-state : (state : ℕ → State) (on_rq cpu : ℕ → ℕ) (current queue_lock : ℕ → Option ℕ) (added : ℕ → ℕ → ℕ → Bool) (t : ℕ) (x : State) → WaitingTasks state on_rq cpu current queue_lock added
+pub WaitingTasks-state : (state : ℕ → State) (on_rq cpu : ℕ → ℕ) (current queue_lock : ℕ → Option ℕ) (added : ℕ → ℕ → ℕ → Bool) (t : ℕ) (x : State)
+    → WaitingTasks state on_rq cpu current queue_lock added
     → ((s : ℕ) × (current s ≡ Some t)) ⊎ ((on_rq t ≢ 1) ⊎ IsRunnable x)
     → WaitingTasks (put state t x) on_rq cpu current queue_lock added
 WaitingTasks-state state on_rq cpu current queue_lock added t x p by u e idle =
@@ -94,11 +97,13 @@ WaitingTasks-state state on_rq cpu current queue_lock added t x p by u e idle =
         | inl k ↦ absurd (idle k.0 (k.1 ∙ ap Some (sym q)))
         | inr r ↦ elim r [ inl off ↦ absurd (off (ap on_rq (sym q) ∙ e)) | inr ready ↦ inl (subst IsRunnable (sym (put_here state t x u q)) ready) ]
       ]
-      | inr q ↦ waiting_keep (state u) (put state t x u) (queue_lock (cpu u)) (queue_lock (cpu u)) (λ k. added k (cpu u) u) (λ k. added k (cpu u) u) (p u e idle) (put_there state t x u q) (λ k l a. (l, a))
+      | inr q ↦ waiting_keep (state u) (put state t x u) (queue_lock (cpu u)) (queue_lock (cpu u)) (λ k. added k (cpu u) u) (λ k. added k (cpu u) u) (p u e idle) (put_there state t x u q)
+          (λ k l a. (l, a))
     ]
 
 -- the processor word of a task that isn't queued is stored
-pub WaitingTasks-cpu : (state : ℕ → State) (on_rq cpu : ℕ → ℕ) (current queue_lock : ℕ → Option ℕ) (added : ℕ → ℕ → ℕ → Bool) (t c : ℕ) → WaitingTasks state on_rq cpu current queue_lock added → on_rq t ≢ 1
+pub WaitingTasks-cpu : (state : ℕ → State) (on_rq cpu : ℕ → ℕ) (current queue_lock : ℕ → Option ℕ) (added : ℕ → ℕ → ℕ → Bool) (t c : ℕ) → WaitingTasks state on_rq cpu current queue_lock added
+    → on_rq t ≢ 1
     → WaitingTasks state on_rq (put cpu t c) current queue_lock added
 WaitingTasks-cpu state on_rq cpu current queue_lock added t c p off u e idle =
     let other : u ≢ t = λ q. off (ap on_rq (sym q) ∙ e) in
@@ -133,7 +138,8 @@ MovingTasks-change state on_rq on_cpu lock t v p other =
       locked = λ u e. p.locked u (grind (arith, nat_tests, e, other));
     }
 
-pub MovingTasks-move : (state : ℕ → State) (on_rq : ℕ → ℕ) (on_cpu : ℕ → Bool) (lock : ℕ → Option ℕ) (s t : ℕ) → MovingTasks state on_rq on_cpu lock → IsRunnable (state t) → on_cpu t ≡ false → lock t ≡ Some s
+pub MovingTasks-move : (state : ℕ → State) (on_rq : ℕ → ℕ) (on_cpu : ℕ → Bool) (lock : ℕ → Option ℕ) (s t : ℕ) → MovingTasks state on_rq on_cpu lock → IsRunnable (state t) → on_cpu t ≡ false
+    → lock t ≡ Some s
     → MovingTasks state (put on_rq t 2) on_cpu lock
 MovingTasks-move state on_rq on_cpu lock s t p ready idle locked =
     record {
@@ -169,7 +175,8 @@ pub CurrentTasks-less : (state : ℕ → State) (on_rq : ℕ → ℕ) (current n
 CurrentTasks-less state on_rq current next p less k u c e = p k u (less k u c) e
 
 -- a queue is given, and with it the current task of its seat may be given up
-pub WaitingTasks-give : (state : ℕ → State) (on_rq cpu : ℕ → ℕ) (current next queue_lock : ℕ → Option ℕ) (added : ℕ → ℕ → ℕ → Bool) (c : ℕ) (queue : Queue) → WaitingTasks state on_rq cpu current queue_lock added
+pub WaitingTasks-give : (state : ℕ → State) (on_rq cpu : ℕ → ℕ) (current next queue_lock : ℕ → Option ℕ) (added : ℕ → ℕ → ℕ → Bool) (c : ℕ) (queue : Queue)
+    → WaitingTasks state on_rq cpu current queue_lock added
     → IsQueueOf on_rq cpu c queue → ((u : ℕ) → times_in queue.waiting u ≢ 0 → IsRunnable (state u)) → ((u : ℕ) → queue.cur ≡ Some u → IsRunnable (state u) ⊎ ((k : ℕ) × (next k ≡ Some u)))
     → ((k u : ℕ) → current k ≡ Some u → (next k ≡ Some u) ⊎ (cpu u ≡ c))
     → WaitingTasks state on_rq cpu next (put queue_lock c None) added
@@ -184,6 +191,7 @@ WaitingTasks-give state on_rq cpu current next queue_lock added c queue p fits w
     is_cur None h = absurd (grind (arith, h))
     is_cur (Some j) h = grind (arith, nat_tests, h)
 
-    stands : (b : Bool) → is_some_of queue.cur u ≡ b → times queue u ≡ 1 → IsRunnable (state u) ⊎ ((state u ≡ waking) × ((k : ℕ) × (put queue_lock c None (cpu u) ≡ Some k) × (added k (cpu u) u ≡ true)))
+    stands : (b : Bool) → is_some_of queue.cur u ≡ b → times queue u ≡ 1 → IsRunnable (state u)
+        ⊎ ((state u ≡ waking) × ((k : ℕ) × (put queue_lock c None (cpu u) ≡ Some k) × (added k (cpu u) u ≡ true)))
     stands true h once = elim (chosen u (is_cur queue.cur h)) [ inl a ↦ inl a | inr k ↦ absurd (idle k.0 k.1) ]
     stands false h once = inl (waiting u (λ z. grind (arith, nat_tests, once, h, z)))

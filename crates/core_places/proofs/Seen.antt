@@ -8,7 +8,8 @@ use Rattle.core_invariant.proofs.Puts.{put_here, put_there}
 use Rattle.core_invariant.specs.Positions.{SeenStates}
 use Rattle.handoff_data.specs.declared.state.State.{State}
 
-pub SeenStates-take : (cpus : ℕ) (state : ℕ → State) (on_rq : ℕ → ℕ) (queue_lock current : ℕ → Option ℕ) (seen : ℕ → Option State) (s c : ℕ) → SeenStates cpus state on_rq queue_lock current seen → queue_lock c ≡ None
+pub SeenStates-take : (cpus : ℕ) (state : ℕ → State) (on_rq : ℕ → ℕ) (queue_lock current : ℕ → Option ℕ) (seen : ℕ → Option State) (s c : ℕ) → SeenStates cpus state on_rq queue_lock current seen
+    → queue_lock c ≡ None
     → SeenStates cpus state on_rq (put queue_lock c (Some s)) current (if s == c then put seen s None else seen)
 SeenStates-take cpus state on_rq queue_lock current seen s c p free =
     record {
@@ -17,7 +18,8 @@ SeenStates-take cpus state on_rq queue_lock current seen s c p free =
     }
 
 -- a queue is given, and with it the current task of its seat may be given up
-pub SeenStates-give : (cpus : ℕ) (state : ℕ → State) (on_rq : ℕ → ℕ) (queue_lock current next : ℕ → Option ℕ) (seen : ℕ → Option State) (s c : ℕ) → SeenStates cpus state on_rq queue_lock current seen → queue_lock c ≡ Some s
+pub SeenStates-give : (cpus : ℕ) (state : ℕ → State) (on_rq : ℕ → ℕ) (queue_lock current next : ℕ → Option ℕ) (seen : ℕ → Option State) (s c : ℕ) → SeenStates cpus state on_rq queue_lock current seen
+    → queue_lock c ≡ Some s
     → ((k u : ℕ) → next k ≡ Some u → current k ≡ Some u)
     → SeenStates cpus state on_rq (put queue_lock c None) next (if s == c then put seen s None else seen)
 SeenStates-give cpus state on_rq queue_lock current next seen s c p locked less =
@@ -27,12 +29,14 @@ SeenStates-give cpus state on_rq queue_lock current next seen s c p locked less 
     }
 
 -- a task that no seat has as current is queued
-pub SeenStates-queue : (cpus : ℕ) (state : ℕ → State) (on_rq : ℕ → ℕ) (queue_lock current : ℕ → Option ℕ) (seen : ℕ → Option State) (t : ℕ) → SeenStates cpus state on_rq queue_lock current seen → ((k : ℕ) → current k ≢ Some t)
+pub SeenStates-queue : (cpus : ℕ) (state : ℕ → State) (on_rq : ℕ → ℕ) (queue_lock current : ℕ → Option ℕ) (seen : ℕ → Option State) (t : ℕ) → SeenStates cpus state on_rq queue_lock current seen
+    → ((k : ℕ) → current k ≢ Some t)
     → SeenStates cpus state (put on_rq t 1) queue_lock current seen
 SeenStates-queue cpus state on_rq queue_lock current seen t p idle =
     record { locked = p.locked; is = λ k u x h o e. p.is k u x h (sym (put_there on_rq t 1 u (λ q. idle k (h ∙ ap Some q))) ∙ o) e }
 
-pub SeenStates-off : (cpus : ℕ) (state : ℕ → State) (on_rq : ℕ → ℕ) (queue_lock current : ℕ → Option ℕ) (seen : ℕ → Option State) (t v : ℕ) → SeenStates cpus state on_rq queue_lock current seen → v ≢ 1
+pub SeenStates-off : (cpus : ℕ) (state : ℕ → State) (on_rq : ℕ → ℕ) (queue_lock current : ℕ → Option ℕ) (seen : ℕ → Option State) (t v : ℕ) → SeenStates cpus state on_rq queue_lock current seen
+    → v ≢ 1
     → SeenStates cpus state (put on_rq t v) queue_lock current seen
 SeenStates-off cpus state on_rq queue_lock current seen t v p off =
     record { locked = p.locked; is = λ k u x h o e. p.is k u x h (grind (arith, nat_tests, o, off)) e }
@@ -46,7 +50,8 @@ SeenStates-pick cpus state on_rq queue_lock current seen s t p =
     }
 
 -- the state of a task is stored by the seat that has it as current
-pub SeenStates-own : (cpus : ℕ) (state : ℕ → State) (on_rq : ℕ → ℕ) (queue_lock current : ℕ → Option ℕ) (seen : ℕ → Option State) (s t : ℕ) (new : State) → SeenStates cpus state on_rq queue_lock current seen
+pub SeenStates-own : (cpus : ℕ) (state : ℕ → State) (on_rq : ℕ → ℕ) (queue_lock current : ℕ → Option ℕ) (seen : ℕ → Option State) (s t : ℕ) (new : State)
+    → SeenStates cpus state on_rq queue_lock current seen
     → ((k : ℕ) → current k ≡ Some t → k ≡ s)
     → SeenStates cpus (put state t new) on_rq queue_lock current (put seen s None)
 SeenStates-own cpus state on_rq queue_lock current seen s t new p own =
@@ -56,7 +61,8 @@ SeenStates-own cpus state on_rq queue_lock current seen s t new p own =
     }
 
 -- .. or that no seat has as current, with its own queue locked
-pub SeenStates-state : (cpus : ℕ) (state : ℕ → State) (on_rq : ℕ → ℕ) (queue_lock current : ℕ → Option ℕ) (seen : ℕ → Option State) (t : ℕ) (new : State) → SeenStates cpus state on_rq queue_lock current seen
+pub SeenStates-state : (cpus : ℕ) (state : ℕ → State) (on_rq : ℕ → ℕ) (queue_lock current : ℕ → Option ℕ) (seen : ℕ → Option State) (t : ℕ) (new : State)
+    → SeenStates cpus state on_rq queue_lock current seen
     → ((k : ℕ) → current k ≡ Some t → on_rq t ≡ 1 → queue_lock k ≡ Some k → ⊥)
     → SeenStates cpus (put state t new) on_rq queue_lock current seen
 SeenStates-state cpus state on_rq queue_lock current seen t new p apart =
@@ -65,7 +71,8 @@ SeenStates-state cpus state on_rq queue_lock current seen t new p apart =
       is = λ k u x h o e. put_there state t new u (λ q. apart k (h ∙ ap Some q) (ap on_rq (sym q) ∙ o) (p.locked k x e)) ∙ p.is k u x h o e;
     }
 
-pub SeenStates-load : (cpus : ℕ) (state : ℕ → State) (on_rq : ℕ → ℕ) (queue_lock current : ℕ → Option ℕ) (seen : ℕ → Option State) (s t : ℕ) (x : State) → SeenStates cpus state on_rq queue_lock current seen
+pub SeenStates-load : (cpus : ℕ) (state : ℕ → State) (on_rq : ℕ → ℕ) (queue_lock current : ℕ → Option ℕ) (seen : ℕ → Option State) (s t : ℕ) (x : State)
+    → SeenStates cpus state on_rq queue_lock current seen
     → current s ≡ Some t → queue_lock s ≡ Some s → state t ≡ x
     → SeenStates cpus state on_rq queue_lock current (put seen s (Some x))
 SeenStates-load cpus state on_rq queue_lock current seen s t x p own locked read =

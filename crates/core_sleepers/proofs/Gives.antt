@@ -18,7 +18,8 @@ use Rattle.core_sleepers.proofs.Safe.{safe-by}
 use Rattle.core_sleepers.proofs.Takes.{home-put, out-put}
 
 -- the seat whose wait queue is out holds its lock
-out_lock : {A : Type 0} (count seats : ℕ) (lock : ℕ → Option ℕ) (home : ℕ → Option A) (out : ℕ → ℕ → Option A) (s k : ℕ) (v : A) → IsGuarded A count seats lock home out → out s k ≡ Some v → lock k ≡ Some s
+out_lock : {A : Type 0} (count seats : ℕ) (lock : ℕ → Option ℕ) (home : ℕ → Option A) (out : ℕ → ℕ → Option A) (s k : ℕ) (v : A) → IsGuarded A count seats lock home out → out s k ≡ Some v
+    → lock k ≡ Some s
 out_lock count seats lock home out s k v g h = g.out_held s k (ap is_some h)
 
 -- .. which is one seat
@@ -176,7 +177,8 @@ given_taken core s k given taken holds may out true walk =
 three_true : (a b c : Bool) → (a && (b && c)) ≡ true → (b ≡ true) × (c ≡ true)
 three_true a b c h = (grind (arith, h), grind (arith, h))
 
-given_by : (core : Columns) (s k : ℕ) (given : List WaitEntry) → Holds core → MayGiveWait core s k given → (o : Option (List WaitEntry)) → core.wait_held s k ≡ o → SleepersHold (give_by core s k given o)
+given_by : (core : Columns) (s k : ℕ) (given : List WaitEntry) → Holds core → MayGiveWait core s k given → (o : Option (List WaitEntry)) → core.wait_held s k ≡ o
+    → SleepersHold (give_by core s k given o)
 given_by core s k given holds may None out = holds.sleepers
 given_by core s k given holds may (Some taken) out =
     given_taken core s k given taken holds may out (core.owes_walk s k && (core.has_retaken s k && is_walk (core.has_passed s k) taken))

@@ -85,7 +85,8 @@ hold-passes core s t h safe awake =
       safe_out = λ x k u taken w e. safe-passing core.state core.cpu core.cond core.tested core.owes_walk core.has_retaken core.has_passed s t k u (safe k) (h.safe_out x k u taken w e);
       safe_passed = λ x k u w p. elim (cases_eq u t) [
         | inl e ↦ safe-here core.state core.cpu core.cond core.tested t k u e (safe k)
-        | inr e ↦ safe-passing core.state core.cpu core.cond core.tested core.owes_walk core.has_retaken core.has_passed s t k u (safe k) (h.safe_passed x k u w (sym (passing-other core.has_passed s t x k u e) ∙ p))
+        | inr e ↦ safe-passing core.state core.cpu core.cond core.tested core.owes_walk core.has_retaken core.has_passed s t k u (safe k)
+            (h.safe_passed x k u w (sym (passing-other core.has_passed s t x k u e) ∙ p))
       ];
       safe_stored = λ x k u w c o. beside-passing core.state core.cpu core.cond core.tested core.owes_walk core.has_retaken core.has_passed s t x k u (safe k) (h.safe_stored x k u w c o);
       entry_home = h.entry_home;
@@ -105,7 +106,8 @@ storing-other own_stored s t x k u h = grind (arith, nat_tests, h)
 pub hold-stores : (core : Columns) (s t : ℕ) → SleepersHold core → ((k : ℕ) → IsAwake (core.state t) ⊎ (core.tested (core.cpu t) t k ≡ None))
     → SleepersHold (noted core s (OwnStored t))
 hold-stores core s t h safe =
-    let stored : (x k u : ℕ) → core.wait_lock k ≡ Some x → core.current_task x ≡ Some u → put core.has_own_stored s (λ l v. if v == t then true else core.has_own_stored s l v) x k u ≡ true → IsSafeBeside core x k u
+    let stored : (x k u : ℕ) → core.wait_lock k ≡ Some x → core.current_task x ≡ Some u → put core.has_own_stored s (λ l v. if v == t then true else core.has_own_stored s l v) x k u ≡ true
+    → IsSafeBeside core x k u
     = λ x k u w c o. elim (cases_eq u t) [
       | inl e ↦ safe-here core.state core.cpu core.cond core.tested t k u e (safe k)
       | inr e ↦ h.safe_stored x k u w c (sym (storing-other core.has_own_stored s t x k u e) ∙ o)

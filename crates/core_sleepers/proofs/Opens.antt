@@ -23,7 +23,8 @@ column-same f d (suc n) x (suc k) = column-same f d n x k
 column-blank : {A B : Type 0} (f : A → B) (d : B) (n : ℕ) (x : A) (k : ℕ) → f x ≡ d → column f d (replicate n x) k ≡ d
 column-blank f d n x k h = elim (column-same f d n x k) [ inl e ↦ e ∙ h | inr e ↦ e ]
 
-opened : (shape : Shape) (mask : CpuMask) → SleepersHold (columns_of shape (replicate shape.tasks (first_task mask)) (replicate shape.cpus first_cpu) (replicate shape.conds first_cond) (replicate (shape.cpus + shape.agents) first_seat))
+opened : (shape : Shape) (mask : CpuMask)
+    → SleepersHold (columns_of shape (replicate shape.tasks (first_task mask)) (replicate shape.cpus first_cpu) (replicate shape.conds first_cond) (replicate (shape.cpus + shape.agents) first_seat))
 opened shape mask =
     let seats = shape.cpus + shape.agents in
     let home : (k : ℕ) (v : List WaitEntry) → column (λ (w : CondWords). w.wait) None (replicate shape.conds first_cond) k ≡ Some v → v ≡ []

@@ -13,7 +13,8 @@ abbrev pub IsSafeOr : Type 0 → (ℕ → State) → (ℕ → ℕ) → (ℕ → 
 IsSafeOr O state cpu cond test k t = IsAwake (state t) ⊎ (IsTestRight cpu cond test k t ⊎ O)
 
 -- t is safe whatever is owed
-pub safe-here : {O : Type 0} (state : ℕ → State) (cpu cond : ℕ → ℕ) (test : ℕ → ℕ → ℕ → Option ℕ) (t k u : ℕ) → u ≡ t → IsAwake (state t) ⊎ (test (cpu t) t k ≡ None) → IsSafeOr O state cpu cond test k u
+pub safe-here : {O : Type 0} (state : ℕ → State) (cpu cond : ℕ → ℕ) (test : ℕ → ℕ → ℕ → Option ℕ) (t k u : ℕ) → u ≡ t → IsAwake (state t) ⊎ (test (cpu t) t k ≡ None)
+    → IsSafeOr O state cpu cond test k u
 safe-here state cpu cond test t k u e n =
     elim n [
       | inl a ↦ inl (subst (λ x. IsAwake (state x)) (sym e) a)
@@ -78,7 +79,8 @@ tested-at test cond s t l x u k = grind (arith, nat_tests)
 pub tested-other : (test : ℕ → ℕ → ℕ → Option ℕ) (cond : ℕ → ℕ) (s t l x u k : ℕ) → (x ≡ s → u ≡ t → ⊥) → tested test cond s t l x u k ≡ test x u k
 tested-other test cond s t l x u k h = grind (arith, nat_tests, h)
 
-pub safe-tested : {O : Type 0} (state : ℕ → State) (cpu cond : ℕ → ℕ) (test : ℕ → ℕ → ℕ → Option ℕ) (s t l k u : ℕ) → IsSafeOr O state cpu cond test k u → IsSafeOr O state cpu cond (tested test cond s t l) k u
+pub safe-tested : {O : Type 0} (state : ℕ → State) (cpu cond : ℕ → ℕ) (test : ℕ → ℕ → ℕ → Option ℕ) (s t l k u : ℕ) → IsSafeOr O state cpu cond test k u
+    → IsSafeOr O state cpu cond (tested test cond s t l) k u
 safe-tested state cpu cond test s t l k u h =
     elim h [
       | inl a ↦ inl a
@@ -100,7 +102,8 @@ passing-other passed s t x k u h = grind (arith, nat_tests, h)
 
 -- a task that is safe whatever is owed may be passed
 pub safe-passing : (state : ℕ → State) (cpu cond : ℕ → ℕ) (test : ℕ → ℕ → ℕ → Option ℕ) (owes retaken : ℕ → ℕ → Bool) (passed : ℕ → ℕ → ℕ → Bool) (s t k u : ℕ)
-    → IsAwake (state t) ⊎ (test (cpu t) t k ≡ None) → IsSafeOr (IsOwed owes retaken passed k u) state cpu cond test k u → IsSafeOr (IsOwed owes retaken (passing passed s t) k u) state cpu cond test k u
+    → IsAwake (state t) ⊎ (test (cpu t) t k ≡ None) → IsSafeOr (IsOwed owes retaken passed k u) state cpu cond test k u
+    → IsSafeOr (IsOwed owes retaken (passing passed s t) k u) state cpu cond test k u
 safe-passing state cpu cond test owes retaken passed s t k u n h =
     elim (cases_eq u t) [
       | inl e ↦ safe-here state cpu cond test t k u e n
@@ -108,7 +111,8 @@ safe-passing state cpu cond test owes retaken passed s t k u n h =
     ]
 
 pub beside-passing : (state : ℕ → State) (cpu cond : ℕ → ℕ) (test : ℕ → ℕ → ℕ → Option ℕ) (owes retaken : ℕ → ℕ → Bool) (passed : ℕ → ℕ → ℕ → Bool) (s t y k u : ℕ)
-    → IsAwake (state t) ⊎ (test (cpu t) t k ≡ None) → IsSafeOr (IsOwedBeside owes retaken passed y k u) state cpu cond test k u → IsSafeOr (IsOwedBeside owes retaken (passing passed s t) y k u) state cpu cond test k u
+    → IsAwake (state t) ⊎ (test (cpu t) t k ≡ None) → IsSafeOr (IsOwedBeside owes retaken passed y k u) state cpu cond test k u
+    → IsSafeOr (IsOwedBeside owes retaken (passing passed s t) y k u) state cpu cond test k u
 beside-passing state cpu cond test owes retaken passed s t y k u n h =
     elim (cases_eq u t) [
       | inl e ↦ safe-here state cpu cond test t k u e n

@@ -50,7 +50,8 @@ sleep-no_fresh : (x : State) → is_sleep x ≡ true → x ≢ fresh
 sleep-no_fresh x h e = (let f = ap (λ y. is_sleep y) e in grind (arith, h, f))
 
 -- a sleep state: the tests and sleeps of earlier are forgotten
-slept_stored : (core : Columns) (s t : ℕ) (new : State) → SleepersHold core → core.cpu t ≡ s → is_sleep new ≡ true → SleepersHold (noted (noted (states (forgets core s t) t new) s (OwnStored t)) s (Slept t))
+slept_stored : (core : Columns) (s t : ℕ) (new : State) → SleepersHold core → core.cpu t ≡ s → is_sleep new ≡ true
+    → SleepersHold (noted (noted (states (forgets core s t) t new) s (OwnStored t)) s (Slept t))
 slept_stored core s t new h here sleep =
     let is = put_here core.state t new t refl in
     let none : (k : ℕ) → (forgets core s t).tested (core.cpu t) t k ≡ None = λ k. grind (arith, nat_tests, here) in
@@ -85,6 +86,7 @@ SleepersHold-set_busy core s c t val holds may =
 pub SleepersHold-give_queue : (core : Columns) (s c : ℕ) (queue : Queue) → Holds core → MayGiveQueue core s c queue → SleepersHold (give_queue core s c queue)
 SleepersHold-give_queue core s c queue holds may = by (gives_up s c queue)
   where
-    by : (b : Bool) → SleepersHold (unseen (give_up_if b (record core { queue_lock = put core.queue_lock c None; queue = put core.queue c (Some queue); queue_held = put_at core.queue_held s c None }) s) s c)
+    by : (b : Bool)
+        → SleepersHold (unseen (give_up_if b (record core { queue_lock = put core.queue_lock c None; queue = put core.queue c (Some queue); queue_held = put_at core.queue_held s c None }) s) s c)
     by true = assumption (hold-no_current core s holds.sleepers)
     by false = assumption (holds.sleepers)

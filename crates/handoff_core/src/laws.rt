@@ -4,7 +4,8 @@
 ghost use Rattle.core_data.specs.Columns.{Columns};
 ghost use Rattle.core_invariant.specs.Invariant.{Holds};
 ghost use Rattle.core_journals.specs.Places.{OneMoveOrNone};
-ghost use Rattle.core_law.specs.Laws.{OneRunAtATime, StandsOnce, WakesQueueAtMostOnce, NoLostWake, HasSleeperToWake, SleepersWait, SleepsOnItsProcessor, journals_of};
+ghost use Rattle.core_law.specs.Laws.{OneRunAtATime, StandsOnce, WakesQueueAtMostOnce, NoLostWake, HasSleeperToWake};
+ghost use Rattle.core_law.specs.Laws.{SleepersWait, SleepsOnItsProcessor, journals_of};
 ghost use Rattle.core_law.specs.Reached.{IsReached, IsOpening};
 ghost use Rattle.core_law.specs.Steps.{Step};
 ghost use Rattle.core_law.specs.declared.event.Event.{Event};
@@ -19,7 +20,8 @@ pub fn opening_core_holds()
 /// Each possible event leads from a core that meets the invariant to one that does, and is one move of one task by
 /// the table of moves, with its entry in the seat's journal, or moves no task.
 pub fn each_step_keeps_the_invariant()
-    ensures { (core : Columns) (event : Event) (next : Columns) → Holds core → Step core event next → Holds next × OneMoveOrNone event.seat core next }
+    ensures { (core : Columns) (event : Event) (next : Columns) → Holds core → Step core event next
+        → Holds next × OneMoveOrNone event.seat core next }
 {}
 
 /// No task is current at two seats; and over all journals the picks and finishes of a task alternate by their
@@ -47,8 +49,8 @@ pub fn no_lost_wake()
     ensures { (core : Columns) → IsReached core → NoLostWake core }
 {}
 
-/// The law on lost wakes speaks of something: a machine can come to a core with a sleeper off its queue whose test isn't
-/// the condition's value.
+/// The law on lost wakes speaks of something: a machine can come to a core with a sleeper off its queue whose test
+/// isn't the condition's value.
 pub fn a_sleeper_can_be_owed()
     ensures { (core : Columns) × IsReached core × HasSleeperToWake core }
 {}

@@ -128,7 +128,8 @@ fn happen(core: &mut Core, event: &Event) -> Result<(), NoMemory>
 /// The core after an event, or none where the event isn't possible in this core. Answers `NoMemory` where memory runs
 /// out.
 pub fn step_core(core: &Core, event: &Event) -> Result<Option<Core>, NoMemory>
-    ensures { IfOk result (λ o. MatchOption o (May (columns core.now) event.now.seat event.now.step → ⊥) (λ next. Step (columns core.now) event.now (columns next))) }
+    ensures { IfOk result (λ o. MatchOption o (May (columns core.now) event.now.seat event.now.step → ⊥)
+        (λ next. Step (columns core.now) event.now (columns next))) }
 {
     if !may_happen(core, event) {
         return Ok(None);
@@ -150,9 +151,11 @@ pub struct CoreRun {
 pub fn law_run(mut core: Core, events: &[Event]) -> Result<CoreRun, NoMemory>
     ensures ran { IfOk result (λ run. Ran (columns core) (take run.taken events.now) (columns run.core)) }
     ensures within { IfOk result (λ run. run.taken ≤ length events.now) }
-    ensures stops { IfOk result (λ run. (e : Event) → slice_get events.now run.taken ≡ Some e → May (columns run.core) e.seat e.step → ⊥) }
+    ensures stops { IfOk result (λ run. (e : Event) → slice_get events.now run.taken ≡ Some e
+        → May (columns run.core) e.seat e.step → ⊥) }
     ensures kept { IfOk result (λ run. Holds (columns core) → Holds (columns run.core)) }
-    ensures kept_after_each { IfOk result (λ run. Holds (columns core) → (n : ℕ) → n ≤ run.taken → (mid : Columns) × Ran (columns core) (take n events.now) mid × Holds mid) }
+    ensures kept_after_each { IfOk result (λ run. Holds (columns core) → (n : ℕ) → n ≤ run.taken → (mid : Columns)
+        × Ran (columns core) (take n events.now) mid × Holds mid) }
     ensures moves { IfOk result (λ run. Holds (columns core) → EachMoves (columns core) (take run.taken events.now)) }
 {
     let mut taken = 0;

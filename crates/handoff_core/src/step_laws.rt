@@ -3,29 +3,34 @@
 
 ghost use Rattle.core_data.specs.Columns.{Columns};
 ghost use Rattle.core_invariant.specs.Invariant.{Holds};
-ghost use Rattle.core_law.specs.StepLaws.{KeepsTests, KeepsTheDead, StoresItsStates, EndsReads, SleepsAreKept, PassesAreKept, RefusalsAreTold, LoadsTell, GivesKeep, StepsAsk, WordsMean};
+ghost use Rattle.core_law.specs.StepLaws.{KeepsTests, KeepsTheDead, StoresItsStates, EndsReads, SleepsAreKept};
+ghost use Rattle.core_law.specs.StepLaws.{PassesAreKept, RefusalsAreTold, LoadsTell, GivesKeep, StepsAsk, WordsMean};
 ghost use Rattle.core_law.specs.Steps.{Step};
 ghost use Rattle.core_law.specs.declared.event.Event.{Event};
 
 /// No step of another seat changes the state of a dead task: no wake-up is stored over a death.
 pub fn no_step_wakes_the_dead()
-    ensures { (core : Columns) (event : Event) (next : Columns) → Holds core → Step core event next → KeepsTheDead event.seat core next }
+    ensures { (core : Columns) (event : Event) (next : Columns) → Holds core → Step core event next
+        → KeepsTheDead event.seat core next }
 {}
 
 /// A seat stores the state of its current task, of one whose lock it has, and of one that it queued under the lock of
 /// its queue while it still has that lock; of no other.
 pub fn each_seat_stores_its_states()
-    ensures { (core : Columns) (event : Event) (next : Columns) → Step core event next → StoresItsStates event.seat core next }
+    ensures { (core : Columns) (event : Event) (next : Columns) → Step core event next
+        → StoresItsStates event.seat core next }
 {}
 
 /// A seat that changes a word of a task has no read of its state, queue word and busy word any more.
 pub fn each_store_ends_reads()
-    ensures { (core : Columns) (event : Event) (next : Columns) → Step core event next → EndsReads event.seat core next }
+    ensures { (core : Columns) (event : Event) (next : Columns) → Step core event next
+        → EndsReads event.seat core next }
 {}
 
 /// What a seat has as tests changes only by its own steps, and only as to its current task: a sleeper's test stays.
 pub fn each_test_stays()
-    ensures { (core : Columns) (event : Event) (next : Columns) → Step core event next → KeepsTests event.seat core next }
+    ensures { (core : Columns) (event : Event) (next : Columns) → Step core event next
+        → KeepsTests event.seat core next }
 {}
 
 /// What a sleeper stored and tested, and where it was put to sleep, is kept for the laws on wakes.
@@ -60,7 +65,8 @@ pub fn steps_ask()
     ensures { (core : Columns) → StepsAsk core }
 {}
 
-/// The sleep states are TASK_INTERRUPTIBLE and TASK_UNINTERRUPTIBLE, and numbers may rise as long as they are below 2^60.
+/// The sleep states are TASK_INTERRUPTIBLE and TASK_UNINTERRUPTIBLE, and numbers may rise as long as they are below
+/// 2^60.
 pub fn words_mean()
     ensures { WordsMean }
 {}

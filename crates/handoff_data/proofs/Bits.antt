@@ -4,7 +4,8 @@ use Rattle.std.specs.Int.{bit_at, trailing_zeros, w128}
 use Rattle.std.proofs.lemmas.Bool.{cases_eq, cases_lt}
 use Rattle.std.proofs.Math.Pow.{pow-lt}
 use Rattle.std.proofs.Math.Nat.{mod-eq_of_lt}
-use Rattle.std.proofs.lemmas.Nat.Bits.{bit_at_and, bit_at_or, bit_at-pow_same, bit_at-pow_other, bit_at_ones, bit_at_ones_above, bit_at-trailing_zeros, bit_at-lt, bit_at_above, bit_at-zero, same_from_bits}
+use Rattle.std.proofs.lemmas.Nat.Bits.{bit_at_and, bit_at_or, bit_at-pow_same, bit_at-pow_other, bit_at_ones, bit_at_ones_above, bit_at-trailing_zeros, bit_at-lt, bit_at_above, bit_at-zero}
+use Rattle.std.proofs.lemmas.Nat.Bits.{same_from_bits}
 use Rattle.handoff_data.specs.Mask.{HasCpu}
 use Rattle.handoff_data.specs.declared.mask.CpuMask.{CpuMask}
 
@@ -45,7 +46,8 @@ bits_with a c k small =
 
 -- no bit
 pub none_zero : (a : ℕ) → ((k : ℕ) → bit_at a k ≡ 1 → ⊥) → a ≡ 0
-none_zero a none = same_from_bits a 0 (λ k. let lt : bit_at a k < 2 = bit_at-lt a k in let z : bit_at 0 k ≡ 0 = bit_at-zero k in elim (cases_eq (bit_at a k) 1) [ inl one ↦ absurd (none k one) | inr other ↦ omega arith ])
+none_zero a none = same_from_bits a 0 (λ k. let lt : bit_at a k < 2 = bit_at-lt a k in let z : bit_at 0 k ≡ 0 = bit_at-zero k in
+    elim (cases_eq (bit_at a k) 1) [ inl one ↦ absurd (none k one) | inr other ↦ omega arith ])
 
 -- two masks with the same processors are one
 pub same_members : (a b : CpuMask) → ((c : ℕ) → HasCpu a c ↔ HasCpu b c) → a ≡ b

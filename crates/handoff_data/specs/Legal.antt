@@ -5,7 +5,8 @@ use Rattle.handoff_data.specs.declared.entry.Entry.TheVariants as entry
 use Rattle.handoff_data.specs.History.{History}
 use Rattle.handoff_data.specs.Numbers.{change_of, run_of}
 use Rattle.handoff_data.specs.Positions.{Stands, IsSomewhere}
-use Rattle.handoff_data.specs.Rules.{InRange, NotRepeated, Chained, Caused, RisesInJournal, RunsAlternate, LeavesWhileRunning, ListedInOrder, OutageLeavesNone, MaskedAndStood, DoneStood}
+use Rattle.handoff_data.specs.Rules.{InRange, NotRepeated, Chained, Caused, RisesInJournal, RunsAlternate}
+use Rattle.handoff_data.specs.Rules.{LeavesWhileRunning, ListedInOrder, OutageLeavesNone, MaskedAndStood, DoneStood}
 
 -- the entry, which stands there, keeps the rule of this number
 pub record Keeps (rule : ℕ) (j : History) (seat index : ℕ) (entry : Entry) : Type 0 where

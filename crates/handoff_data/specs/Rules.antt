@@ -37,7 +37,8 @@ NotRepeated j seat index entry =
 -- change m of t put it on the queue of c
 abbrev pub IsQueued : History → ℕ → ℕ → ℕ → Type 0
 IsQueued j t m c =
-    IsSomewhere j (entry.New t m c) ⊎ (IsSomewhere j (entry.In t m c) ⊎ ((by_list : Bool) × IsSomewhere j (entry.Enq t m c by_list)))
+    IsSomewhere j (entry.New t m c)
+    ⊎ (IsSomewhere j (entry.In t m c) ⊎ ((by_list : Bool) × IsSomewhere j (entry.Enq t m c by_list)))
 
 -- t went to sleep by its change m
 abbrev pub IsSleep : History → ℕ → ℕ → Type 0
@@ -132,7 +133,8 @@ IsOffline j seat index = (c e : ℕ) × IsLastTurn j seat index (entry.Offline c
 abbrev pub OutageLeavesNone : History → ℕ → ℕ → Entry → Type 0
 OutageLeavesNone j seat index (entry.Offline c e) =
     ((HasNoTurn j seat index × (e ≡ 0)) ⊎ ((c' : ℕ) × IsLastTurn j seat index (entry.Up c' e)))
-    × ((t m epoch : ℕ) → epoch ≤ e → IsSomewhere j (entry.List t m c epoch) → IsBefore j seat index (entry.Enq t (m + 1) c true))
+    × ((t m epoch : ℕ) → epoch ≤ e → IsSomewhere j (entry.List t m c epoch)
+    → IsBefore j seat index (entry.Enq t (m + 1) c true))
 OutageLeavesNone j seat index (entry.Up c e) =
     (c' e' : ℕ) × IsLastTurn j seat index (entry.Offline c' e') × (e ≡ e' + 1)
 OutageLeavesNone j seat index (entry.Pick t n c) = c ≡ seat → IsOffline j seat index → ⊥

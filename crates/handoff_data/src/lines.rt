@@ -19,7 +19,8 @@ impl Model for Lines {
 }
 
 impl Lines {
-    ghost use Rattle.std.specs.Prelude.{◌≡◌, ◌↔◌, [], ◌∷◌, ◌++◌, length, IsTrue, OnOk, OnErr, MatchOption, option_copied, slice_get};
+    ghost use Rattle.std.specs.Prelude.{◌≡◌, ◌↔◌, [], ◌∷◌, ◌++◌, length, IsTrue, OnOk, OnErr, MatchOption};
+    ghost use Rattle.std.specs.Prelude.{option_copied, slice_get};
 
     /// No lines. No memory is taken.
     pub fn new(alloc: Global) -> Lines

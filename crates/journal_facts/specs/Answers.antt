@@ -61,4 +61,5 @@ pub record IsLastIndex (facts : List Fact) (kind : Kind) (subject seat index las
 pub record IsHighest (facts : List Fact) (kind : Kind) (subject : ℕ) (highest : Fact) : Type 0 where
   pub listed : Contains facts highest
   pub is : highest ≡ here_on kind highest.seat highest.index subject highest.number highest.cpu
-  pub none_higher : (number cpu seat index : ℕ) → Contains facts (here_on kind seat index subject number cpu) → number ≤ highest.number
+  pub none_higher : (number cpu seat index : ℕ) → Contains facts (here_on kind seat index subject number cpu)
+      → number ≤ highest.number

@@ -75,7 +75,8 @@ pub record IsTold (journals : List (List Entry)) (f : Fact) : Type 0 where
 
 -- each kind but Member, which `members_of` tells
 abbrev pub kinds : List Kind
-kinds = kind.Change ∷ kind.Run ∷ kind.Wake ∷ kind.Listing ∷ kind.Mask ∷ kind.Offline ∷ kind.Up ∷ kind.Queued ∷ kind.Slept
+kinds = kind.Change ∷ kind.Run ∷ kind.Wake ∷ kind.Listing ∷ kind.Mask ∷ kind.Offline ∷ kind.Up ∷ kind.Queued
+    ∷ kind.Slept
     ∷ kind.Left ∷ kind.Died ∷ kind.ListedTo ∷ kind.Taken ∷ kind.Picked ∷ kind.Finished ∷ kind.Stood
     ∷ kind.ChangeIn ∷ kind.RunIn ∷ kind.TurnIn ∷ kind.Due ∷ []
 

@@ -1,11 +1,13 @@
 //! The questions.
 
-ghost use Rattle.std.specs.Prelude.{◌≡◌, ◌+◌, ◌<◌, ◌≤◌, ◌^◌, ◌↔◌, ℕ, length, slice_index_or, IsTrue, IfSome, IfNone, Contains};
+ghost use Rattle.std.specs.Prelude.{◌≡◌, ◌+◌, ◌<◌, ◌≤◌, ◌^◌, ◌↔◌, ℕ, length, slice_index_or, IsTrue, IfSome, IfNone};
+ghost use Rattle.std.specs.Prelude.{Contains};
 ghost use Rattle.std.specs.List.{AllWithin};
 ghost use Rattle.handoff_data.specs.Positions.{IsEarlier};
 ghost use Rattle.journal_facts.specs.declared.fact.Fact.{Fact};
 ghost use Rattle.journal_facts.specs.Facts.{here_on};
-ghost use Rattle.journal_facts.specs.Answers.{HasFront, IsOn, Tells, TellsOn, TellsBefore, TellsEarlier, TellsFrom, IsLastIndex, IsHighest};
+ghost use Rattle.journal_facts.specs.Answers.{HasFront, IsOn, Tells, TellsOn, TellsBefore, TellsEarlier, TellsFrom};
+ghost use Rattle.journal_facts.specs.Answers.{IsLastIndex, IsHighest};
 
 use crate::fact::{Fact, Kind};
 use crate::facts::Facts;
@@ -225,7 +227,8 @@ pub fn highest(facts: &Facts, kind: Kind, subject: u32) -> Option<Fact>
 fn count_on(rest: &[Fact], kind: Kind, subject: u32, number: u64, cpu: CpuNo) -> usize
     ensures bound { result ≤ length rest.now }
     ensures on { AllWithin (λ f. IsOn f kind subject number cpu) rest.now 0 result }
-    ensures end { (d : Fact) → result < length rest.now → ¬ IsOn (slice_index_or rest.now result d) kind subject number cpu }
+    ensures end { (d : Fact) → result < length rest.now
+        → ¬ IsOn (slice_index_or rest.now result d) kind subject number cpu }
 {
     for (i, fact) in rest.iter().enumerate() {
         if !is_on(*fact, kind, subject, number, cpu) {

@@ -16,7 +16,8 @@ fn push_cpu(
     mask: CpuMask,
     cpu: CpuNo,
 ) -> Result<(), NoMemory>
-    ensures { OnOk result ((f : Fact) → Contains members.new.items f ↔ (Contains members.old.items f ⊎ (HasCpu mask cpu × (f ≡ member t r cpu)))) }
+    ensures { OnOk result ((f : Fact) → Contains members.new.items f
+        ↔ (Contains members.old.items f ⊎ (HasCpu mask cpu × (f ≡ member t r cpu)))) }
 {
     if mask.contains(cpu) {
         members.push(Fact {
@@ -33,7 +34,8 @@ fn push_cpu(
 
 /// Adds each processor of the mask.
 fn push_mask(members: &mut Vec<Fact>, t: TaskNo, r: u64, mask: CpuMask) -> Result<(), NoMemory>
-    ensures { OnOk result ((f : Fact) → Contains members.new.items f ↔ (Contains members.old.items f ⊎ IsMaskMember t r mask f)) }
+    ensures { OnOk result ((f : Fact) → Contains members.new.items f
+        ↔ (Contains members.old.items f ⊎ IsMaskMember t r mask f)) }
 {
     for cpu in 0..mask.limit() {
         push_cpu(members, t, r, mask, cpu)?;
@@ -43,7 +45,8 @@ fn push_mask(members: &mut Vec<Fact>, t: TaskNo, r: u64, mask: CpuMask) -> Resul
 
 /// Adds each processor of the mask that the entry sets, if it sets one.
 fn push_masked(members: &mut Vec<Fact>, entry: Entry) -> Result<(), NoMemory>
-    ensures { OnOk result ((f : Fact) → Contains members.new.items f ↔ (Contains members.old.items f ⊎ IsEntryMember entry f)) }
+    ensures { OnOk result ((f : Fact) → Contains members.new.items f
+        ↔ (Contains members.old.items f ⊎ IsEntryMember entry f)) }
 {
     if let Entry::Mask { t, r, mask } = entry {
         push_mask(members, t, r, mask)?;
@@ -53,7 +56,8 @@ fn push_masked(members: &mut Vec<Fact>, entry: Entry) -> Result<(), NoMemory>
 
 /// Adds each processor of the masks of this journal.
 fn push_masks(members: &mut Vec<Fact>, entries: &[Entry]) -> Result<(), NoMemory>
-    ensures { OnOk result ((f : Fact) → Contains members.new.items f ↔ (Contains members.old.items f ⊎ IsJournalMember entries.now f)) }
+    ensures { OnOk result ((f : Fact) → Contains members.new.items f
+        ↔ (Contains members.old.items f ⊎ IsJournalMember entries.now f)) }
 {
     for entry in entries {
         push_masked(members, *entry)?;

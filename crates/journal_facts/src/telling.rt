@@ -10,7 +10,14 @@ use std::alloc::Global;
 
 /// A fact about a place, with a processor or 0.
 fn about(kind: Kind, seat: SeatNo, index: u64, subject: u32, number: u64, cpu: u32) -> Fact
-    ensures { result ≡ record { kind = kind; subject = subject; number = number; cpu = cpu; seat = seat; index = index } }
+    ensures { result ≡ record {
+      kind = kind;
+      subject = subject;
+      number = number;
+      cpu = cpu;
+      seat = seat;
+      index = index;
+    } }
 {
     Fact {
         kind,

@@ -96,7 +96,8 @@ walk-queued j t m c before queued =
     ]
 
 -- the walk of the change before leads to this one
-step : (j : History) → KeepsOrder j → (s i : ℕ) (e : Entry) (p : ℕ × ℕ) → Stands j s i e → change_of e ≡ Some p → WalksTo j (pair_of (change_of e)).0 ((pair_of (change_of e)).1 - 1) → Walks j (pair_of (change_of e)).0 (pair_of (change_of e)).1 (left_at s e)
+step : (j : History) → KeepsOrder j → (s i : ℕ) (e : Entry) (p : ℕ × ℕ) → Stands j s i e → change_of e ≡ Some p → WalksTo j (pair_of (change_of e)).0 ((pair_of (change_of e)).1 - 1)
+    → Walks j (pair_of (change_of e)).0 (pair_of (change_of e)).1 (left_at s e)
 step j rules s i (entry.New t m c) p at is before =
     let h = chained j rules s i _ at in
     changes 0 m s q.New (q.On c) (entry.New t m c) h starts (i, at) refl

@@ -65,7 +65,8 @@ earlier_next j seat index e earlier stands kept seat' index' e' before there rul
     ]
 
 -- the entry of an earlier seat or of this one
-journal_kept : (j : History) (seat seat' index' : ℕ) (entries : List Entry) (e' : Entry) → slice_get j.seats seat ≡ Some entries → EarlierKeepAll j seat (length entries) → seat' < seat + 1 → Stands j seat' index' e' → KeepsAll j seat' index' e'
+journal_kept : (j : History) (seat seat' index' : ℕ) (entries : List Entry) (e' : Entry) → slice_get j.seats seat ≡ Some entries → EarlierKeepAll j seat (length entries) → seat' < seat + 1
+    → Stands j seat' index' e' → KeepsAll j seat' index' e'
 journal_kept j seat seat' index' entries e' journal earlier less there rule =
     elim (cases_lt seat' seat) [
       | inl before ↦ earlier seat' index' e' (inl before) there rule

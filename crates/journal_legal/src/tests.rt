@@ -1,5 +1,5 @@
-// Each rule: short journals in which an entry breaks just that one, and a neighbour that breaks none. Expected answers are
-// those of the rules, found by hand. In the texts ` ; ` stands for a line end, and the first lines are left out.
+// Each rule: short journals in which an entry breaks just that one, and a neighbour that breaks none. Expected answers
+// are those of the rules, found by hand. In the texts ` ; ` stands for a line end, and the first lines are left out.
 use super::*;
 use journal_text::read_journal;
 use std::alloc::AllocError;

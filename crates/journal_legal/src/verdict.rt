@@ -5,8 +5,8 @@ use handoff_data::{SeatNo, TaskNo};
 pub enum Verdict {
     /// No entry breaks a rule, and each task has ended.
     Legal,
-    /// The first bad entry: in the journal of the lowest seat that has one, the lowest index from 0. Of the rules that it
-    /// breaks this is the lowest, a number from 1 to 11.
+    /// The first bad entry: in the journal of the lowest seat that has one, the lowest index from 0. Of the rules that
+    /// it breaks this is the lowest, a number from 1 to 11.
     FirstBad { seat: SeatNo, index: u64, rule: u32 },
     /// No entry breaks a rule, and this is the lowest task that hasn't ended.
     Unended { t: TaskNo },

@@ -12,8 +12,8 @@ use std::alloc::Global;
 /// The verdict on the journals. It takes time n log n in the number n of entries, and memory linear in it.
 ///
 /// The order of positions is that of the seats, and in one journal that of the indexes. Where no entry is bad, a task
-/// whose change with the highest number isn't a `Die`, or whose run entry with the highest number isn't a `Finish`, hasn't
-/// ended; nor has a task without any.
+/// whose change with the highest number isn't a `Die`, or whose run entry with the highest number isn't a `Finish`,
+/// hasn't ended; nor has a task without any.
 pub fn legal(alloc: Global, journals: &Journals) -> Result<Verdict, NoMemory>
     requires few { length journals.now.seats < 2 ^ 32 }
     ensures verdict { IfOk result (IsVerdict journals.now) }

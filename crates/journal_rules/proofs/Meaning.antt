@@ -185,13 +185,15 @@ says_stood s i e t m c s' i' = elim e as (λ x. fact_at kind.Stood s i x ≡ Som
   | _ ↦ λ h. absurd (cc)
 ]
 
-pub says_queued : (s i : ℕ) (e : Entry) (t m c s' i' : ℕ) → fact_at kind.Queued s i e ≡ Some (here_on kind.Queued s' i' t m c) → (e ≡ entry.New t m c) ⊎ ((e ≡ entry.In t m c) ⊎ ((b : Bool) × (e ≡ entry.Enq t m c b)))
-says_queued s i e t m c s' i' = elim e as (λ x. fact_at kind.Queued s i x ≡ Some (here_on kind.Queued s' i' t m c) → (x ≡ entry.New t m c) ⊎ ((x ≡ entry.In t m c) ⊎ ((b : Bool) × (x ≡ entry.Enq t m c b)))) [
-  | entry.New t' m' c' ↦ λ h. let q = same kind.Queued kind.Queued 0 0 t' m' c' s' i' t m c h in inl (cc (q.subject, q.number, q.cpu))
-  | entry.In t' m' c' ↦ λ h. let q = same kind.Queued kind.Queued 0 0 t' m' c' s' i' t m c h in inr (inl (cc (q.subject, q.number, q.cpu)))
-  | entry.Enq t' m' c' b' ↦ λ h. let q = same kind.Queued kind.Queued 0 0 t' m' c' s' i' t m c h in inr (inr (b', cc (q.subject, q.number, q.cpu)))
-  | _ ↦ λ h. absurd (cc)
-]
+pub says_queued : (s i : ℕ) (e : Entry) (t m c s' i' : ℕ) → fact_at kind.Queued s i e ≡ Some (here_on kind.Queued s' i' t m c) → (e ≡ entry.New t m c)
+    ⊎ ((e ≡ entry.In t m c) ⊎ ((b : Bool) × (e ≡ entry.Enq t m c b)))
+says_queued s i e t m c s' i' = elim e as (λ x. fact_at kind.Queued s i x ≡ Some (here_on kind.Queued s' i' t m c) → (x ≡ entry.New t m c)
+    ⊎ ((x ≡ entry.In t m c) ⊎ ((b : Bool) × (x ≡ entry.Enq t m c b)))) [
+      | entry.New t' m' c' ↦ λ h. let q = same kind.Queued kind.Queued 0 0 t' m' c' s' i' t m c h in inl (cc (q.subject, q.number, q.cpu))
+      | entry.In t' m' c' ↦ λ h. let q = same kind.Queued kind.Queued 0 0 t' m' c' s' i' t m c h in inr (inl (cc (q.subject, q.number, q.cpu)))
+      | entry.Enq t' m' c' b' ↦ λ h. let q = same kind.Queued kind.Queued 0 0 t' m' c' s' i' t m c h in inr (inr (b', cc (q.subject, q.number, q.cpu)))
+      | _ ↦ λ h. absurd (cc)
+    ]
 
 pub says_turn : (s i : ℕ) (e : Entry) (t m c s' i' : ℕ) → fact_at kind.TurnIn s i e ≡ Some (here_on kind.TurnIn s' i' t m c) → IsTurn e × (s ≡ s') × (i ≡ i')
 says_turn s i e t m c s' i' = elim e as (λ x. fact_at kind.TurnIn s i x ≡ Some (here_on kind.TurnIn s' i' t m c) → IsTurn x × (s ≡ s') × (i ≡ i')) [

@@ -12,20 +12,24 @@ pub record IsLast (numbers : Entry → Option (ℕ × ℕ)) (j : History) (seat 
   pub last : ℕ
   pub below : last < index
   pub stands : Stands j seat last entry
-  pub none_later : (k n : ℕ) (entry' : Entry) → last < k → k < index → Stands j seat k entry' → numbers entry' ≢ Some (t, n)
+  pub none_later : (k n : ℕ) (entry' : Entry) → last < k → k < index → Stands j seat k entry'
+      → numbers entry' ≢ Some (t, n)
 
 -- in this journal no entry before the index has a number of t
 abbrev pub HasNone : (Entry → Option (ℕ × ℕ)) → History → ℕ → ℕ → ℕ → Type 0
-HasNone numbers j seat index t = (k n : ℕ) (entry : Entry) → k < index → Stands j seat k entry → numbers entry ≢ Some (t, n)
+HasNone numbers j seat index t = (k n : ℕ) (entry : Entry) → k < index → Stands j seat k entry
+    → numbers entry ≢ Some (t, n)
 
 -- in this journal each number of t before the index is below n
 abbrev pub AreBelow : (Entry → Option (ℕ × ℕ)) → History → ℕ → ℕ → ℕ → ℕ → Type 0
 AreBelow numbers j seat index t n =
-    (before n' : ℕ) (entry : Entry) → before < index → Stands j seat before entry → numbers entry ≡ Some (t, n') → n' < n
+    (before n' : ℕ) (entry : Entry) → before < index → Stands j seat before entry → numbers entry ≡ Some (t, n')
+    → n' < n
 
 -- in this journal the numbers rise at each entry before the index
 abbrev pub RoseBefore : History → ℕ → ℕ → Type 0
-RoseBefore j seat index = (before : ℕ) (entry : Entry) → before < index → Stands j seat before entry → RisesInJournal j seat before entry
+RoseBefore j seat index = (before : ℕ) (entry : Entry) → before < index → Stands j seat before entry
+    → RisesInJournal j seat before entry
 
 -- the number is the highest of t in all journals
 pub record IsHighestOf (numbers : Entry → Option (ℕ × ℕ)) (j : History) (t highest : ℕ) : Type 0 where

@@ -39,5 +39,7 @@ TakesAllOf j seat index c e =
 
 -- what stands before the index in this journal is in range and leaves nothing listed
 pub record KeptSoFar (j : History) (seat index : ℕ) : Type 0 where
-  pub in_range : (before : ℕ) (entry : Entry) → before < index → Stands j seat before entry → InRange j seat before entry
-  pub leaves_none : (before : ℕ) (entry : Entry) → before < index → Stands j seat before entry → OutageLeavesNone j seat before entry
+  pub in_range : (before : ℕ) (entry : Entry) → before < index → Stands j seat before entry
+      → InRange j seat before entry
+  pub leaves_none : (before : ℕ) (entry : Entry) → before < index → Stands j seat before entry
+      → OutageLeavesNone j seat before entry

@@ -98,28 +98,32 @@ pub fn is_picked_before(
 
 /// Whether the task has a mask of this number.
 pub fn is_masked(facts: &Facts, t: TaskNo, r: u64) -> bool
-    ensures { (j : History) → KnowsFacts j facts.now → IsTrue result ↔ ((mask : CpuMask) × IsSomewhere j (entry.Mask t r mask)) }
+    ensures { (j : History) → KnowsFacts j facts.now → IsTrue result
+        ↔ ((mask : CpuMask) × IsSomewhere j (entry.Mask t r mask)) }
 {
     is_told(facts, Kind::Mask, t, r)
 }
 
 /// Whether mask `r` of the task stands before the index of this journal.
 pub fn is_masked_before(facts: &Facts, t: TaskNo, r: u64, seat: SeatNo, index: u64) -> bool
-    ensures { (j : History) → KnowsFacts j facts.now → IsTrue result ↔ ((mask : CpuMask) × IsBefore j seat index (entry.Mask t r mask)) }
+    ensures { (j : History) → KnowsFacts j facts.now → IsTrue result
+        ↔ ((mask : CpuMask) × IsBefore j seat index (entry.Mask t r mask)) }
 {
     is_told_before(facts, Kind::Mask, t, r, 0, seat, index)
 }
 
 /// Whether the task stood under a mask of at least this number.
 pub fn is_stood_from(facts: &Facts, t: TaskNo, r: u64) -> bool
-    ensures { (j : History) → KnowsFacts j facts.now → IsTrue result ↔ ((r' m : ℕ) × (at : Option ℕ) × (r ≤ r') × IsSomewhere j (entry.Stood t r' m at)) }
+    ensures { (j : History) → KnowsFacts j facts.now → IsTrue result
+        ↔ ((r' m : ℕ) × (at : Option ℕ) × (r ≤ r') × IsSomewhere j (entry.Stood t r' m at)) }
 {
     is_told_from(facts, Kind::Stood, t, r)
 }
 
 /// Whether mask `r` of the task has the processor, by the list of the processors that masks have.
 pub fn is_member(members: &Facts, t: TaskNo, r: u64, c: CpuNo) -> bool
-    ensures { (j : History) → KnowsMembers j members.now → IsTrue result ↔ ((mask : CpuMask) × IsSomewhere j (entry.Mask t r mask) × HasCpu mask c) }
+    ensures { (j : History) → KnowsMembers j members.now → IsTrue result
+        ↔ ((mask : CpuMask) × IsSomewhere j (entry.Mask t r mask) × HasCpu mask c) }
 {
     is_told_on(members, Kind::Member, t, r, c)
 }

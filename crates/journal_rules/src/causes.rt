@@ -27,7 +27,8 @@ fn follows_sleep(facts: &Facts, t: TaskNo, m: u64) -> bool
 
 /// Whether the change before `m` took the task off a queue, in the journal of this seat.
 fn follows_out(facts: &Facts, t: TaskNo, m: u64, seat: SeatNo) -> bool
-    ensures { (j : History) → KnowsFacts j facts.now → IsTrue result ↔ ((1 < m) × ((c' : ℕ) × IsIn j seat (entry.Out t (m - 1) c'))) }
+    ensures { (j : History) → KnowsFacts j facts.now → IsTrue result
+        ↔ ((1 < m) × ((c' : ℕ) × IsIn j seat (entry.Out t (m - 1) c'))) }
 {
     m > 1 && is_out_in(facts, t, m - 1, seat)
 }
@@ -50,7 +51,8 @@ pub fn chained(journals: &Journals, facts: &Facts, seat: SeatNo, index: u64, ent
 
 /// Whether the task was listed to the processor after the change before `m`.
 fn follows_listing(facts: &Facts, t: TaskNo, m: u64, c: CpuNo) -> bool
-    ensures { (j : History) → KnowsFacts j facts.now → IsTrue result ↔ ((0 < m) × ((e : ℕ) × IsSomewhere j (entry.List t (m - 1) c e))) }
+    ensures { (j : History) → KnowsFacts j facts.now → IsTrue result
+        ↔ ((0 < m) × ((e : ℕ) × IsSomewhere j (entry.List t (m - 1) c e))) }
 {
     m > 0 && is_listed_to(facts, t, m - 1, c)
 }
@@ -58,7 +60,8 @@ fn follows_listing(facts: &Facts, t: TaskNo, m: u64, c: CpuNo) -> bool
 /// Whether the wake from the change before `m` stands before the index of this journal, and no entry lists the
 /// task after that change.
 fn follows_wake(facts: &Facts, t: TaskNo, m: u64, seat: SeatNo, index: u64) -> bool
-    ensures { (j : History) → KnowsFacts j facts.now → IsTrue result ↔ ((0 < m) × IsBefore j seat index (entry.Wake t (m - 1)) × (IsListed j t (m - 1) → ⊥)) }
+    ensures { (j : History) → KnowsFacts j facts.now → IsTrue result
+        ↔ ((0 < m) × IsBefore j seat index (entry.Wake t (m - 1)) × (IsListed j t (m - 1) → ⊥)) }
 {
     if m == 0 {
         return false;

@@ -1,13 +1,15 @@
 //! Rule 8: what one waker listed is queued in the order in which it was listed.
 
-ghost use Rattle.std.specs.Prelude.{◌≡◌, ◌+◌, ◌<◌, ◌⊎◌, ◌↔◌, ℕ, Option, Some, None, true, length, replicate, IfOk, IsTrue, Contains};
+ghost use Rattle.std.specs.Prelude.{◌≡◌, ◌+◌, ◌<◌, ◌⊎◌, ◌↔◌, ℕ, Option, Some, None, true, length, replicate, IfOk};
+ghost use Rattle.std.specs.Prelude.{IsTrue, Contains};
 ghost use Rattle.handoff_data.specs.declared.entry.Entry.TheVariants as entry;
 ghost use Rattle.handoff_data.specs.History.{History};
 ghost use Rattle.handoff_data.specs.Positions.{Stands};
 ghost use Rattle.handoff_data.specs.Rules.{ListedInOrder, IsListing};
 ghost use Rattle.journal_facts.specs.declared.fact.Fact.{Fact as Told};
 ghost use Rattle.journal_rules.specs.Known.{KnowsFacts};
-ghost use Rattle.journal_rules.specs.Marks.{IsMarkOf, IsPassed, IsTakenFrom, IsPlaceOf, IsRaised, AreMarks, AreMarksOf, EndsAt};
+ghost use Rattle.journal_rules.specs.Marks.{IsMarkOf, IsPassed, IsTakenFrom, IsPlaceOf, IsRaised, AreMarks, AreMarksOf};
+ghost use Rattle.journal_rules.specs.Marks.{EndsAt};
 
 use crate::marks::Mark;
 use handoff_data::{CpuNo, Entry, Journals, NoMemory, SeatNo, TaskNo};
@@ -16,7 +18,8 @@ use std::alloc::Global;
 
 /// The listings that a queueing by list as change `m` ends.
 fn ended_by_list(facts: &Facts, t: TaskNo, m: u64, c: CpuNo) -> &[Fact]
-    ensures { (j : History) (waker k : ℕ) → KnowsFacts j facts.now → IsPlaceOf result.now waker k ↔ IsListing j waker k t m c }
+    ensures { (j : History) (waker k : ℕ) → KnowsFacts j facts.now → IsPlaceOf result.now waker k
+        ↔ IsListing j waker k t m c }
 {
     if m == 0 {
         return &[];
@@ -26,7 +29,8 @@ fn ended_by_list(facts: &Facts, t: TaskNo, m: u64, c: CpuNo) -> &[Fact]
 
 /// The listings that a queueing as change `m` ends, none if it is not by list.
 fn ended_by_queueing(facts: &Facts, t: TaskNo, m: u64, c: CpuNo, by_list: bool) -> &[Fact]
-    ensures { (j : History) (waker k : ℕ) → KnowsFacts j facts.now → IsPlaceOf result.now waker k ↔ EndsAt j (entry.Enq t m c by_list) waker k }
+    ensures { (j : History) (waker k : ℕ) → KnowsFacts j facts.now → IsPlaceOf result.now waker k
+        ↔ EndsAt j (entry.Enq t m c by_list) waker k }
 {
     if by_list {
         ended_by_list(facts, t, m, c)
@@ -37,7 +41,8 @@ fn ended_by_queueing(facts: &Facts, t: TaskNo, m: u64, c: CpuNo, by_list: bool) 
 
 /// The listings that the entry ends, none if it is no queueing by list.
 fn ended(facts: &Facts, entry: Entry) -> &[Fact]
-    ensures { (j : History) (waker k : ℕ) → KnowsFacts j facts.now → IsPlaceOf result.now waker k ↔ EndsAt j entry waker k }
+    ensures { (j : History) (waker k : ℕ) → KnowsFacts j facts.now → IsPlaceOf result.now waker k
+        ↔ EndsAt j entry waker k }
 {
     match entry {
         Entry::Enq { t, m, c, by_list } => ended_by_queueing(facts, t, m, c, by_list),
@@ -54,7 +59,8 @@ fn is_behind(mark: Mark, seat: SeatNo, index: u64) -> bool
 
 /// Whether the mark is of a listing that stands behind this one, in the journal of this seat.
 fn passes(mark: Option<Mark>, seat: SeatNo, index: u64) -> bool
-    ensures { (j : History) (here waker : ℕ) → IsMarkOf (IsTakenFrom j seat here waker) seat mark → IsTrue result ↔ IsPassed j seat here waker index }
+    ensures { (j : History) (here waker : ℕ) → IsMarkOf (IsTakenFrom j seat here waker) seat mark → IsTrue result
+        ↔ IsPassed j seat here waker index }
 {
     match mark {
         Some(last) => is_behind(last, seat, index),
@@ -65,7 +71,8 @@ fn passes(mark: Option<Mark>, seat: SeatNo, index: u64) -> bool
 /// Whether no mark is of a listing behind one of these.
 fn none_passed(listings: &[Fact], marks: &[Option<Mark>], seat: SeatNo) -> bool
     requires { (f : Told) → Contains listings.now f → f.seat < length marks.now }
-    ensures { (j : History) (here : ℕ) → AreMarks j seat here marks.now → IsTrue result ↔ ((f : Told) → Contains listings.now f → ¬ IsPassed j seat here f.seat f.index) }
+    ensures { (j : History) (here : ℕ) → AreMarks j seat here marks.now → IsTrue result
+        ↔ ((f : Told) → Contains listings.now f → ¬ IsPassed j seat here f.seat f.index) }
 {
     for listing in listings {
         if passes(marks[listing.seat as usize], seat, listing.index) {
@@ -110,7 +117,9 @@ fn raised(mark: Option<Mark>, seat: SeatNo, index: u64) -> Mark
 /// Raises the marks by these listings.
 fn note_all(listings: &[Fact], marks: &mut [Option<Mark>], seat: SeatNo)
     requires { (f : Told) → Contains listings.now f → f.seat < length marks.old }
-    ensures { (j : History) (here : ℕ) → AreMarks j seat here marks.old → AreMarksOf (λ waker k. IsTakenFrom j seat here waker k ⊎ IsPlaceOf listings.now waker k) (length j.seats) seat marks.new }
+    ensures { (j : History) (here : ℕ) → AreMarks j seat here marks.old
+        → AreMarksOf (λ waker k. IsTakenFrom j seat here waker k ⊎ IsPlaceOf listings.now waker k)
+        (length j.seats) seat marks.new }
 {
     for listing in listings {
         let waker = listing.seat as usize;

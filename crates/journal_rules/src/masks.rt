@@ -84,7 +84,8 @@ fn mask_allows(
     r: u64,
     at: Option<CpuNo>,
 ) -> bool
-    ensures { (j : History) → KnowsFacts j facts.now → KnowsMembers j members.now → cpus ≡ j.cpus → IsTrue result ↔ MaskAllows j t r at }
+    ensures { (j : History) → KnowsFacts j facts.now → KnowsMembers j members.now → cpus ≡ j.cpus → IsTrue result
+        ↔ MaskAllows j t r at }
 {
     match at {
         Some(c) => mask_has(members, cpus, t, r, c),
@@ -94,7 +95,8 @@ fn mask_allows(
 
 /// Whether the task's mask `r` is its first, or there is the mask before it.
 fn follows_mask(facts: &Facts, t: TaskNo, r: u64) -> bool
-    ensures { (j : History) → KnowsFacts j facts.now → IsTrue result ↔ ((r ≡ 1) ⊎ ((0 < r) × ((mask' : CpuMask) × IsSomewhere j (entry.Mask t (r - 1) mask')))) }
+    ensures { (j : History) → KnowsFacts j facts.now → IsTrue result
+        ↔ ((r ≡ 1) ⊎ ((0 < r) × ((mask' : CpuMask) × IsSomewhere j (entry.Mask t (r - 1) mask')))) }
 {
     if r == 1 {
         return true;
@@ -117,7 +119,8 @@ fn has_some(mask: CpuMask) -> bool
 
 /// Whether the mask may be the task's mask `r`.
 fn may_mask(facts: &Facts, t: TaskNo, r: u64, mask: CpuMask) -> bool
-    ensures { (j : History) → KnowsFacts j facts.now → (seat index : ℕ) → IsTrue result ↔ MaskedAndStood j seat index (entry.Mask t r mask) }
+    ensures { (j : History) → KnowsFacts j facts.now → (seat index : ℕ) → IsTrue result
+        ↔ MaskedAndStood j seat index (entry.Mask t r mask) }
 {
     if !has_some(mask) {
         return false;
@@ -135,7 +138,8 @@ fn may_stand(
     m: u64,
     at: Option<CpuNo>,
 ) -> bool
-    ensures { (j : History) → KnowsFacts j facts.now → KnowsMembers j members.now → cpus ≡ j.cpus → (seat index : ℕ) → IsTrue result ↔ MaskedAndStood j seat index (entry.Stood t r m at) }
+    ensures { (j : History) → KnowsFacts j facts.now → KnowsMembers j members.now → cpus ≡ j.cpus → (seat index : ℕ)
+        → IsTrue result ↔ MaskedAndStood j seat index (entry.Stood t r m at) }
 {
     if !stood_at(facts, t, m, at) {
         return false;

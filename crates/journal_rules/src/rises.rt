@@ -69,7 +69,8 @@ fn do_changes_rise(
 ) -> bool
     requires knows { KnowsFacts journals.now facts.now }
     requires rose { RoseBefore journals.now seat index }
-    ensures { IsTrue result ↔ ((t m : ℕ) → change_spec entry ≡ Some (t, m) → AreBelow change_spec journals.now seat index t m) }
+    ensures { IsTrue result
+        ↔ ((t m : ℕ) → change_spec entry ≡ Some (t, m) → AreBelow change_spec journals.now seat index t m) }
 {
     match change_of(entry) {
         Some((t, m)) => are_changes_below(journals, facts, t, m, seat, index),
@@ -81,7 +82,8 @@ fn do_changes_rise(
 fn do_runs_rise(journals: &Journals, facts: &Facts, seat: SeatNo, index: u64, entry: Entry) -> bool
     requires knows { KnowsFacts journals.now facts.now }
     requires rose { RoseBefore journals.now seat index }
-    ensures { IsTrue result ↔ ((t n : ℕ) → run_spec entry ≡ Some (t, n) → AreBelow run_spec journals.now seat index t n) }
+    ensures { IsTrue result
+        ↔ ((t n : ℕ) → run_spec entry ≡ Some (t, n) → AreBelow run_spec journals.now seat index t n) }
 {
     match run_of(entry) {
         Some((t, n)) => are_runs_below(journals, facts, t, n, seat, index),

@@ -13,7 +13,8 @@ use journal_facts::Facts;
 
 /// Whether run `n` of the task is its first, or the run before it is a finish.
 fn follows_finish(facts: &Facts, t: TaskNo, n: u64) -> bool
-    ensures { (j : History) → KnowsFacts j facts.now → IsTrue result ↔ (1 < n → (c' : ℕ) × IsSomewhere j (entry.Finish t (n - 1) c')) }
+    ensures { (j : History) → KnowsFacts j facts.now → IsTrue result
+        ↔ (1 < n → (c' : ℕ) × IsSomewhere j (entry.Finish t (n - 1) c')) }
 {
     if n <= 1 {
         return true;
@@ -23,7 +24,8 @@ fn follows_finish(facts: &Facts, t: TaskNo, n: u64) -> bool
 
 /// Whether run `n` of the task may be a pick.
 fn may_pick(facts: &Facts, t: TaskNo, n: u64) -> bool
-    ensures { (j : History) → KnowsFacts j facts.now → IsTrue result ↔ ((n % 2 ≡ 1) × (1 < n → (c' : ℕ) × IsSomewhere j (entry.Finish t (n - 1) c'))) }
+    ensures { (j : History) → KnowsFacts j facts.now → IsTrue result
+        ↔ ((n % 2 ≡ 1) × (1 < n → (c' : ℕ) × IsSomewhere j (entry.Finish t (n - 1) c'))) }
 {
     if n % 2 != 1 {
         return false;
@@ -33,7 +35,8 @@ fn may_pick(facts: &Facts, t: TaskNo, n: u64) -> bool
 
 /// Whether run `n` of the task may be a finish at this place, on the processor.
 fn may_finish(facts: &Facts, t: TaskNo, n: u64, c: CpuNo, seat: SeatNo, index: u64) -> bool
-    ensures { (j : History) → KnowsFacts j facts.now → IsTrue result ↔ ((n % 2 ≡ 0) × (0 < n) × IsBefore j seat index (entry.Pick t (n - 1) c)) }
+    ensures { (j : History) → KnowsFacts j facts.now → IsTrue result
+        ↔ ((n % 2 ≡ 0) × (0 < n) × IsBefore j seat index (entry.Pick t (n - 1) c)) }
 {
     if n == 0 {
         return false;

@@ -8,7 +8,8 @@ ghost use Rattle.handoff_data.specs.Positions.{Stands, IsBefore};
 ghost use Rattle.handoff_data.specs.Rules.{InRange, OutageLeavesNone, IsOffline};
 ghost use Rattle.journal_facts.specs.declared.fact.Fact.{Fact as Due};
 ghost use Rattle.journal_rules.specs.Known.{KnowsFacts};
-ghost use Rattle.journal_rules.specs.Turns.{IsTurnBefore, MayGo, MayReturn, IsGone, IsTakenBefore, TakesAllOf, KeptSoFar};
+ghost use Rattle.journal_rules.specs.Turns.{IsTurnBefore, MayGo, MayReturn, IsGone, IsTakenBefore, TakesAllOf};
+ghost use Rattle.journal_rules.specs.Turns.{KeptSoFar};
 
 use handoff_data::{CpuNo, Entry, Journals, SeatNo, TaskNo};
 use journal_facts::{Fact, Facts, Kind, facts_on, is_told_before, last_index};
@@ -62,7 +63,8 @@ fn is_gone(turn: Option<Entry>) -> bool
 
 /// Whether the task was queued by list on the processor before the index, by the change after `m`.
 fn is_queued_after(facts: &Facts, t: TaskNo, m: u64, c: CpuNo, seat: SeatNo, index: u64) -> bool
-    ensures { (j : History) → KnowsFacts j facts.now → IsTrue result ↔ IsBefore j seat index (entry.Enq t (m + 1) c true) }
+    ensures { (j : History) → KnowsFacts j facts.now → IsTrue result
+        ↔ IsBefore j seat index (entry.Enq t (m + 1) c true) }
 {
     is_told_before(facts, Kind::Taken, t, m, c, seat, index)
 }
@@ -81,7 +83,8 @@ fn is_taken(facts: &Facts, listing: Entry, seat: SeatNo, index: u64) -> bool
 fn is_done(journals: &Journals, facts: &Facts, due: Fact, seat: SeatNo, index: u64) -> bool
     requires facts { KnowsFacts journals.now facts.now }
     requires stands { (e : Told) × Stands journals.now due.seat due.index e }
-    ensures { IsTrue result ↔ ((e : Told) → Stands journals.now due.seat due.index e → IsTakenBefore journals.now seat index e) }
+    ensures { IsTrue result ↔ ((e : Told) → Stands journals.now due.seat due.index e
+        → IsTakenBefore journals.now seat index e) }
 {
     is_taken(facts, standing(journals, due.seat, due.index), seat, index)
 }
@@ -90,7 +93,8 @@ fn is_done(journals: &Journals, facts: &Facts, due: Fact, seat: SeatNo, index: u
 fn are_done(journals: &Journals, facts: &Facts, dues: &[Fact], seat: SeatNo, index: u64) -> bool
     requires facts { KnowsFacts journals.now facts.now }
     requires stand { (f : Due) → Contains dues.now f → (e : Told) × Stands journals.now f.seat f.index e }
-    ensures { IsTrue result ↔ ((f : Due) (e : Told) → Contains dues.now f → Stands journals.now f.seat f.index e → IsTakenBefore journals.now seat index e) }
+    ensures { IsTrue result ↔ ((f : Due) (e : Told) → Contains dues.now f → Stands journals.now f.seat f.index e
+        → IsTakenBefore journals.now seat index e) }
 {
     for due in dues {
         if !is_done(journals, facts, *due, seat, index) {

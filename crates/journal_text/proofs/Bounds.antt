@@ -1,5 +1,6 @@
 -- What a text says is bounded by its bytes.
-use Rattle.std.proofs.Common.{◌≡◌, ◌==◌, ℕ, ◌+◌, ◌-◌, ◌<◌, ◌≤◌, Bool, true, false, nat_lt, nat_le, List, [], ◌∷◌, Option, Some, None, Result, Ok, Err, length, ap, ◌∙◌, refl, arith, if◌then◌else◌, length-append, take, inl, inr, drop}
+use Rattle.std.proofs.Common.{◌≡◌, ◌==◌, ℕ, ◌+◌, ◌-◌, ◌<◌, ◌≤◌, Bool, true, false, nat_lt, nat_le, List, [], ◌∷◌, Option, Some, None, Result, Ok, Err, length, ap, ◌∙◌, refl, arith, if◌then◌else◌}
+use Rattle.std.proofs.Common.{length-append, take, inl, inr, drop}
 use Rattle.std.specs.List.{slice_split, onto_first}
 use Rattle.std.proofs.lemmas.Bool.Decides.{nat_tests}
 use Rattle.std.proofs.lemmas.Bool.{cases_Bool}
@@ -126,7 +127,8 @@ record Bounded (room before : ℕ) (text : List ℕ) (texts : List (List ℕ)) (
   within : length text + total texts ≤ room
   few : history_size j ≤ before + 1 + length texts
 
-last_fits : (full : Bool) (line room : ℕ) (p : Progress) (text : List ℕ) (j : History) → nat_lt room (length text) ≡ full → (if full then Err line else then_on line (line_after p text) (λ q. history_of q (line + 1))) ≡ Ok j → Bounded room (size p) text [] j
+last_fits : (full : Bool) (line room : ℕ) (p : Progress) (text : List ℕ) (j : History) → nat_lt room (length text) ≡ full
+    → (if full then Err line else then_on line (line_after p text) (λ q. history_of q (line + 1))) ≡ Ok j → Bounded room (size p) text [] j
 last_fits true line room p text j full is = absurd cc
 last_fits false line room p text j fits is =
     let room_left : length text ≤ room = grind (arith, nat_tests, fits) in
@@ -135,7 +137,8 @@ last_fits false line room p text j fits is =
     let grows = line_grows p goes.next text goes.after in
     record { within = omega arith; few = omega arith }
 
-last_some : (empty : Bool) (line room : ℕ) (p : Progress) (text : List ℕ) (j : History) → (length text == 0) ≡ empty → (if empty then history_of p line else if nat_lt room (length text) then Err line else then_on line (line_after p text) (λ q. history_of q (line + 1))) ≡ Ok j → Bounded room (size p) text [] j
+last_some : (empty : Bool) (line room : ℕ) (p : Progress) (text : List ℕ) (j : History) → (length text == 0) ≡ empty
+    → (if empty then history_of p line else if nat_lt room (length text) then Err line else then_on line (line_after p text) (λ q. history_of q (line + 1))) ≡ Ok j → Bounded room (size p) text [] j
 last_some true line room p text j none is =
     let no_byte : length text ≡ 0 = grind (arith, nat_tests, none) in
     let whole = size_of p line j is in
@@ -147,7 +150,9 @@ unfolding last_of
 last_bounded line room p text j is = last_some (length text == 0) line room p text j refl is
 
 -- a line that has others behind it, which are bounded
-more_bounded : (full : Bool) (texts : List (List ℕ)) (line room : ℕ) (p : Progress) (text next : List ℕ) (j : History) → nat_le room (length text) ≡ full → ((q : Progress) → lines_from (line + 1) (room - (length text + 1)) q next texts ≡ Ok j → Bounded (room - (length text + 1)) (size q) next texts j) → (if full then Err line else then_on line (line_after p text) (λ q. lines_from (line + 1) (room - (length text + 1)) q next texts)) ≡ Ok j → Bounded room (size p) text (next ∷ texts) j
+more_bounded : (full : Bool) (texts : List (List ℕ)) (line room : ℕ) (p : Progress) (text next : List ℕ) (j : History) → nat_le room (length text) ≡ full
+    → ((q : Progress) → lines_from (line + 1) (room - (length text + 1)) q next texts ≡ Ok j → Bounded (room - (length text + 1)) (size q) next texts j)
+    → (if full then Err line else then_on line (line_after p text) (λ q. lines_from (line + 1) (room - (length text + 1)) q next texts)) ≡ Ok j → Bounded room (size p) text (next ∷ texts) j
 more_bounded true texts line room p text next j full others is = absurd cc
 more_bounded false texts line room p text next j fits others is =
     let room_left : length text < room = grind (arith, nat_tests, fits) in

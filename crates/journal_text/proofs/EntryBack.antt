@@ -63,7 +63,8 @@ enq_back : (t m c : ℕ) (b : Bool) → t < 2 ^ 32 → m < 2 ^ 64 → c < 2 ^ 32
 unfolding enq_of
 enq_back t m c b ft fm fc =
     ap enq_of (after_three t m c (by_text b))
-    ∙ ap (λ o. o >>= λ t. u64_at t.1 >>= λ m. u32_at m.1 >>= λ c. field_at c.1 >>= λ word. by_list_of word.0 >>= λ by. ended (entry.Enq t.0 m.0 c.0 by) word.1) (u32_field t (field m ++ (field c ++ by_text b)) ft refl)
+    ∙ ap (λ o. o >>= λ t. u64_at t.1 >>= λ m. u32_at m.1 >>= λ c. field_at c.1 >>= λ word. by_list_of word.0 >>= λ by. ended (entry.Enq t.0 m.0 c.0 by) word.1)
+    (u32_field t (field m ++ (field c ++ by_text b)) ft refl)
     ∙ ap (λ o. o >>= λ m. u32_at m.1 >>= λ c. field_at c.1 >>= λ word. by_list_of word.0 >>= λ by. ended (entry.Enq t m.0 c.0 by) word.1) (u64_field m (field c ++ by_text b) fm refl)
     ∙ ap (λ o. o >>= λ c. field_at c.1 >>= λ word. by_list_of word.0 >>= λ by. ended (entry.Enq t m c.0 by) word.1) (u32_field c (by_text b) fc (by_tail b))
     ∙ ap (λ o. o >>= λ word. by_list_of word.0 >>= λ by. ended (entry.Enq t m c by) word.1) (by_back b)
@@ -111,7 +112,8 @@ stood_back : (t r m : ℕ) (at : Option ℕ) → t < 2 ^ 32 → r < 2 ^ 64 → m
 unfolding stood_of
 stood_back t r m at ft fr fm fa =
     ap stood_of (after_three t r m (at_text at))
-    ∙ ap (λ o. o >>= λ t. u64_at t.1 >>= λ r. u64_at r.1 >>= λ m. field_at m.1 >>= λ word. at_of word.0 >>= λ at. ended (entry.Stood t.0 r.0 m.0 at) word.1) (u32_field t (field r ++ (field m ++ at_text at)) ft refl)
+    ∙ ap (λ o. o >>= λ t. u64_at t.1 >>= λ r. u64_at r.1 >>= λ m. field_at m.1 >>= λ word. at_of word.0 >>= λ at. ended (entry.Stood t.0 r.0 m.0 at) word.1)
+    (u32_field t (field r ++ (field m ++ at_text at)) ft refl)
     ∙ ap (λ o. o >>= λ r. u64_at r.1 >>= λ m. field_at m.1 >>= λ word. at_of word.0 >>= λ at. ended (entry.Stood t r.0 m.0 at) word.1) (u64_field r (field m ++ at_text at) fr refl)
     ∙ ap (λ o. o >>= λ m. field_at m.1 >>= λ word. at_of word.0 >>= λ at. ended (entry.Stood t r m.0 at) word.1) (u64_field m (at_text at) fm (at_tail at))
     ∙ ap (λ o. o >>= λ word. at_of word.0 >>= λ at. ended (entry.Stood t r m at) word.1) (at_back at fa)

@@ -1,5 +1,6 @@
 -- Leading zeros, and the order of the numbers of a mask, change nothing.
-use Rattle.std.proofs.Common.{◌≡◌, ◌==◌, ℕ, zero, suc, ◌⊎◌, get_or, ◌+◌, ◌-◌, ◌*◌, ◌^◌, ◌<◌, ◌≤◌, Bool, true, false, ◌&&◌, nat_lt, nat_le, List, [], ◌∷◌, ◌++◌, Option, Some, None, Ok, length, take, drop, ap, sym, ◌∙◌, refl, arith, subst, if◌then◌else◌, inl, inr, length-append, bit_or}
+use Rattle.std.proofs.Common.{◌≡◌, ◌==◌, ℕ, zero, suc, ◌⊎◌, get_or, ◌+◌, ◌-◌, ◌*◌, ◌^◌, ◌<◌, ◌≤◌, Bool, true, false, ◌&&◌, nat_lt, nat_le, List, [], ◌∷◌, ◌++◌, Option, Some, None, Ok, length, take}
+use Rattle.std.proofs.Common.{drop, ap, sym, ◌∙◌, refl, arith, subst, if◌then◌else◌, inl, inr, length-append, bit_or}
 use Rattle.std.specs.Prelude.{codes}
 use Rattle.std.specs.List.{slice_split, AllByRecursion, flat_map}
 use Rattle.std.specs.Str.{bytes_eq}

@@ -1,5 +1,6 @@
 -- A mask that is written is read.
-use Rattle.std.proofs.Common.{◌≡◌, ℕ, ◌^◌, ◌<◌, ◌⊎◌, ◌↔◌, Bool, true, false, nat_lt, nat_eq, lit<, eq-eqb, eqb-true, List, [], ◌∷◌, ◌++◌, Some, None, length, get_or, ap, sym, ◌∙◌, refl, arith, subst, inl, inr, if◌then◌else◌, map, bit_or, filter}
+use Rattle.std.proofs.Common.{◌≡◌, ℕ, ◌^◌, ◌<◌, ◌⊎◌, ◌↔◌, Bool, true, false, nat_lt, nat_eq, lit<, eq-eqb, eqb-true, List, [], ◌∷◌, ◌++◌, Some, None, length, get_or, ap, sym, ◌∙◌, refl, arith, subst}
+use Rattle.std.proofs.Common.{inl, inr, if◌then◌else◌, map, bit_or, filter}
 use Rattle.std.specs.Fmt.{decimal}
 use Rattle.std.specs.Int.{bit_at}
 use Rattle.std.specs.List.{flat_map, slice_split, AllPass}
@@ -152,7 +153,8 @@ unfolding mask_of mask_all listed_mask_of
 listed_back [] all = refl
 listed_back (c ∷ cs) all =
     let word = decimal c ++ flat_map behind_comma cs in
-    ap (λ b. if b then Some no_cpus else mask_from no_cpus (slice_split is_comma word)) (no_dash (decimal c) (flat_map behind_comma cs) (decimal_digits c (omega (arith, all.0))) (decimal_nonempty c (omega (arith, all.0))))
+    ap (λ b. if b then Some no_cpus else mask_from no_cpus (slice_split is_comma word))
+    (no_dash (decimal c) (flat_map behind_comma cs) (decimal_digits c (omega (arith, all.0))) (decimal_nonempty c (omega (arith, all.0))))
     ∙ ap (mask_from no_cpus) (split_listed c cs all.0 all.1) ∙ mask_listed no_cpus (c ∷ cs) all
 
 pub mask_back : (mask : CpuMask) → ((c : ℕ) → HasCpu mask c → c < 16) → mask_of (mask_text mask) ≡ Some mask
@@ -191,7 +193,8 @@ commas_plain : (cs : List ℕ) → AreCpus cs → AllPass (λ b. nat_lt 13 b) (f
 commas_plain [] all = AllPass-from_list_all (λ b. nat_lt 13 b) [] refl
 commas_plain (c ∷ cs) all =
     All-append (λ b. nat_lt 13 b ≡ true) (44 ∷ decimal c) (flat_map behind_comma cs)
-    (All-append (λ b. nat_lt 13 b ≡ true) (44 ∷ []) (decimal c) (AllPass-from_list_all (λ b. nat_lt 13 b) (44 ∷ []) refl) (λ k d less. digit_plain _ (decimal_digits c (omega (arith, all.0)) k d less)))
+    (All-append (λ b. nat_lt 13 b ≡ true) (44 ∷ []) (decimal c) (AllPass-from_list_all (λ b. nat_lt 13 b) (44 ∷ []) refl)
+    (λ k d less. digit_plain _ (decimal_digits c (omega (arith, all.0)) k d less)))
     (commas_plain cs all.1)
 
 listed_plain : (cs : List ℕ) → AreCpus cs → AllPass (λ b. nat_lt 13 b) (listed_cpus cs)

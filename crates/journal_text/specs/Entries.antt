@@ -1,5 +1,6 @@
 -- What a line says of an entry.
-use Rattle.std.specs.Prelude.{◌==◌, ◌^◌, ℕ, Bool, true, false, List, [], ◌∷◌, Option, Some, None, if◌then◌else◌, nat_lt, codes}
+use Rattle.std.specs.Prelude.{◌==◌, ◌^◌, ℕ, Bool, true, false, List, [], ◌∷◌, Option, Some, None, if◌then◌else◌, nat_lt}
+use Rattle.std.specs.Prelude.{codes}
 use Rattle.std.specs.List.{slice_split}
 use Rattle.std.specs.Str.{bytes_eq}
 use Rattle.handoff_data.specs.declared.entry.Entry.{Entry}
@@ -39,7 +40,8 @@ by_list_of word =
 
 -- where a task stood: a dash, or the number of a processor
 unfoldable pub at_of : List ℕ → Option (Option ℕ)
-at_of word = if bytes_eq word (codes "-") then Some None else number_of word >>= λ c. if nat_lt c (2 ^ 32) then Some (Some c) else None
+at_of word = if bytes_eq word (codes "-") then Some None else number_of word >>= λ c. if nat_lt c (2 ^ 32)
+    then Some (Some c) else None
 
 unfoldable pub list_of : List ℕ → Option Entry
 list_of bytes = do

@@ -1,5 +1,6 @@
 -- The fields of a line: words with blanks before them.
-use Rattle.std.specs.Prelude.{◌==◌, ◌+◌, ◌-◌, ◌*◌, ◌||◌, ◌&&◌, ◌^◌, ℕ, Bool, not, List, [], ◌∷◌, Option, Some, None, length, take, drop, if◌then◌else◌, nat_lt, nat_le}
+use Rattle.std.specs.Prelude.{◌==◌, ◌+◌, ◌-◌, ◌*◌, ◌||◌, ◌&&◌, ◌^◌, ℕ, Bool, not, List, [], ◌∷◌, Option, Some, None}
+use Rattle.std.specs.Prelude.{length, take, drop, if◌then◌else◌, nat_lt, nat_le}
 use Rattle.std.specs.List.{position_or_len}
 
 -- a space or a tab

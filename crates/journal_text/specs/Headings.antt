@@ -15,11 +15,14 @@ abbrev pub heading_at : Stage → Heading → List ℕ → List ℕ → Option H
 heading_at stage.Version h word rest =
     number_after (codes "journal") word rest >>= λ n. if n == 1 then Some (record h { stage = stage.Cpus }) else None
 heading_at stage.Cpus h word rest =
-    number_after (codes "cpus") word rest >>= λ n. if nat_le 1 n && nat_le n 16 then Some (record h { stage = stage.Tasks; cpus = n }) else None
+    number_after (codes "cpus") word rest >>= λ n. if nat_le 1 n && nat_le n 16
+    then Some (record h { stage = stage.Tasks; cpus = n }) else None
 heading_at stage.Tasks h word rest =
-    number_after (codes "tasks") word rest >>= λ n. if nat_le n 200 then Some (record h { stage = stage.Seats; tasks = n }) else None
+    number_after (codes "tasks") word rest >>= λ n. if nat_le n 200
+    then Some (record h { stage = stage.Seats; tasks = n }) else None
 heading_at stage.Seats h word rest =
-    number_after (codes "seats") word rest >>= λ n. if nat_le h.cpus n && nat_le n (h.cpus + 4) && nat_le n 20 then Some (record h { stage = stage.FirstSeat; seats = n }) else None
+    number_after (codes "seats") word rest >>= λ n. if nat_le h.cpus n && nat_le n (h.cpus + 4) && nat_le n 20
+    then Some (record h { stage = stage.FirstSeat; seats = n }) else None
 heading_at stage.FirstSeat h word rest =
     number_after (codes "seat") word rest >>= λ n. if n == 0 then Some (record h { stage = stage.Entries }) else None
 heading_at stage.Entries h word rest = None

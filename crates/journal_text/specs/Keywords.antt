@@ -45,4 +45,5 @@ or_else None other = other
 
 -- the keyword that the word spells, if it spells one
 abbrev pub keyword_of : List ℕ → Option Keyword
-keyword_of word = or_else (change_word_of word) (or_else (run_word_of word) (or_else (cause_word_of word) (mark_word_of word)))
+keyword_of word =
+    or_else (change_word_of word) (or_else (run_word_of word) (or_else (cause_word_of word) (mark_word_of word)))

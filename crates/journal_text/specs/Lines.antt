@@ -1,5 +1,6 @@
 -- What one line adds to what a text has said so far.
-use Rattle.std.specs.Prelude.{◌==◌, ◌+◌, ◌-◌, ◌&&◌, ◌++◌, ◌≡◌, ℕ, Bool, false, List, [], ◌∷◌, Option, Some, None, length, take, drop, nat_lt, if◌then◌else◌, MatchBool}
+use Rattle.std.specs.Prelude.{◌==◌, ◌+◌, ◌-◌, ◌&&◌, ◌++◌, ◌≡◌, ℕ, Bool, false, List, [], ◌∷◌, Option, Some, None}
+use Rattle.std.specs.Prelude.{length, take, drop, nat_lt, if◌then◌else◌, MatchBool}
 use Rattle.std.specs.List.{suffix_len}
 use Rattle.handoff_data.specs.declared.entry.Entry.{Entry}
 use Rattle.journal_text.specs.declared.draft.Draft.{Draft}
@@ -72,7 +73,8 @@ words_after p word rest = words_at p.heading.stage p word rest
 -- a line without the carriage returns at its end; a blank one adds nothing
 abbrev pub content_after : Progress → List ℕ → Option Progress
 content_after p text =
-    if gap_len text == length text then Some p else words_after p (take (word_len text) text) (drop (word_len text) text)
+    if gap_len text == length text then Some p
+    else words_after p (take (word_len text) text) (drop (word_len text) text)
 
 -- what a text has said with one more line, if the line may come next
 unfoldable pub line_after : Progress → List ℕ → Option Progress

@@ -1,5 +1,6 @@
 -- What a whole text says: journals, or the first line that may not stand where it does.
-use Rattle.std.specs.Prelude.{◌≡◌, ◌==◌, ◌+◌, ◌-◌, ℕ, Bool, List, [], ◌∷◌, Option, Some, None, Result, Ok, Err, length, nat_lt, nat_le, if◌then◌else◌}
+use Rattle.std.specs.Prelude.{◌≡◌, ◌==◌, ◌+◌, ◌-◌, ℕ, Bool, List, [], ◌∷◌, Option, Some, None, Result, Ok, Err, length}
+use Rattle.std.specs.Prelude.{nat_lt, nat_le, if◌then◌else◌}
 use Rattle.std.specs.List.{slice_split, sum_by}
 use Rattle.handoff_data.specs.declared.entry.Entry.{Entry}
 use Rattle.handoff_data.specs.History.{History}
@@ -18,7 +19,11 @@ byte_limit = 268435456
 
 -- before the first line
 abbrev pub blank_progress : Progress
-blank_progress = record { heading = record { stage = stage.Version; cpus = 0; tasks = 0; seats = 0 }; whole = []; entries = [] }
+blank_progress = record {
+  heading = record { stage = stage.Version; cpus = 0; tasks = 0; seats = 0 };
+  whole = [];
+  entries = [];
+}
 
 abbrev pub history_at : Stage → Progress → ℕ → Result History ℕ
 history_at stage.Done p line = Ok (record { cpus = p.heading.cpus; tasks = p.heading.tasks; seats = p.whole })

@@ -1,7 +1,8 @@
 //! What the lines of a text have said so far.
 
 ghost use Rattle.std.specs.Prelude.{◌≡◌, ◌≤◌, length, IfOk, OnOk};
-ghost use Rattle.journal_text.specs.Lines.{content_len, progress, closed, with_said, is_next, is_last, body_by, body_after, words_after, line_after, Takes};
+ghost use Rattle.journal_text.specs.Lines.{content_len, progress, closed, with_said, is_next, is_last, body_by};
+ghost use Rattle.journal_text.specs.Lines.{body_after, words_after, line_after, Takes};
 ghost use Rattle.journal_text.specs.Fields.{one_of};
 
 use crate::entries::entry_behind;
@@ -78,7 +79,8 @@ fn take_entry(draft: &mut Draft, entry: Option<Entry>) -> Result<bool, NoMemory>
 /// Takes a line behind the first `seat` line, if it may come next.
 #[tactic(auto, unfolding(crate::specs::Lines::body_after))]
 fn take_body(alloc: Global, draft: &mut Draft, word: &[u8], rest: &[u8]) -> Result<bool, NoMemory>
-    ensures { IfOk result (λ fits. Takes fits (body_after (progress draft.old) word.now rest.now) (progress draft.new)) }
+    ensures { IfOk result
+        (λ fits. Takes fits (body_after (progress draft.old) word.now rest.now) (progress draft.new)) }
 {
     let Some(keyword) = find_keyword(word) else {
         return Ok(false);
@@ -106,7 +108,8 @@ fn take_body(alloc: Global, draft: &mut Draft, word: &[u8], rest: &[u8]) -> Resu
 /// Takes a line that isn't blank, if it may come next.
 #[tactic(auto, unfolding(crate::specs::Lines::words_after))]
 fn take_words(alloc: Global, draft: &mut Draft, word: &[u8], rest: &[u8]) -> Result<bool, NoMemory>
-    ensures { IfOk result (λ fits. Takes fits (words_after (progress draft.old) word.now rest.now) (progress draft.new)) }
+    ensures { IfOk result
+        (λ fits. Takes fits (words_after (progress draft.old) word.now rest.now) (progress draft.new)) }
 {
     if draft.heading.stage == Stage::Entries {
         return take_body(alloc, draft, word, rest);

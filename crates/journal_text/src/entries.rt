@@ -1,7 +1,8 @@
 //! Entries, as lines say them.
 
 ghost use Rattle.std.specs.Prelude.{◌≡◌, ◌<◌, IfSome};
-ghost use Rattle.journal_text.specs.Entries.{cpu_of, listed_mask_of, mask_of, by_list_of, at_of, list_of, enq_of, set_mask_of, stood_of, refused_of, entry_after};
+ghost use Rattle.journal_text.specs.Entries.{cpu_of, listed_mask_of, mask_of, by_list_of, at_of, list_of, enq_of};
+ghost use Rattle.journal_text.specs.Entries.{set_mask_of, stood_of, refused_of, entry_after};
 
 use crate::fields::{field, find_byte, long_number, number, only, short_number, three, two};
 use crate::keyword::Keyword;

@@ -3,7 +3,8 @@
 ghost use Rattle.std.specs.List.{position_or_len};
 ghost use Rattle.std.specs.Prelude.{◌==◌, ◌≡◌, ◌<◌, ◌≤◌, length};
 ghost use Rattle.std.specs.Option.{option_map};
-ghost use Rattle.journal_text.specs.Fields.{is_blank, gap_len, word_len, field_at, number_of, ended, u64_at, u32_at, one_of, two_of, three_of};
+ghost use Rattle.journal_text.specs.Fields.{is_blank, gap_len, word_len, field_at, number_of, ended, u64_at, u32_at};
+ghost use Rattle.journal_text.specs.Fields.{one_of, two_of, three_of};
 
 fn blank(byte: u8) -> bool
     ensures { result ≡ is_blank byte }

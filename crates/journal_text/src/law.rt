@@ -2,7 +2,8 @@
 
 ghost use Rattle.std.specs.Prelude.{◌≡◌, ◌≤◌, ◌+◌, ℕ, List, Ok, length};
 ghost use Rattle.handoff_data.specs.History.{History};
-ghost use Rattle.journal_text.specs.Freedoms.{ChangesNothing, DiffersByOneFreedom, HasMoreBlanks, HasMoreLines, HasMoreReturns, HasMoreZeros, HasOtherOrder};
+ghost use Rattle.journal_text.specs.Freedoms.{ChangesNothing, DiffersByOneFreedom, HasMoreBlanks, HasMoreLines};
+ghost use Rattle.journal_text.specs.Freedoms.{HasMoreReturns, HasMoreZeros, HasOtherOrder};
 ghost use Rattle.journal_text.specs.Readable.{AreReadable, text_of};
 ghost use Rattle.journal_text.specs.Refusals.{RefusedLinesAreFinal};
 ghost use Rattle.journal_text.specs.Spelling.{spelling};
@@ -11,13 +12,16 @@ ghost use Rattle.journal_text.specs.Text.{byte_limit, entry_count, reading};
 /// Reading what was written gives the journals back, where they are in the reader's ranges and the text is within
 /// its limit.
 pub fn written_is_read()
-    ensures { (j : History) → AreReadable j → length (text_of (spelling j)) ≤ byte_limit → reading (text_of (spelling j)) ≡ Ok j }
+    ensures { (j : History) → AreReadable j → length (text_of (spelling j)) ≤ byte_limit
+        → reading (text_of (spelling j)) ≡ Ok j }
 {}
 
-/// A text of journals is within the limit, and says at most one journal or one entry a line. A law: the call does nothing.
+/// A text of journals is within the limit, and says at most one journal or one entry a line. A law: the call does
+/// nothing.
 pub fn texts_are_bounded()
     ensures within { (bytes : List ℕ) (j : History) → reading bytes ≡ Ok j → length bytes ≤ byte_limit }
-    ensures few { (bytes : List ℕ) (j : History) → reading bytes ≡ Ok j → length j.seats + entry_count j ≤ length bytes + 1 }
+    ensures few { (bytes : List ℕ) (j : History) → reading bytes ≡ Ok j → length j.seats + entry_count j ≤ length bytes
+        + 1 }
 {}
 
 /// A carriage return more at the end of a line changes nothing of what is read. A law: the call does nothing.

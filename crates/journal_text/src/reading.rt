@@ -64,7 +64,8 @@ fn new_draft(alloc: Global) -> Draft
 /// The journals that the lines have said, or the line on which `end` is missing.
 #[tactic(auto, unfolding(crate::specs::Text::history_of))]
 fn finish(draft: Draft, line: u64) -> Result<Journals, JournalError>
-    ensures { MatchResult result (λ j. history_of (progress draft) line ≡ Ok j) (λ e. IsFault e (history_of (progress draft) line)) }
+    ensures { MatchResult result (λ j. history_of (progress draft) line ≡ Ok j)
+        (λ e. IsFault e (history_of (progress draft) line)) }
 {
     let Draft {
         heading,
@@ -92,7 +93,8 @@ fn finish_with(
     room: usize,
 ) -> Result<Journals, JournalError>
     requires { line < 2 ^ 63 }
-    ensures { MatchResult result (λ j. last_of line room (progress draft) text.now ≡ Ok j) (λ e. IsFault e (last_of line room (progress draft) text.now)) }
+    ensures { MatchResult result (λ j. last_of line room (progress draft) text.now ≡ Ok j)
+        (λ e. IsFault e (last_of line room (progress draft) text.now)) }
 {
     if text.is_empty() {
         return finish(draft, line);

@@ -3,7 +3,8 @@
 ghost use Rattle.std.specs.Prelude.{◌≡◌, ◌+◌, ◌++◌, ◌∷◌, [], map, length, drop, IfOk, OnOk, MatchOption, string_bytes};
 ghost use Rattle.std.specs.List.{flat_map};
 ghost use Rattle.handoff_data.specs.Line.{IsLine};
-ghost use Rattle.journal_text.specs.Spelling.{field, fields, behind_comma, members, mask_text, entry_line, seat_lines, first_lines, spelling};
+ghost use Rattle.journal_text.specs.Spelling.{field, fields, behind_comma, members, mask_text, entry_line, seat_lines};
+ghost use Rattle.journal_text.specs.Spelling.{first_lines, spelling};
 
 use handoff_data::{CpuMask, CpuNo, Entry, Journal, Journals, Line, Lines, NoMemory};
 use std::alloc::Global;

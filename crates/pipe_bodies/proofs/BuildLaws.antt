@@ -25,7 +25,8 @@ none-some : (r : Option Ring) → IsSome r → r ≡ None → ⊥
 none-some None s e = cc
 none-some (Some x) s e = cc
 
-SideIn-set : (from : List ℕ) (r : Option Ring) (n : ℕ) (outs : List (Option Ring)) (y : ℕ) (v : Option Ring) → slice_index_or outs y None ≡ None → SideIn from r n outs → SideIn from r n (slice_set outs y v)
+SideIn-set : (from : List ℕ) (r : Option Ring) (n : ℕ) (outs : List (Option Ring)) (y : ℕ) (v : Option Ring) → slice_index_or outs y None ≡ None → SideIn from r n outs
+    → SideIn from r n (slice_set outs y v)
 SideIn-set [] r n outs y v free s = s
 SideIn-set (x ∷ from) r n outs y v free s =
     let ne : x ≢ y = λ (e : x ≡ y). none-some r s.1 (s.2 ∙ ap (λ z. slice_index_or outs z None) e ∙ free) in
@@ -74,7 +75,8 @@ module _ (ds : List TaskDef) (reads : List ℕ) (parts : List Part) (outs : List
     parts_length = length-push parts p ∙ ap (λ z. z + 1) b.parts_length ∙ sym (length-push ds d);
     outputs_length = length-push outs None ∙ ap (λ z. z + 1) b.outputs_length ∙ sym (length-push ds d);
     joints = λ k e q l. below_more (λ n. JointIn (slice_index_or (ds ++ d ∷ []) n e) (slice_index_or (parts ++ p ∷ []) n q) n (outs ++ None ∷ [])) (length ds)
-        (λ n below. let pl : n < length parts = subst (λ z. n < z) (sym b.parts_length) below in rw (get_or_append_left ds (d ∷ []) e n below, get_or_append_left parts (p ∷ []) q n pl) (JointIn-push _ _ n outs (b.joints n e q below)))
+        (λ n below. let pl : n < length parts = subst (λ z. n < z) (sym b.parts_length) below in
+        rw (get_or_append_left ds (d ∷ []) e n below, get_or_append_left parts (p ∷ []) q n pl) (JointIn-push _ _ n outs (b.joints n e q below)))
         (rw (get_or_push ds d e (length ds) refl, get_or_push parts p q (length ds) b.parts_length) (JointIn-push d p (length ds) outs j)) k (subst (λ z. k < z) (length-push ds d) l);
     unread = λ x n. get-none outs x ∙ b.unread x n;
   }
@@ -194,7 +196,12 @@ pub built-step : (ds : List TaskDef) (d : TaskDef) (reads : List ℕ) (b0 b1 b2 
     → map part_of b2 ≡ map part_of b0 → n.lasting ≡ lasting_by t d.plan l r → t ≡ length ds
     → Built (ds ++ d ∷ []) (reads_on d.from reads) (map part_of (b2 ++ n ∷ [])) (map output_of (b2 ++ n ∷ []))
 built-step ds d reads b0 b1 b2 n t l r b s k p q pe le te =
-    let part : part_of n ≡ record { task = length ds; begun = d.plan; left = l; right = r } = ap (λ (z : Lasting). let p : Part = record { task = z.task; begun = z.begun; left = z.rings.left; right = z.rings.right } in p) le
+    let part : part_of n ≡ record { task = length ds; begun = d.plan; left = l; right = r } = ap (λ (z : Lasting). let p : Part = record {
+      task = z.task;
+      begun = z.begun;
+      left = z.rings.left;
+      right = z.rings.right;
+    } in p) le
     ∙ ap (λ z. let p : Part = record { task = z; begun = d.plan; left = l; right = r } in p) te in
     let out : output_of n ≡ None = ap (λ (z : Lasting). z.rings.output) le in
     rw (map-append part_of b2 (n ∷ []), map-append output_of b2 (n ∷ []), part, out, pe)
@@ -207,13 +214,15 @@ module _ (room : ℕ) where
   begun-at [] bs b l f e all = absurd (omega arith)
   begun-at (x ∷ from) bs b l f e all = subst (λ z. IsBegun room z) (sym e) (all x b (subst (λ z. x < z) (length-map bs output_of) f.0))
 
-  pub begun-joined : (bs : List BodyView) (x : ℕ) (b b' : BodyView) (ring : Ring) → All (IsBegun room) bs → IsBegun room b → b'.lasting ≡ joined_by b.lasting ring → ring.room ≡ room → IsFresh b' → All (IsBegun room) (set bs x b')
+  pub begun-joined : (bs : List BodyView) (x : ℕ) (b b' : BodyView) (ring : Ring) → All (IsBegun room) bs → IsBegun room b → b'.lasting ≡ joined_by b.lasting ring → ring.room ≡ room → IsFresh b'
+      → All (IsBegun room) (set bs x b')
   begun-joined bs x b b' ring all old l r fresh = All-set (IsBegun room) bs x b' (record {
     fresh = fresh;
     rooms = subst (λ z. HasRoom room z) (sym l) (record { left = old.rooms.left; right = old.rooms.right; output = r });
   }) all
 
-  pub begun-push : (bs : List BodyView) (b : BodyView) (t : ℕ) (p : Plan) (l r : Option Ring) → All (IsBegun room) bs → b.lasting ≡ lasting_by t p l r → IsOfRoom room l → IsOfRoom room r → IsFresh b → All (IsBegun room) (bs ++ b ∷ [])
+  pub begun-push : (bs : List BodyView) (b : BodyView) (t : ℕ) (p : Plan) (l r : Option Ring) → All (IsBegun room) bs → b.lasting ≡ lasting_by t p l r → IsOfRoom room l → IsOfRoom room r → IsFresh b
+      → All (IsBegun room) (bs ++ b ∷ [])
   begun-push bs b t p l r all e left right fresh = All-push (IsBegun room) bs b all (record {
     fresh = fresh;
     rooms = subst (λ z. HasRoom room z) (sym e) (record { left = left; right = right; output = tt });

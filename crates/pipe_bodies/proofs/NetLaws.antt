@@ -62,13 +62,25 @@ module _ (rings : List (Option Ring)) (pasts : List (List Item)) (kept done : Li
     rings_length = length-append rings (r ∷ []) ∙ ap (λ z. z + 1) all.rings_length ∙ sym (length-append done (x ∷ []));
     pasts_length = length-append pasts (p ∷ []) ∙ ap (λ z. z + 1) all.pasts_length ∙ sym (length-append done (x ∷ []));
     kept_length = length-append kept (k ∷ []) ∙ ap (λ z. z + 1) all.kept_length ∙ sym (length-append done (x ∷ []));
-    each = λ t within. below_more (λ n. PutOut (slice_index_or (rings ++ r ∷ []) n None) (slice_index_or (pasts ++ p ∷ []) n []) (slice_index_or (kept ++ k ∷ []) n []) (slice_index_or (done ++ x ∷ []) n [])) (length done)
+    each =
+        λ t within. below_more
+        (λ n. PutOut (slice_index_or (rings ++ r ∷ []) n None) (slice_index_or (pasts ++ p ∷ []) n []) (slice_index_or (kept ++ k ∷ []) n []) (slice_index_or (done ++ x ∷ []) n [])) (length done)
         (λ n below.
         let rl : n < length rings = subst (λ z. n < z) (sym all.rings_length) below in
         let pl : n < length pasts = subst (λ z. n < z) (sym all.pasts_length) below in
         let kl : n < length kept = subst (λ z. n < z) (sym all.kept_length) below in
-        rw (get_or_append_left rings (r ∷ []) None n rl, get_or_append_left pasts (p ∷ []) [] n pl, get_or_append_left kept (k ∷ []) [] n kl, get_or_append_left done (x ∷ []) [] n below) (all.each n below))
-        (rw (get_or_push rings r None (length done) all.rings_length, get_or_push pasts p [] (length done) all.pasts_length, get_or_push kept k [] (length done) all.kept_length, get_or_push done x [] (length done) refl) out)
+        rw (
+          get_or_append_left rings (r ∷ []) None n rl,
+          get_or_append_left pasts (p ∷ []) [] n pl,
+          get_or_append_left kept (k ∷ []) [] n kl,
+          get_or_append_left done (x ∷ []) [] n below,
+        ) (all.each n below))
+        (rw (
+          get_or_push rings r None (length done) all.rings_length,
+          get_or_push pasts p [] (length done) all.pasts_length,
+          get_or_push kept k [] (length done) all.kept_length,
+          get_or_push done x [] (length done) refl,
+        ) out)
         t (subst (λ z. t < z) (length-append done (x ∷ [])) within);
   }
 
@@ -93,7 +105,8 @@ module _ {A P : Type 0} where
 
 -- ---- the parts of one more body
 
-pub settled : {W : Type 0} (d : TaskDef) (l : Lasting) (a : Seen) (p : Parts W) (left right : Option (Consumer Item Global AnyItems)) (before between after : List (Option (Producer Item Global AnyItems))) (kept done : List (List Line))
+pub settled : {W : Type 0} (d : TaskDef) (l : Lasting) (a : Seen) (p : Parts W) (left right : Option (Consumer Item Global AnyItems))
+    (before between after : List (Option (Producer Item Global AnyItems))) (kept done : List (List Line))
     → Sound l.begun a → a.ended ≡ true → KeepsNone (out_ring p.output) p.kept → IsJoint d l (map out_ring before) → AllPutOut (map out_ring before) (map sent_by before) kept done
     → seen p ≡ a → got left ≡ got p.left → got right ≡ got p.right
     → map sent_by between ≡ map sent_by before → map out_ring after ≡ map out_ring before → map sent_by after ≡ map sent_by before

@@ -84,7 +84,8 @@ side_ring : (outs more : List (Option Ring)) (x : ℕ) (ring : Option Ring) → 
 side_ring outs more x ring within some e = subst (λ z. IsSome z) (e ∙ sym (get_or_append_left outs more None x within)) some
 
 module _ (outs more : List (Option Ring)) (t : ℕ) where
-  from_ring : (from : List ℕ) (left right : Option Ring) → length from ≤ 2 → IsSide from left outs → IsSide (others from) right outs → is_among from t ≡ true → IsSome (slice_index_or (outs ++ more) t None)
+  from_ring : (from : List ℕ) (left right : Option Ring) → length from ≤ 2 → IsSide from left outs → IsSide (others from) right outs → is_among from t ≡ true
+      → IsSome (slice_index_or (outs ++ more) t None)
   from_ring [] left right few l r among = cc
   from_ring (x ∷ []) left right few l r among = first_ring x left l (nat_eq x t) refl among where
     first_ring : (x : ℕ) (left : Option Ring) → IsSide (x ∷ []) left outs → (b : Bool) → nat_eq x t ≡ b → (b || false) ≡ true → IsSome (slice_index_or (outs ++ more) t None)
@@ -97,15 +98,19 @@ module _ (outs more : List (Option Ring)) (t : ℕ) where
     either_ring false false e f among = cc
   from_ring (x ∷ y ∷ z ∷ from) left right few l r among = absurd (omega arith)
 
-read_ring : (outs : List (Option Ring)) (ds : List TaskDef) (ls : List Lasting) → IsNetAfter outs ds ls → (t : ℕ) → is_among (reads ds) t ≡ true → IsSome (slice_index_or (outs ++ map output_in ls) t None)
+read_ring : (outs : List (Option Ring)) (ds : List TaskDef) (ls : List Lasting) → IsNetAfter outs ds ls → (t : ℕ) → is_among (reads ds) t ≡ true
+    → IsSome (slice_index_or (outs ++ map output_in ls) t None)
 read_ring outs [] [] n t among = cc
 read_ring outs [] (l ∷ ls) n t among = absurd n
 read_ring outs (d ∷ ds) [] n t among = absurd n
-read_ring outs (d ∷ ds) (l ∷ ls) n t among = by_reader (is_among d.from t) refl (sym (list_any-append (λ s. nat_eq s t) d.from (reads ds)) ∙ among) (λ later. read_ring (outs ++ output_in l ∷ []) ds ls n.1 t later) where
-  by_reader : (b : Bool) → is_among d.from t ≡ b → (b || is_among (reads ds) t) ≡ true → (is_among (reads ds) t ≡ true → IsSome (slice_index_or ((outs ++ output_in l ∷ []) ++ map output_in ls) t None))
-      → IsSome (slice_index_or (outs ++ (output_in l ∷ map output_in ls)) t None)
-  by_reader true here among later = let most = most_sides d.plan in let inputs = n.0.inputs in from_ring outs (output_in l ∷ map output_in ls) t d.from l.rings.left l.rings.right (omega arith) n.0.left n.0.right here
-  by_reader false here among later = subst (λ z. IsSome (slice_index_or z t None)) (append_assoc outs (output_in l ∷ []) (map output_in ls)) (later among)
+read_ring outs (d ∷ ds) (l ∷ ls) n t among = by_reader (is_among d.from t) refl (sym (list_any-append (λ s. nat_eq s t) d.from (reads ds)) ∙ among)
+    (λ later. read_ring (outs ++ output_in l ∷ []) ds ls n.1 t later) where
+      by_reader : (b : Bool) → is_among d.from t ≡ b → (b || is_among (reads ds) t) ≡ true
+          → (is_among (reads ds) t ≡ true → IsSome (slice_index_or ((outs ++ output_in l ∷ []) ++ map output_in ls) t None))
+          → IsSome (slice_index_or (outs ++ (output_in l ∷ map output_in ls)) t None)
+      by_reader true here among later = let most = most_sides d.plan in let inputs = n.0.inputs in
+          from_ring outs (output_in l ∷ map output_in ls) t d.from l.rings.left l.rings.right (omega arith) n.0.left n.0.right here
+      by_reader false here among later = subst (λ z. IsSome (slice_index_or z t None)) (append_assoc outs (output_in l ∷ []) (map output_in ls)) (later among)
 
 -- ---- at the end
 
@@ -132,7 +137,8 @@ module _ (tasks : List TaskDef) (all rest : List BodyView) (outs : Outputs) (kep
     kept_by : (t : ℕ) (read : Bool) → is_among (reads tasks) t ≡ read → t < length s.done → slice_index_or kept t [] ≡ (if read then [] else slice_index_or s.done t [])
     kept_by t true among within =
         let ring : IsSome (slice_index_or (map output_in (map lasting_of all)) t None) = read_ring [] tasks (map lasting_of all) net.joined t among in
-        none_kept (slice_index_or (map out_ring outs) t None) (slice_index_or kept t []) (subst (λ z. IsSome (slice_index_or z t None)) (every_ring all ∙ sym rings) ring) (s.put_out.each t within).none
+        none_kept (slice_index_or (map out_ring outs) t None) (slice_index_or kept t []) (subst (λ z. IsSome (slice_index_or z t None)) (every_ring all ∙ sym rings) ring)
+        (s.put_out.each t within).none
     kept_by t false among within =
         (s.put_out.each t within).in_kept (ap (λ z. slice_index_or z t None) (rings ∙ sym (every_ring all)) ∙ net.unread t among)
 

@@ -152,7 +152,8 @@ after-joined (Weave turn false) side End l r j = j
 after-joined (Weave turn true) side End l r j = tt
 after-joined (Pin n on) side End l r j = tt
 
-count-joined : (n m : ℕ) (b c : Bool) (l r : Option Ring) → IsJoined (Some (Count n m)) l r → IsJoined (plan_made (if b then Some (decimal n, (if c then Count (n + 1) m else Count 1 0)) else None)) l r
+count-joined : (n m : ℕ) (b c : Bool) (l r : Option Ring) → IsJoined (Some (Count n m)) l r
+    → IsJoined (plan_made (if b then Some (decimal n, (if c then Count (n + 1) m else Count 1 0)) else None)) l r
 count-joined n m true true l r j = j
 count-joined n m true false l r j = j
 count-joined n m false c l r j = tt

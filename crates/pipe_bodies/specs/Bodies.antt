@@ -20,7 +20,11 @@ pub record BodyView : Type 0 where
   pub broken : Bool
 
 abbrev pub lasting_by : ℕ → Plan → Option Ring → Option Ring → Lasting
-lasting_by task begun left right = record { task = task; begun = begun; rings = record { left = left; right = right; output = None } }
+lasting_by task begun left right = record {
+  task = task;
+  begun = begun;
+  rings = record { left = left; right = right; output = None };
+}
 
 abbrev pub joined_by : Lasting → Ring → Lasting
 joined_by l ring = record l { rings = record l.rings { output = Some ring } }
@@ -35,7 +39,8 @@ abbrev pub free_at_first : Option Ring → ℕ
 free_at_first None = 1
 free_at_first (Some ring) = ring.room
 
--- nothing was taken, held, put out or kept, no memory was refused, the plan is that of the build, and the rings are empty
+-- nothing was taken, held, put out or kept, no memory was refused, the plan is that of the build, and the rings are
+-- empty
 pub record IsFresh (b : BodyView) : Type 0 where
   pub seen : b.seen ≡ fresh_seen b.lasting.begun
   pub known : b.known ≡ record { left = []; right = []; free = free_at_first b.lasting.rings.output }

@@ -14,4 +14,5 @@ view_of b = record {
 }
 
 abbrev pub IsBody : {W : Type 0} → Inside W → Type 0
-IsBody b = Stands (plan_of b.origin.numbers) (seen b.parts) (rings b.parts) b.broken × KeepsNone (rings b.parts).output b.parts.kept × IsClear b.broken b.parts.said
+IsBody b = Stands (plan_of b.origin.numbers) (seen b.parts) (rings b.parts) b.broken
+    × KeepsNone (rings b.parts).output b.parts.kept × IsClear b.broken b.parts.said

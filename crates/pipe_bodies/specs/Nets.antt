@@ -1,5 +1,6 @@
 -- Tasks that read earlier tasks, and the lines of each.
-use Rattle.std.specs.Prelude.{◌≡◌, ◌≢◌, ◌<◌, ◌+◌, ℕ, List, [], ◌∷◌, ◌++◌, length, map, slice_index_or, slice_set, true, false, Option, Some, None, IsSome}
+use Rattle.std.specs.Prelude.{◌≡◌, ◌≢◌, ◌<◌, ◌+◌, ℕ, List, [], ◌∷◌, ◌++◌, length, map, slice_index_or, slice_set, true}
+use Rattle.std.specs.Prelude.{false, Option, Some, None, IsSome}
 use Rattle.rtrb.specs.Ring.{sent}
 use Rattle.rtrb.specs.declared.producer.Producer.{Producer}
 use Rattle.task_script.specs.Plan.{sides}
@@ -74,11 +75,14 @@ pub record PutOut (ring : Option Ring) (past : List Item) (kept : List Line) (li
   pub none : KeepsNone ring kept
 
 -- each task that is done has put out its lines
-pub record AllPutOut (rings : List (Option Ring)) (pasts : List (List Item)) (kept done : List (List Line)) : Type 0 where
+pub record AllPutOut (rings : List (Option Ring)) (pasts : List (List Item))
+    (kept done : List (List Line)) : Type 0 where
   pub rings_length : length rings ≡ length done
   pub pasts_length : length pasts ≡ length done
   pub kept_length : length kept ≡ length done
-  pub each : (t : ℕ) → t < length done → PutOut (slice_index_or rings t None) (slice_index_or pasts t []) (slice_index_or kept t []) (slice_index_or done t [])
+  pub each : (t : ℕ) → t < length done
+      → PutOut (slice_index_or rings t None) (slice_index_or pasts t []) (slice_index_or kept t [])
+      (slice_index_or done t [])
 
 abbrev pub first_of : List ℕ → Option ℕ
 first_of [] = None
@@ -106,7 +110,8 @@ reads_on (x ∷ from) reads = reads_on from (x ∷ reads)
 
 abbrev pub CanBeJoinedAfter : ℕ → List ℕ → List TaskDef → Type 0
 CanBeJoinedAfter n reads [] = Unit {0}
-CanBeJoinedAfter n reads (d ∷ ds) = (length d.from ≡ sides d.plan) × IsReading n reads d.from × CanBeJoinedAfter (n + 1) (reads_on d.from reads) ds
+CanBeJoinedAfter n reads (d ∷ ds) = (length d.from ≡ sides d.plan) × IsReading n reads d.from
+    × CanBeJoinedAfter (n + 1) (reads_on d.from reads) ds
 
 -- all tasks that are read
 abbrev pub reads_after : List ℕ → List TaskDef → List ℕ
@@ -134,7 +139,12 @@ pub record Part : Type 0 where
   pub right : Option Ring
 
 abbrev pub part_of : BodyView → Part
-part_of b = record { task = b.lasting.task; begun = b.lasting.begun; left = b.lasting.rings.left; right = b.lasting.rings.right }
+part_of b = record {
+  task = b.lasting.task;
+  begun = b.lasting.begun;
+  left = b.lasting.rings.left;
+  right = b.lasting.rings.right;
+}
 
 -- nobody reads the first task of a list yet
 abbrev pub IsFree : List ℕ → List (Option Ring) → Type 0
@@ -160,5 +170,6 @@ pub record JointIn (d : TaskDef) (p : Part) (n : ℕ) (outputs : List (Option Ri
 pub record Built (ds : List TaskDef) (reads : List ℕ) (parts : List Part) (outputs : List (Option Ring)) : Type 0 where
   pub parts_length : length parts ≡ length ds
   pub outputs_length : length outputs ≡ length ds
-  pub joints : (k : ℕ) (d : TaskDef) (p : Part) → k < length ds → JointIn (slice_index_or ds k d) (slice_index_or parts k p) k outputs
+  pub joints : (k : ℕ) (d : TaskDef) (p : Part) → k < length ds
+      → JointIn (slice_index_or ds k d) (slice_index_or parts k p) k outputs
   pub unread : (x : ℕ) → NotIn reads x → slice_index_or outputs x None ≡ None

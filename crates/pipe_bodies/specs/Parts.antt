@@ -11,7 +11,14 @@ use Rattle.pipe_bodies.specs.declared.item.Item.{Item}
 use Rattle.pipe_bodies.specs.declared.item.Item.TheVariants.{Text, End}
 
 abbrev pub seen : {W : Type 0} → Parts W → Seen
-seen a = record { got_left = got a.left; got_right = got a.right; out = out_of a.output a.kept a.ended; held = a.held; plan = plan_on a.plan; ended = a.ended }
+seen a = record {
+  got_left = got a.left;
+  got_right = got a.right;
+  out = out_of a.output a.kept a.ended;
+  held = a.held;
+  plan = plan_on a.plan;
+  ended = a.ended;
+}
 
 pub record Rings : Type 0 where
   pub left : Option Ring

@@ -25,21 +25,29 @@ is_end End = true
 -- the oldest held item goes out, or the ring handed it back
 abbrev pub PutsOut : Item → List Item → Seen → Seen → Verdict → Type 0
 PutsOut i h a b v =
-    ((b ≡ record a { out = a.out ++ i ∷ []; held = h; ended = is_end i }) × (v.read ≡ None) × (v.wrote ≡ true) × (v.then ≡ More) × (v.pin ≡ pinned b.plan))
+    ((b ≡ record a { out = a.out ++ i ∷ []; held = h; ended = is_end i }) × (v.read ≡ None) × (v.wrote ≡ true)
+    × (v.then ≡ More) × (v.pin ≡ pinned b.plan))
     ⊎ ((b ≡ a) × (v.read ≡ None) × (v.wrote ≡ false) × (v.then ≡ WaitOut) × (v.pin ≡ pinned b.plan))
 
 -- an item is taken from the left or the right side, or nothing was there
 abbrev pub TakesFrom : ℕ → Plan → Seen → Seen → Verdict → Type 0
 TakesFrom zero p a b v =
-    ((i : Item) × (b ≡ record a { got_left = a.got_left ++ i ∷ []; held = heard p 0 i; plan = after p 0 i }) × (v.read ≡ Some 0) × (v.wrote ≡ false) × (v.then ≡ More) × (v.pin ≡ pinned b.plan))
+    ((i : Item) × (b ≡ record a { got_left = a.got_left ++ i ∷ []; held = heard p 0 i; plan = after p 0 i })
+    × (v.read ≡ Some 0) × (v.wrote ≡ false) × (v.then ≡ More) × (v.pin ≡ pinned b.plan))
     ⊎ ((b ≡ a) × (v.read ≡ None) × (v.wrote ≡ false) × (v.then ≡ WaitIn 0) × (v.pin ≡ pinned b.plan))
 TakesFrom (suc k) p a b v =
-    ((i : Item) × (b ≡ record a { got_right = a.got_right ++ i ∷ []; held = heard p (suc k) i; plan = after p (suc k) i }) × (v.read ≡ Some (suc k)) × (v.wrote ≡ false) × (v.then ≡ More) × (v.pin ≡ pinned b.plan))
+    ((i : Item) × (b ≡ record a {
+      got_right = a.got_right ++ i ∷ [];
+      held = heard p (suc k) i;
+      plan = after p (suc k) i;
+    }) × (v.read ≡ Some (suc k)) × (v.wrote ≡ false) × (v.then ≡ More)
+    × (v.pin ≡ pinned b.plan))
     ⊎ ((b ≡ a) × (v.read ≡ None) × (v.wrote ≡ false) × (v.then ≡ WaitIn (suc k)) × (v.pin ≡ pinned b.plan))
 
 -- a source's next item, or an item of the side that the plan wants
 abbrev pub Goes : Option ℕ → Plan → Seen → Seen → Verdict → Type 0
-Goes None p a b v = (b ≡ record a { held = makes p; plan = more p }) × (v.read ≡ None) × (v.wrote ≡ false) × (v.then ≡ More) × (v.pin ≡ pinned b.plan)
+Goes None p a b v = (b ≡ record a { held = makes p; plan = more p }) × (v.read ≡ None) × (v.wrote ≡ false)
+    × (v.then ≡ More) × (v.pin ≡ pinned b.plan)
 Goes (Some side) p a b v = TakesFrom side p a b v
 
 abbrev pub GoesOn : Option Plan → Seen → Seen → Verdict → Type 0
@@ -92,9 +100,11 @@ WaitsFor Exit k = Unit {0}
 
 -- ---- what stays true
 
--- whatever is still to come, the plan at build puts out for all of it what was put out, then what is held, then what the plan puts out for the rest
+-- whatever is still to come, the plan at build puts out for all of it what was put out, then what is held, then what
+-- the plan puts out for the rest
 abbrev pub Faithful : Plan → Seen → Type 0
-Faithful begun a = (s t : List Item) → outputs (Some begun) (a.got_left ++ s) (a.got_right ++ t) ≡ (a.out ++ a.held) ++ outputs a.plan s t
+Faithful begun a = (s t : List Item) → outputs (Some begun) (a.got_left ++ s) (a.got_right ++ t) ≡ (a.out ++ a.held)
+    ++ outputs a.plan s t
 
 abbrev pub NoEnd : List Item → Type 0
 NoEnd [] = Unit {0}

@@ -10,7 +10,8 @@ use Rattle.pipe_tasks.specs.Words.{Line, upper_line, counted, count_line, number
 use Rattle.pipe_tasks.specs.Plans.{says, last, made, counts_on, numbered, lines_of}
 use Rattle.pipe_tasks.specs.Feeds.{Feeds, FeedingGivesLines}
 use Rattle.pipe_tasks.specs.Feeds.Feeds.{makes, made_all, first, first_end, first_ends, second, second_end, second_ends}
-use Rattle.pipe_tasks.proofs.PlanLaws.{numbered-counted, tallied, woven-cons, lines_of-first, lines_of-second, lines_of-first_end, lines_of-first_ends, lines_of-second_end, lines_of-second_ends, lines_of-made, own_lines}
+use Rattle.pipe_tasks.proofs.PlanLaws.{numbered-counted, tallied, woven-cons, lines_of-first, lines_of-second, lines_of-first_end, lines_of-first_ends, lines_of-second_end, lines_of-second_ends}
+use Rattle.pipe_tasks.proofs.PlanLaws.{lines_of-made, own_lines}
 
 -- ---- what is put out are the lines
 

@@ -1,5 +1,6 @@
 -- The plain run of a forest: which lists are still there while its tasks are run one after another.
-use Rattle.std.proofs.Common.{◌≡◌, ℕ, ◌+◌, ◌<◌, ◌≤◌, List, [], ◌∷◌, ◌++◌, length, map, get_or, Bool, true, false, ◌||◌, refl, sym, ap, ◌∙◌, subst, arith, append-nil, append_assoc, length-append, All, zero-add}
+use Rattle.std.proofs.Common.{◌≡◌, ℕ, ◌+◌, ◌<◌, ◌≤◌, List, [], ◌∷◌, ◌++◌, length, map, get_or, Bool, true, false, ◌||◌, refl, sym, ap, ◌∙◌, subst, arith, append-nil, append_assoc, length-append, All}
+use Rattle.std.proofs.Common.{zero-add}
 use Rattle.std.specs.Prelude.{◌≢◌, AllPairs, slice_index_or, slice_set, nat_eq, nat_lt, if◌then◌else◌}
 use Rattle.std.specs.List.{enumerate_from}
 use Rattle.std.proofs.lemmas.Bool.Decides.{nat_tests}
@@ -164,7 +165,8 @@ pub Foresting-ends : (tasks done rest : List TaskDef) (items : List (List Line))
 Foresting-ends tasks done [] items none f = Kept-is (all_lines done) (reads done) items f.kept ∙ ap forest_lines (sym (append-nil done) ∙ f.tasks_are)
 Foresting-ends tasks done (d ∷ rest) items none f = absurd (omega arith)
 
-module _ (tasks : List TaskDef) (forest : IsForest tasks) (done rest rest' : List TaskDef) (d : TaskDef) (items : List (List Line)) (f : Foresting tasks done rest' items) (next : rest' ≡ d ∷ rest) where
+module _ (tasks : List TaskDef) (forest : IsForest tasks) (done rest rest' : List TaskDef) (d : TaskDef) (items : List (List Line)) (f : Foresting tasks done rest' items)
+    (next : rest' ≡ d ∷ rest) where
   split : done ++ d ∷ rest ≡ tasks
   split = ap (λ z. done ++ z) (sym next) ∙ f.tasks_are
 
@@ -207,7 +209,8 @@ module _ (tasks : List TaskDef) (forest : IsForest tasks) (done rest rest' : Lis
       let longer = length-append done (d ∷ []) in
       let long = length-lines_after [] done in
       let count : length done ≡ length (all_lines done) = omega arith in
-      let none : is_among (reads done ++ d.from) (length (all_lines done)) ≡ false = none-above (reads done ++ d.from) (length (all_lines done)) (subst (λ n. All (λ s. s < n) (reads done ++ d.from)) count below_all) in
+      let none : is_among (reads done ++ d.from) (length (all_lines done)) ≡ false =
+      none-above (reads done ++ d.from) (length (all_lines done)) (subst (λ n. All (λ s. s < n) (reads done ++ d.from)) count below_all) in
       let lines : new ≡ task_lines d (all_lines done)
       = result ∙ ap (λ x. lines_of d.plan x (second_input d.from items)) (kept-first (all_lines done) (reads done) d.from (reads rest) items f.kept task-earlier distinct)
       ∙ ap (λ y. lines_of d.plan (first_input d.from (all_lines done)) y) (kept-second (all_lines done) (reads done) d.from (reads rest) items f.kept task-earlier distinct) in
@@ -217,8 +220,12 @@ module _ (tasks : List TaskDef) (forest : IsForest tasks) (done rest rest' : Lis
       let those : emptied d.from items ++ new ∷ [] ≡ items'' = ap (λ z. z ++ new ∷ []) (sym taken) ∙ sym pushed in
       record {
         tasks_are = append_assoc done (d ∷ []) rest ∙ split;
-        below = subst (λ z. All (λ s. s < length (done ++ d ∷ [])) z) (sym reads_more) (All-weaker (λ s. s < length done) (λ s. s < length (done ++ d ∷ [])) (λ s l. omega arith) (reads done ++ d.from) below_all);
-        kept = subst (λ z. Kept z (all_lines (done ++ d ∷ [])) items'') (sym reads_more) (subst (λ z. Kept (reads done ++ d.from) z items'') lists (subst (λ z. Kept (reads done ++ d.from) (all_lines done ++ new ∷ []) z) those kept));
+        below = subst (λ z. All (λ s. s < length (done ++ d ∷ [])) z) (sym reads_more) (All-weaker (λ s. s < length done) (λ s. s < length (done ++ d ∷ []))
+            (λ s l. omega arith) (reads done ++ d.from) below_all);
+        kept =
+            subst
+            (λ z. Kept z (all_lines (done ++ d ∷ [])) items'') (sym reads_more)
+            (subst (λ z. Kept (reads done ++ d.from) z items'') lists (subst (λ z. Kept (reads done ++ d.from) (all_lines done ++ new ∷ []) z) those kept));
       }
 
 -- the lists of the two tasks that a plan reads, one taken after the other

@@ -59,7 +59,8 @@ module _ (p p' : Plan) (x y out out' : List Line) where
     fewer = λ _. (let same = ap ends_left moved ∙ ends_left-next p 1 line in let longer = ap length popped in omega arith);
   }
 
-  pub advances-first_end : (on : Bool) (x' : List Line) → wants p ≡ Some 0 → x ≡ [] → x' ≡ [] → closed p 0 ≡ (if on then Some p' else None) → out' ≡ out ++ last p 0 → Advances p x y out on p' x' y out'
+  pub advances-first_end : (on : Bool) (x' : List Line) → wants p ≡ Some 0 → x ≡ [] → x' ≡ [] → closed p 0 ≡ (if on then Some p' else None) → out' ≡ out ++ last p 0
+      → Advances p x y out on p' x' y out'
   advances-first_end true x' w none none' e said =
       let g = goes_on p p' 0 e in
       record {
@@ -74,7 +75,8 @@ module _ (p p' : Plan) (x y out out' : List Line) where
     fewer = λ f. cc;
   }
 
-  pub advances-second_end : (on : Bool) (y' : List Line) → wants p ≡ Some 1 → y ≡ [] → y' ≡ [] → closed p 1 ≡ (if on then Some p' else None) → out' ≡ out ++ last p 1 → Advances p x y out on p' x y' out'
+  pub advances-second_end : (on : Bool) (y' : List Line) → wants p ≡ Some 1 → y ≡ [] → y' ≡ [] → closed p 1 ≡ (if on then Some p' else None) → out' ≡ out ++ last p 1
+      → Advances p x y out on p' x y' out'
   advances-second_end true y' w none none' e said =
       let g = goes_on p p' 1 e in
       record {

@@ -76,7 +76,8 @@ made-lines plan plan' line w m = lines_of-made plan [] [] w ∙ ap (λ (o : Opti
 pub Making-steps : (begun plan plan' : Plan) (line : Line) (out out' : List Line) → Making begun plan out → made plan ≡ Some (line, plan') → out' ≡ out ++ line ∷ [] → Making begun plan' out'
 Making-steps begun plan plan' line out out' m next pushed = record {
   source = made-wants plan plan' line next;
-  lines_are = m.lines_are ∙ ap (λ z. out ++ z) (made-lines plan plan' line m.source next) ∙ sym (append_assoc out (line ∷ []) (lines_of plan' [] [])) ∙ ap (λ z. z ++ lines_of plan' [] []) (sym pushed);
+  lines_are = m.lines_are ∙ ap (λ z. out ++ z) (made-lines plan plan' line m.source next) ∙ sym (append_assoc out (line ∷ []) (lines_of plan' [] []))
+      ∙ ap (λ z. z ++ lines_of plan' [] []) (sym pushed);
 }
 
 pub Making-fewer : (begun plan plan' : Plan) (line : Line) (out : List Line) → Making begun plan out → made plan ≡ Some (line, plan') → length (lines_of plan' [] []) < length (lines_of plan [] [])

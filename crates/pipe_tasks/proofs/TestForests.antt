@@ -59,5 +59,8 @@ first_two (suc i) j d l m = absurd (omega arith)
 
 pub two_read : (a b c : TaskDef) → a.from ≡ [] → sides a.plan ≡ 0 → b.from ≡ [] → sides b.plan ≡ 0 → c.from ≡ 0 ∷ 1 ∷ [] → sides c.plan ≡ 2 → IsForest (a ∷ b ∷ c ∷ [])
 two_read a b c from none from' none' reads_them two = one_more (a ∷ b ∷ []) c (two_sources a b from none from' none')
-    (subst (λ z. All (λ s. s < 2) z) (sym reads_them) (All-cons (λ s. s < 2) 0 (1 ∷ []) (omega arith) (All-cons (λ s. s < 2) 1 [] (omega arith) (All-nil (λ s. s < 2))))) (ap length reads_them ∙ sym two)
-    (subst (λ z. AllPairs Differ ((z ++ (b.from ++ [])) ++ c.from)) (sym from) (subst (λ z. AllPairs Differ ((z ++ []) ++ c.from)) (sym from') (subst (λ z. AllPairs Differ z) (sym reads_them) first_two)))
+    (subst (λ z. All (λ s. s < 2) z) (sym reads_them) (All-cons (λ s. s < 2) 0 (1 ∷ []) (omega arith) (All-cons (λ s. s < 2) 1 [] (omega arith) (All-nil (λ s. s < 2))))) (ap length reads_them
+    ∙ sym two)
+    (subst
+    (λ z. AllPairs Differ ((z ++ (b.from ++ [])) ++ c.from)) (sym from)
+    (subst (λ z. AllPairs Differ ((z ++ []) ++ c.from)) (sym from') (subst (λ z. AllPairs Differ z) (sym reads_them) first_two)))

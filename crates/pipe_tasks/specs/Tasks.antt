@@ -6,7 +6,8 @@ use Rattle.task_script.specs.declared.script.TaskDef.{TaskDef}
 use Rattle.pipe_tasks.specs.Words.{Line}
 use Rattle.pipe_tasks.specs.Plans.{lines_of}
 
--- the lines of the task on the first side and on the second, of the lines of the tasks before; none where no task is read
+-- the lines of the task on the first side and on the second, of the lines of the tasks before; none where no task is
+-- read
 abbrev pub first_input : List ℕ → List (List Line) → List Line
 first_input [] done = []
 first_input (t ∷ from) done = slice_index_or done t []
@@ -34,7 +35,8 @@ is_among tasks t = list_any (λ s. s == t) tasks
 
 -- the lines of each task that no other reads, in the order of the script; none in the place of a task that is read
 abbrev pub forest_lines : List TaskDef → List (List Line)
-forest_lines tasks = map (λ (e : ℕ × List Line). if is_among (reads tasks) e.0 then [] else e.1) (enumerate_from 0 (all_lines tasks))
+forest_lines tasks = map (λ (e : ℕ × List Line). if is_among (reads tasks) e.0 then [] else e.1)
+    (enumerate_from 0 (all_lines tasks))
 
 -- the lists after those of these tasks were taken
 abbrev pub emptied : List ℕ → List (List Line) → List (List Line)

@@ -39,7 +39,8 @@ fn run_reader(
     requires sides { length from.now ≡ sides plan }
     requires earlier { All (λ t. t < length done.old.items) from.now }
     requires once { AllPairs (λ s t. s ≢ t) from.now }
-    ensures lines { IfOk result (λ r. r ≡ lines_of plan (first_input from.now done.old.items) (second_input from.now done.old.items)) }
+    ensures lines { IfOk result
+        (λ r. r ≡ lines_of plan (first_input from.now done.old.items) (second_input from.now done.old.items)) }
     ensures taken { OnOk result (done.new.items ≡ emptied from.now done.old.items) }
 {
     match from {

@@ -39,7 +39,8 @@ fn advance(
     out: &mut Lines,
 ) -> Result<bool, NoMemory>
     requires { sides plan.old ≡ 2 }
-    ensures { IfOk result (λ on. Advances plan.old first.old second.old out.old on plan.new first.new second.new out.new) }
+    ensures { IfOk result
+        (λ on. Advances plan.old first.old second.old out.old on plan.new first.new second.new out.new) }
 {
     if wants_first(plan) {
         match first.pop() {

@@ -27,7 +27,8 @@ pub fn wanted_side(plan: &Plan) -> Option<u32>
 /// `NoMemory` where memory runs out.
 pub fn make_line(alloc: Global, plan: &mut Plan) -> Result<Option<Line>, NoMemory>
     requires { wants plan.old ≡ None }
-    ensures line { IfOk result (λ r. MatchOption r (made plan.old ≡ None) (λ line. made plan.old ≡ Some (line, plan.new))) }
+    ensures line { IfOk result
+        (λ r. MatchOption r (made plan.old ≡ None) (λ line. made plan.old ≡ Some (line, plan.new))) }
     ensures ended { IfOk result (λ r. r ≡ None → plan.new ≡ plan.old) }
     ensures err { OnErr result (plan.new ≡ plan.old) }
 {

@@ -21,7 +21,8 @@ HasNoAllowed cpus_ptr disabled active online = (c : ℕ) → ¬ IsAllowed c cpus
 pub record IsSelected (prev : ℕ) (cpus_ptr : CpuMask) (disabled : Bool) (active online : CpuMask) (c : ℕ) : Type 0 where
   pub allowed : IsAllowed c cpus_ptr disabled active online
   pub stays : IsAllowed prev cpus_ptr disabled active online → c ≡ prev
-  pub lowest : ¬ IsAllowed prev cpus_ptr disabled active online → (k : ℕ) → IsAllowed k cpus_ptr disabled active online → c ≤ k
+  pub lowest : ¬ IsAllowed prev cpus_ptr disabled active online → (k : ℕ) → IsAllowed k cpus_ptr disabled active online
+      → c ≤ k
 
 -- the processor is the lowest of the set
 pub record IsLowest (mask : CpuMask) (c : ℕ) : Type 0 where
@@ -29,12 +30,14 @@ pub record IsLowest (mask : CpuMask) (c : ℕ) : Type 0 where
   pub least : (k : ℕ) → HasCpu mask k → c ≤ k
 
 -- Nothing is allowed, so the task is put on the lowest active processor, and its mask becomes that of all processors.
-pub record IsWidened (cpus_ptr : CpuMask) (disabled : Bool) (active online possible : CpuMask) (c : ℕ) (mask : CpuMask) : Type 0 where
+pub record IsWidened (cpus_ptr : CpuMask) (disabled : Bool) (active online possible : CpuMask) (c : ℕ)
+    (mask : CpuMask) : Type 0 where
   pub none : HasNoAllowed cpus_ptr disabled active online
   pub lowest : IsLowest active c
   pub all : mask ≡ possible
 
 -- A task that was last on `prev` is put on c, and its mask is widened to the one that is given, or stays as it is.
-pub record IsPlaced (prev : ℕ) (cpus_ptr : CpuMask) (disabled : Bool) (active online possible : CpuMask) (c : ℕ) (widened : Option CpuMask) : Type 0 where
+pub record IsPlaced (prev : ℕ) (cpus_ptr : CpuMask) (disabled : Bool) (active online possible : CpuMask) (c : ℕ)
+    (widened : Option CpuMask) : Type 0 where
   pub selected : IfNone widened (IsSelected prev cpus_ptr disabled active online c)
   pub anywhere : IfSome widened (IsWidened cpus_ptr disabled active online possible c)

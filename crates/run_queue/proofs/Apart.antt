@@ -125,7 +125,13 @@ module _ (old : List Rec) where
   made_runnable_apart t = record { untouched = untouched_next old (MadeRunnable t) refl; waits = refl; owes = refl; retaken = refl; passed = λ k u e. grind (arith, nat_tests, e) }
 
   pub state_apart : (t : ℕ) (mask : Option State) (state : State) → IsApart old (LoadedState t mask state ∷ old)
-  state_apart t mask state = record { untouched = untouched_next old (LoadedState t mask state) refl; waits = refl; owes = refl; retaken = refl; passed = λ k u e. passed_if (not (is_match state normal)) t (has_passed old) k u e }
+  state_apart t mask state = record {
+    untouched = untouched_next old (LoadedState t mask state) refl;
+    waits = refl;
+    owes = refl;
+    retaken = refl;
+    passed = λ k u e. passed_if (not (is_match state normal)) t (has_passed old) k u e;
+  }
 
 either_apart : (same : Bool) (t c from : ℕ) (trace : List Rec)
     → IsApart trace (if same then LoadedCpu t from ∷ trace else StoredCpu t c ∷ LoadedCpu t from ∷ trace)

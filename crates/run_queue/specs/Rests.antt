@@ -1,6 +1,7 @@
 -- What a call that takes locks and gives them all back leaves as it was.
 use Rattle.std.specs.Prelude.{◌≡◌, ℕ, true, false, List, None}
-use Rattle.task_words.specs.Folds.{task_held, queue_held, wait_held, current_task, task_to_clear, is_claimed, has_passed, has_retaken, owes_walk}
+use Rattle.task_words.specs.Folds.{task_held, queue_held, wait_held, current_task, task_to_clear, is_claimed}
+use Rattle.task_words.specs.Folds.{has_passed, has_retaken, owes_walk}
 use Rattle.task_words.specs.Records.{Rec}
 use Rattle.task_words.specs.Untouched.{Untouched}
 

@@ -15,7 +15,8 @@ pub fn place<B: Kept>(wk: &Wk<B>, pass: &mut Pass, task: &TaskGuard<B>, c: CpuNo
     requires of { IsOf wk.now pass.old }
     requires table { task.now.of ≡ wk.now.name }
     requires task { task.now.task < wk.now.shape.tasks }
-    requires may { (from x : ℕ) → MayCpuWord pass.old.seat (LoadedCpu task.now.task from ∷ pass.old.trace) wk.now.shape task.now.task x c }
+    requires may { (from x : ℕ)
+        → MayCpuWord pass.old.seat (LoadedCpu task.now.task from ∷ pass.old.trace) wk.now.shape task.now.task x c }
     ensures same { IsSame pass.old pass.new }
     ensures trace { pass.new.trace ≡ placed task.now.task result c pass.old.trace }
 {

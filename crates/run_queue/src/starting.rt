@@ -2,7 +2,8 @@
 ghost use Rattle.std.specs.Prelude.{◌≡◌, ℕ, ◌<◌, ◌≤◌, ◌+◌, false, None, Some, IsSome};
 ghost use Rattle.run_queue.specs.Rests.{Rests};
 ghost use Rattle.run_queue.specs.Starts.{DidStart, IsQueuedNew};
-ghost use Rattle.task_words.specs.Folds.{current_task, task_to_clear, task_held, queue_held, number_read, is_moving, last_reads};
+ghost use Rattle.task_words.specs.Folds.{current_task, task_to_clear, task_held, queue_held, number_read, is_moving};
+ghost use Rattle.task_words.specs.Folds.{last_reads};
 ghost use Rattle.task_words.specs.Needs.{need_step, need_call};
 ghost use Rattle.task_words.specs.Views.{IsOf, IsSameSeat};
 

@@ -68,7 +68,10 @@ pub fn release_task(held: &mut Held, t: TaskNo)
 
 /// Adds the value of the queue's lock of processor `c`, as it was taken. Answers `NoMemory` where memory runs out.
 pub fn hold_queue(held: &mut Held, c: CpuNo, val: QueueVal) -> Result<(), NoMemory>
-    ensures { OnOk result (held.new ≡ record held.old { queues = held.old.queues ++ record { c = c; val = val } ∷ [] }) }
+    ensures { OnOk result (held.new ≡ record held.old {
+      queues = held.old.queues ++ record { c = c; val = val }
+          ∷ [];
+    }) }
 {
     held.queues.push(HeldQueue { c, val })?;
     Ok(())

@@ -1,7 +1,8 @@
 //! The opening core.
 
 ghost use Rattle.std.specs.Prelude.{◌≡◌, IfOk, OnOk, replicate, [], None};
-ghost use Rattle.core_data.specs.Opening.{IsStart, first_task, first_cpu, first_cond, first_seat, no_holding, no_position};
+ghost use Rattle.core_data.specs.Opening.{IsStart, first_task, first_cpu, first_cond, first_seat, no_holding};
+ghost use Rattle.core_data.specs.Opening.{no_position};
 ghost use Rattle.core_data.specs.Columns.{Columns, columns};
 ghost use Rattle.handoff_data.specs.Shape.{IsShape};
 

@@ -4,7 +4,8 @@ ghost use Rattle.std.specs.Prelude.{◌≡◌, ◌==◌, ◌++◌, ◌∷◌, []
 ghost use Rattle.core_data.specs.Found.{found, no_reads};
 ghost use Rattle.std.specs.List.{filter};
 ghost use Rattle.core_data.specs.Acts.{since, with_act};
-ghost use Rattle.core_data.specs.Position.{Position, is_other_test, is_test_of_other, is_sleep_of_other, is_reads_of_other, stays_asleep, newly_asleep};
+ghost use Rattle.core_data.specs.Position.{Position, is_other_test, is_test_of_other, is_sleep_of_other};
+ghost use Rattle.core_data.specs.Position.{is_reads_of_other, stays_asleep, newly_asleep};
 ghost use Rattle.core_data.specs.declared.pos.Test.{Test};
 ghost use Rattle.core_data.specs.declared.pos.TaskReads.{TaskReads};
 ghost use mathlib.Core.Bool.{not};
@@ -79,7 +80,10 @@ pub fn set_level_known(pos: &mut Pos, level: Option<u32>)
 
 /// Sets what the task tested at the condition. Answers `NoMemory` where memory runs out.
 pub fn set_test(pos: &mut Pos, test: Test) -> Result<(), NoMemory>
-    ensures { OnOk result (pos.new ≡ record pos.old { tests = filter (is_other_test test) pos.old.tests ++ test ∷ [] }) }
+    ensures { OnOk result (pos.new ≡ record pos.old {
+      tests = filter (is_other_test test) pos.old.tests ++ test
+          ∷ [];
+    }) }
 {
     without_test(&mut pos.tests, test);
     pos.tests.push(test)?;
@@ -88,7 +92,10 @@ pub fn set_test(pos: &mut Pos, test: Test) -> Result<(), NoMemory>
 
 /// Forgets the task's tests, and that it was put to sleep.
 pub fn forget_sleep(pos: &mut Pos, t: TaskNo)
-    ensures { pos.new ≡ record pos.old { tests = filter (is_test_of_other t) pos.old.tests; asleep = filter (is_sleep_of_other t) pos.old.asleep } }
+    ensures { pos.new ≡ record pos.old {
+      tests = filter (is_test_of_other t) pos.old.tests;
+      asleep = filter (is_sleep_of_other t) pos.old.asleep;
+    } }
 {
     without_tests(&mut pos.tests, t);
     without_sleeps(&mut pos.asleep, t);
@@ -103,7 +110,11 @@ pub fn give_asleep(
     given: &[WaitEntry],
     sleeper: Option<TaskNo>,
 ) -> Result<(), NoMemory>
-    ensures { OnOk result (pos.new ≡ record pos.old { asleep = filter (stays_asleep k taken.now given.now) pos.old.asleep ++ newly_asleep k sleeper }) }
+    ensures { OnOk result
+        (pos.new ≡ record pos.old {
+          asleep = filter (stays_asleep k taken.now given.now) pos.old.asleep
+              ++ newly_asleep k sleeper;
+        }) }
 {
     without_gone(&mut pos.asleep, k, taken, given);
     match sleeper {
@@ -117,7 +128,10 @@ pub fn give_asleep(
 
 /// Sets what was read of the task. Answers `NoMemory` where memory runs out.
 pub fn set_reads(pos: &mut Pos, reads: TaskReads) -> Result<(), NoMemory>
-    ensures { OnOk result (pos.new ≡ record pos.old { reads = filter (is_reads_of_other reads.t) pos.old.reads ++ reads ∷ [] }) }
+    ensures { OnOk result (pos.new ≡ record pos.old {
+      reads = filter (is_reads_of_other reads.t) pos.old.reads ++ reads
+          ∷ [];
+    }) }
 {
     without_reads(&mut pos.reads, reads.t);
     pos.reads.push(reads)?;

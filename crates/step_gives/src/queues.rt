@@ -31,7 +31,8 @@ fn is_runnable(core: &Core, t: TaskNo) -> bool
 
 /// Whether the task at this place of those that wait may run.
 fn is_runnable_at(core: &Core, queue: &QueueVal, i: usize) -> bool
-    ensures { IsTrue result ↔ ((t : ℕ) → slice_get queue.now.waiting i ≡ Some t → IsRunnable ((columns core.now).state t)) }
+    ensures { IsTrue result ↔ ((t : ℕ) → slice_get queue.now.waiting i ≡ Some t
+        → IsRunnable ((columns core.now).state t)) }
 {
     match queue.get(i) {
         Some(t) => is_runnable(core, t),

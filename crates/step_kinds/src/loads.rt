@@ -1,11 +1,15 @@
 //! Loads, which change nothing but what the seat knows and notes; and the conditions' counters.
 
-ghost use Rattle.std.specs.Prelude.{◌≡◌, ◌<◌, ◌==◌, ◌&&◌, ◌+◌, ◌%◌, ◌^◌, ◌↔◌, IsTrue, OnOk, Some, None, is_some, nat_lt, if◌then◌else◌};
+ghost use Rattle.std.specs.Prelude.{◌≡◌, ◌<◌, ◌==◌, ◌&&◌, ◌+◌, ◌%◌, ◌^◌, ◌↔◌, IsTrue, OnOk, Some, None, is_some};
+ghost use Rattle.std.specs.Prelude.{nat_lt, if◌then◌else◌};
 ghost use mathlib.Core.Bool.{not};
 ghost use Rattle.core_data.specs.Noted.{noted};
 ghost use Rattle.core_data.specs.Columns.{Columns, columns, put, put_at};
 ghost use Rattle.core_kinds.specs.Steps.{is_match};
-ghost use Rattle.core_kinds.specs.Waking.{MayLoad, IsMask, MayLoadState, is_own_read, is_matched, is_refused, load_state, load_this, state_read, load_rq, load_rq_so, rq_read, load_busy, load_busy_so, busy_read, load_cpu, cpu_read, load_count, level_read, MayBump, bump, load_cond, test_by};
+ghost use Rattle.core_kinds.specs.Waking.{MayLoad, IsMask, MayLoadState, is_own_read, is_matched, is_refused};
+ghost use Rattle.core_kinds.specs.Waking.{load_state, load_this, state_read, load_rq, load_rq_so, rq_read, load_busy};
+ghost use Rattle.core_kinds.specs.Waking.{load_busy_so, busy_read, load_cpu, cpu_read, load_count, level_read, MayBump};
+ghost use Rattle.core_kinds.specs.Waking.{bump, load_cond, test_by};
 
 use crate::common::is_of_shape;
 use crate::notes::{log_if, note_if, see_if, test_if};
@@ -74,7 +78,11 @@ fn is_own_read(core: &Core, s: SeatNo, t: TaskNo) -> bool
 
 fn read_state(core: &mut Core, s: SeatNo, t: TaskNo, state: State) -> Result<(), NoMemory>
     requires { s < (columns core.old).seats }
-    ensures { OnOk result (columns core.new ≡ record (columns core.old) { last_reads = put_at (columns core.old).last_reads s t (state_read t state ((columns core.old).last_reads s t)) }) }
+    ensures { OnOk result
+        (columns core.new ≡ record (columns core.old) {
+          last_reads = put_at (columns core.old).last_reads s t
+              (state_read t state ((columns core.old).last_reads s t));
+        }) }
 {
     let old = reads(core, s, t);
     set_reads(
@@ -118,7 +126,8 @@ fn load_this(
     state: State,
 ) -> Result<(), NoMemory>
     requires { s < (columns core.old).seats }
-    ensures { OnOk result (columns core.new ≡ load_this (columns core.old) s t mask own ((columns core.old).last_reads s t) state) }
+    ensures { OnOk result (columns core.new ≡ load_this (columns core.old) s t mask own
+        ((columns core.old).last_reads s t) state) }
 {
     read_state(core, s, t, state)?;
     see_if(core, s, state, own);
@@ -141,7 +150,11 @@ fn load_this(
 
 fn read_rq(core: &mut Core, s: SeatNo, t: TaskNo, on: u8, m: u64) -> Result<(), NoMemory>
     requires { s < (columns core.old).seats }
-    ensures { OnOk result (columns core.new ≡ record (columns core.old) { last_reads = put_at (columns core.old).last_reads s t (rq_read t on m ((columns core.old).last_reads s t)) }) }
+    ensures { OnOk result
+        (columns core.new ≡ record (columns core.old) {
+          last_reads = put_at (columns core.old).last_reads s t
+              (rq_read t on m ((columns core.old).last_reads s t));
+        }) }
 {
     let old = reads(core, s, t);
     let rq = if old.state.is_some() {
@@ -171,7 +184,8 @@ fn load_rq_so(
     m: u64,
 ) -> Result<(), NoMemory>
     requires { s < (columns core.old).seats }
-    ensures { OnOk result (columns core.new ≡ load_rq_so (columns core.old) s t fresh rests ((columns core.old).last_reads s t) on m) }
+    ensures { OnOk result (columns core.new ≡ load_rq_so (columns core.old) s t fresh rests
+        ((columns core.old).last_reads s t) on m) }
 {
     read_rq(core, s, t, on, m)?;
     note_if(core, s, Act::SawOff { t }, on == 0 && fresh)?;
@@ -193,7 +207,11 @@ pub fn load_rq(core: &mut Core, s: SeatNo, t: TaskNo) -> Result<(), NoMemory>
 
 fn read_busy(core: &mut Core, s: SeatNo, t: TaskNo, busy: bool) -> Result<(), NoMemory>
     requires { s < (columns core.old).seats }
-    ensures { OnOk result (columns core.new ≡ record (columns core.old) { last_reads = put_at (columns core.old).last_reads s t (busy_read t busy ((columns core.old).last_reads s t)) }) }
+    ensures { OnOk result
+        (columns core.new ≡ record (columns core.old) {
+          last_reads = put_at (columns core.old).last_reads s t
+              (busy_read t busy ((columns core.old).last_reads s t));
+        }) }
 {
     let old = reads(core, s, t);
     let read = if old.rq.is_some() { Some(busy) } else { None };
@@ -217,7 +235,8 @@ fn load_busy_so(
     busy: bool,
 ) -> Result<(), NoMemory>
     requires { s < (columns core.old).seats }
-    ensures { OnOk result (columns core.new ≡ load_busy_so (columns core.old) s t rests ((columns core.old).last_reads s t) busy) }
+    ensures { OnOk result (columns core.new ≡ load_busy_so (columns core.old) s t rests
+        ((columns core.old).last_reads s t) busy) }
 {
     read_busy(core, s, t, busy)?;
     note_if(core, s, Act::SawClear { t }, !busy)?;

@@ -7,7 +7,9 @@ ghost use Rattle.core_data.specs.Columns.{Columns, columns, put, put_at};
 ghost use Rattle.core_data.specs.declared.act.Act.TheVariants.{TookTask, Renewed};
 ghost use Rattle.core_data.specs.declared.values.TaskVal.{TaskVal};
 ghost use Rattle.core_kinds.specs.Steps.{fresh, waking};
-ghost use Rattle.core_kinds.specs.Locks.{MayTakeTask, take_task, MayGiveTask, give_task, MayTakeQueue, take_queue, unseen, MayTakeWorks, take_works, MayGiveWorks, give_works, MayTakeWait, take_wait, IsKept, IsSettled};
+ghost use Rattle.core_kinds.specs.Locks.{MayTakeTask, take_task, MayGiveTask, give_task, MayTakeQueue, take_queue};
+ghost use Rattle.core_kinds.specs.Locks.{unseen, MayTakeWorks, take_works, MayGiveWorks, give_works, MayTakeWait};
+ghost use Rattle.core_kinds.specs.Locks.{take_wait, IsKept, IsSettled};
 
 use crate::common::is_of_shape;
 use core_data::{Act, Core, TaskReads, TaskVal, TaskWords, WorksVal};
@@ -34,7 +36,11 @@ pub fn may_take_task(core: &Core, s: SeatNo, t: TaskNo) -> bool
 /// Moves the value of the lock of task t to the seat.
 fn move_val_out(core: &mut Core, s: SeatNo, t: TaskNo) -> Result<(), NoMemory>
     requires { MayTakeTask (columns core.old) s t }
-    ensures { OnOk result (columns core.new ≡ record (columns core.old) { lock = put (columns core.old).lock t (Some s); val = put (columns core.old).val t None; task_held = put_at (columns core.old).task_held s t ((columns core.old).val t) }) }
+    ensures { OnOk result (columns core.new ≡ record (columns core.old) {
+      lock = put (columns core.old).lock t (Some s);
+      val = put (columns core.old).val t None;
+      task_held = put_at (columns core.old).task_held s t ((columns core.old).val t);
+    }) }
 {
     let val = task_words(core, t).val.unwrap();
     put_lock(core, t, Some(s));
@@ -46,7 +52,11 @@ fn move_val_out(core: &mut Core, s: SeatNo, t: TaskNo) -> Result<(), NoMemory>
 /// Begins to read task t anew.
 fn begin_reads(core: &mut Core, s: SeatNo, t: TaskNo) -> Result<(), NoMemory>
     requires { s < (columns core.old).seats }
-    ensures { OnOk result (columns core.new ≡ noted (noted (record (columns core.old) { last_reads = put_at (columns core.old).last_reads s t (no_reads t) }) s (TookTask t)) s (Renewed t)) }
+    ensures { OnOk result
+        (columns core.new
+        ≡ noted
+        (noted (record (columns core.old) { last_reads = put_at (columns core.old).last_reads s t (no_reads t) }) s
+        (TookTask t)) s (Renewed t)) }
 {
     let nothing = TaskReads {
         t,
@@ -112,7 +122,8 @@ fn is_fresh_if_new(words: TaskWords) -> bool
 /// Whether the seat has the value out, and gives it as it was taken but for the processors that it names.
 fn is_given_as_taken(core: &Core, s: SeatNo, t: TaskNo, val: TaskVal) -> bool
     requires { s < (columns core.now).seats }
-    ensures { IsTrue result ↔ (((taken : TaskVal) → (columns core.now).task_held s t ≡ Some taken → IsKept taken val) × IsSome ((columns core.now).task_held s t)) }
+    ensures { IsTrue result ↔ (((taken : TaskVal) → (columns core.now).task_held s t ≡ Some taken → IsKept taken val)
+        × IsSome ((columns core.now).task_held s t)) }
 {
     match task_out(core, s, t) {
         Some(taken) => is_kept(taken, val),

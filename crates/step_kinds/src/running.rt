@@ -1,14 +1,17 @@
 //! Running steps: a task's queue word, its busy word and its body, after `activate_task`, `deactivate_task`,
 //! `move_queued_task`, `prepare_task` and `finish_task` of Linux 6.6 (`kernel/sched/core.c`).
 
-ghost use Rattle.std.specs.Prelude.{◌≡◌, ◌≢◌, ◌<◌, ◌^◌, ◌+◌, ◌++◌, ◌∷◌, [], ◌⊎◌, ◌↔◌, ◌==◌, IsTrue, OnOk, Some, None, true, false, if◌then◌else◌};
+ghost use Rattle.std.specs.Prelude.{◌≡◌, ◌≢◌, ◌<◌, ◌^◌, ◌+◌, ◌++◌, ◌∷◌, [], ◌⊎◌, ◌↔◌, ◌==◌, IsTrue, OnOk, Some, None};
+ghost use Rattle.std.specs.Prelude.{true, false, if◌then◌else◌};
 ghost use Rattle.core_data.specs.Noted.{noted};
 ghost use Rattle.core_data.specs.Queue.{times_in};
 ghost use Rattle.core_data.specs.Columns.{Columns, columns, put, put_at};
 ghost use Rattle.core_data.specs.declared.act.Act.TheVariants.{Queued, Dequeued, Picked};
 ghost use Rattle.handoff_data.specs.declared.entry.Entry.TheVariants.{Pick, Finish};
 ghost use Rattle.core_kinds.specs.Steps.{waking, IsRunnable, stored_word};
-ghost use Rattle.core_kinds.specs.Running.{store_rq, IsReady, MayQueue, queue_entry, queue_task, MayLeave, MayDequeue, dequeue_entry, dequeue_task, MayMove, move_task, MaySetBusy, set_busy, MayClearBusy, clear_busy, MayBodyOut, body_out, MayBodyHome, body_home};
+ghost use Rattle.core_kinds.specs.Running.{store_rq, IsReady, MayQueue, queue_entry, queue_task, MayLeave, MayDequeue};
+ghost use Rattle.core_kinds.specs.Running.{dequeue_entry, dequeue_task, MayMove, move_task, MaySetBusy, set_busy};
+ghost use Rattle.core_kinds.specs.Running.{MayClearBusy, clear_busy, MayBodyOut, body_out, MayBodyHome, body_home};
 
 use crate::common::{END, is_of_shape, is_runnable, is_sleep, renew};
 use core_data::{Act, Core, QueueVal, TaskReads, TaskWords};
@@ -21,14 +24,16 @@ use step_stores::{
 
 /// Whether seat s has the lock of the queue of processor c, and all three are of the shape.
 fn has_queue_lock(core: &Core, s: SeatNo, c: CpuNo, t: TaskNo) -> bool
-    ensures { IsTrue result ↔ ((s < (columns core.now).seats) × (t < (columns core.now).tasks) × (c < (columns core.now).cpus) × ((columns core.now).queue_lock c ≡ Some s)) }
+    ensures { IsTrue result ↔ ((s < (columns core.now).seats) × (t < (columns core.now).tasks)
+        × (c < (columns core.now).cpus) × ((columns core.now).queue_lock c ≡ Some s)) }
 {
     is_of_shape(core, s, t) && (c as usize) < cpus(core) && queue_lock(core, c) == Some(s)
 }
 
 /// Stores `on_rq` of task t with the next number, and its entry.
 fn store_rq(core: &mut Core, s: SeatNo, t: TaskNo, on: u8, entry: Entry) -> Result<(), NoMemory>
-    requires { (s < (columns core.old).seats) × (t < (columns core.old).tasks) × ((columns core.old).changes t < 2 ^ 60) }
+    requires { (s < (columns core.old).seats) × (t < (columns core.old).tasks)
+        × ((columns core.old).changes t < 2 ^ 60) }
     ensures { OnOk result (columns core.new ≡ store_rq (columns core.old) s t on entry) }
 {
     let m = task_words(core, t).changes + 1;
@@ -55,7 +60,9 @@ fn store_rq(core: &mut Core, s: SeatNo, t: TaskNo, on: u8, entry: Entry) -> Resu
 /// Whether a seat may put a task on a queue: a new one, one that it wakes and has read as not busy since, or one
 /// that it moves.
 fn is_ready(words: TaskWords, is_clear: bool) -> bool
-    ensures { IsTrue result ↔ ((words.changes ≡ 0) ⊎ (((words.on_rq ≡ 0) × (words.state ≡ waking) × (is_clear ≡ true)) ⊎ (words.on_rq ≡ 2))) }
+    ensures { IsTrue result
+        ↔ ((words.changes ≡ 0) ⊎ (((words.on_rq ≡ 0) × (words.state ≡ waking) × (is_clear ≡ true))
+        ⊎ (words.on_rq ≡ 2))) }
 {
     words.changes == 0
         || (words.on_rq == 0 && words.state == State::TASK_WAKING && is_clear)
@@ -235,7 +242,13 @@ pub fn clear_busy(core: &mut Core, s: SeatNo, t: TaskNo) -> Result<(), NoMemory>
 
 fn finish(core: &mut Core, s: SeatNo, t: TaskNo, n: u64) -> Result<(), NoMemory>
     requires { (s < (columns core.old).seats) × (t < (columns core.old).tasks) }
-    ensures { OnOk result (columns core.new ≡ record (columns core.old) { on_cpu = put (columns core.old).on_cpu t false; runs = put (columns core.old).runs t n; task_to_clear = put (columns core.old).task_to_clear s None; journal = put (columns core.old).journal s ((columns core.old).journal s ++ Finish t n s ∷ []) }) }
+    ensures { OnOk result
+        (columns core.new ≡ record (columns core.old) {
+          on_cpu = put (columns core.old).on_cpu t false;
+          runs = put (columns core.old).runs t n;
+          task_to_clear = put (columns core.old).task_to_clear s None;
+          journal = put (columns core.old).journal s ((columns core.old).journal s ++ Finish t n s ∷ []);
+        }) }
 {
     put_busy(core, t, false, n);
     put_to_clear(core, s, None);
@@ -245,7 +258,17 @@ fn finish(core: &mut Core, s: SeatNo, t: TaskNo, n: u64) -> Result<(), NoMemory>
 
 fn pick(core: &mut Core, s: SeatNo, c: CpuNo, t: TaskNo, n: u64) -> Result<(), NoMemory>
     requires { (s < (columns core.old).seats) × (t < (columns core.old).tasks) }
-    ensures { OnOk result (columns core.new ≡ record (columns core.old) { on_cpu = put (columns core.old).on_cpu t true; runs = put (columns core.old).runs t n; current_task = put (columns core.old).current_task s (Some t); seen_state = put (columns core.old).seen_state s None; level_known = put (columns core.old).level_known s None; tested = put (columns core.old).tested s (λ u l. if u == t then None else (columns core.old).tested s u l); is_asleep = put (columns core.old).is_asleep s (λ u l. if u == t then false else (columns core.old).is_asleep s u l); journal = put (columns core.old).journal s ((columns core.old).journal s ++ Pick t n c ∷ []) }) }
+    ensures { OnOk result (columns core.new ≡ record (columns core.old) {
+      on_cpu = put (columns core.old).on_cpu t true;
+      runs = put (columns core.old).runs t n;
+      current_task = put (columns core.old).current_task s (Some t);
+      seen_state = put (columns core.old).seen_state s None;
+      level_known = put (columns core.old).level_known s None;
+      tested = put (columns core.old).tested s (λ u l. if u == t then None else (columns core.old).tested s u l);
+      is_asleep = put (columns core.old).is_asleep s
+          (λ u l. if u == t then false else (columns core.old).is_asleep s u l);
+      journal = put (columns core.old).journal s ((columns core.old).journal s ++ Pick t n c ∷ []);
+    }) }
 {
     put_busy(core, t, true, n);
     put_current(core, s, Some(t));

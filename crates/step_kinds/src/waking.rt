@@ -7,7 +7,9 @@ ghost use Rattle.core_data.specs.Columns.{Columns, columns, put, put_at};
 ghost use Rattle.core_data.specs.declared.act.Act.TheVariants.{Claimed, Passed, OwnStored};
 ghost use Rattle.handoff_data.specs.declared.entry.Entry.TheVariants.{Wake};
 ghost use Rattle.core_kinds.specs.Steps.{running, dead, waking, is_sleep, stored_word};
-ghost use Rattle.core_kinds.specs.Waking.{IsSettable, MaySetState, set_state, MayClaim, claim, IsReadyToRun, MayMakeRunnable, make_runnable, IsPlaceable, MayStoreCpu, store_cpu, cpu_read};
+ghost use Rattle.core_kinds.specs.Waking.{IsSettable, MaySetState, set_state, MayClaim, claim, IsReadyToRun};
+ghost use Rattle.core_kinds.specs.Waking.{MayMakeRunnable, make_runnable, IsPlaceable, MayStoreCpu, store_cpu};
+ghost use Rattle.core_kinds.specs.Waking.{cpu_read};
 
 use crate::common::{is_of_shape, is_sleep, renew};
 use crate::notes::{run_if, sleep_if};
@@ -20,7 +22,9 @@ use step_stores::{
 
 /// Whether a task may store this state of its own.
 fn is_settable(words: TaskWords, s: SeatNo, state: State) -> bool
-    ensures { IsTrue result ↔ ((state ≡ running) ⊎ ((is_sleep state ≡ true) ⊎ ((state ≡ dead) × (words.lock ≡ Some s) × (words.ended ≡ true)))) }
+    ensures { IsTrue result
+        ↔ ((state ≡ running)
+        ⊎ ((is_sleep state ≡ true) ⊎ ((state ≡ dead) × (words.lock ≡ Some s) × (words.ended ≡ true)))) }
 {
     state == State::TASK_RUNNING
         || is_sleep(state)
@@ -40,7 +44,12 @@ pub fn may_set_state(core: &Core, s: SeatNo, t: TaskNo, state: State) -> bool
 
 fn store_state(core: &mut Core, s: SeatNo, t: TaskNo, state: State) -> Result<(), NoMemory>
     requires { (s < (columns core.old).seats) × (t < (columns core.old).tasks) }
-    ensures { OnOk result (columns core.new ≡ noted (stored_word (record (columns core.old) { state = put (columns core.old).state t state; seen_state = put (columns core.old).seen_state s None }) s t) s (OwnStored t)) }
+    ensures { OnOk result
+        (columns core.new
+        ≡ noted (stored_word (record (columns core.old) {
+          state = put (columns core.old).state t state;
+          seen_state = put (columns core.old).seen_state s None;
+        }) s t) s (OwnStored t)) }
 {
     put_state(core, t, state);
     put_seen(core, s, None);
@@ -72,7 +81,11 @@ pub fn may_claim(core: &Core, s: SeatNo, t: TaskNo) -> bool
 
 fn store_claim(core: &mut Core, s: SeatNo, t: TaskNo, m: u64) -> Result<(), NoMemory>
     requires { (s < (columns core.old).seats) × (t < (columns core.old).tasks) }
-    ensures { OnOk result (columns core.new ≡ stored_word (record (columns core.old) { state = put (columns core.old).state t waking; journal = put (columns core.old).journal s ((columns core.old).journal s ++ Wake t m ∷ []) }) s t) }
+    ensures { OnOk result
+        (columns core.new ≡ stored_word (record (columns core.old) {
+          state = put (columns core.old).state t waking;
+          journal = put (columns core.old).journal s ((columns core.old).journal s ++ Wake t m ∷ []);
+        }) s t) }
 {
     put_state(core, t, State::TASK_WAKING);
     log(core, s, Entry::Wake { t, m })?;
@@ -102,7 +115,11 @@ fn is_ready_to_run(
     is_added: bool,
     is_current: bool,
 ) -> bool
-    ensures { IsTrue result ↔ (((words.lock ≡ Some s) × (words.changes ≡ 0)) ⊎ (((words.lock ≡ Some s) × (is_matched ≡ true) × (words.on_rq ≡ 1) × (queue_locked ≡ true) × (is_current ≡ false)) ⊎ ((queue_locked ≡ true) × (is_added ≡ true) × (words.on_rq ≡ 1) × (words.on_cpu ≡ false)))) }
+    ensures { IsTrue result
+        ↔ (((words.lock ≡ Some s) × (words.changes ≡ 0))
+        ⊎ (((words.lock ≡ Some s) × (is_matched ≡ true) × (words.on_rq ≡ 1) × (queue_locked ≡ true)
+        × (is_current ≡ false)) ⊎ ((queue_locked ≡ true) × (is_added ≡ true) × (words.on_rq ≡ 1)
+        × (words.on_cpu ≡ false)))) }
 {
     let locked = words.lock == Some(s);
     let queued = queue_locked && words.on_rq == 1;
@@ -147,7 +164,9 @@ pub fn make_runnable(core: &mut Core, s: SeatNo, t: TaskNo) -> Result<(), NoMemo
 
 /// Whether a task's processor may be stored: the task was never started, or is half way to a queue.
 fn is_placeable(words: TaskWords, is_clear: bool) -> bool
-    ensures { IsTrue result ↔ ((words.changes ≡ 0) ⊎ (((words.on_rq ≡ 0) × (words.state ≡ waking) × (is_clear ≡ true)) ⊎ (words.on_rq ≡ 2))) }
+    ensures { IsTrue result
+        ↔ ((words.changes ≡ 0) ⊎ (((words.on_rq ≡ 0) × (words.state ≡ waking) × (is_clear ≡ true))
+        ⊎ (words.on_rq ≡ 2))) }
 {
     words.changes == 0
         || (words.on_rq == 0 && words.state == State::TASK_WAKING && is_clear)
@@ -168,7 +187,10 @@ pub fn may_store_cpu(core: &Core, s: SeatNo, t: TaskNo, c: CpuNo) -> bool
 
 fn write_cpu(core: &mut Core, s: SeatNo, t: TaskNo, c: CpuNo) -> Result<(), NoMemory>
     requires { (s < (columns core.old).seats) × (t < (columns core.old).tasks) }
-    ensures { OnOk result (columns core.new ≡ record (columns core.old) { cpu = put (columns core.old).cpu t c; last_reads = put_at (columns core.old).last_reads s t (cpu_read t c ((columns core.old).last_reads s t)) }) }
+    ensures { OnOk result (columns core.new ≡ record (columns core.old) {
+      cpu = put (columns core.old).cpu t c;
+      last_reads = put_at (columns core.old).last_reads s t (cpu_read t c ((columns core.old).last_reads s t));
+    }) }
 {
     let old = reads(core, s, t);
     put_cpu(core, t, c);

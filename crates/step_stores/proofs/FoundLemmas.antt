@@ -36,7 +36,8 @@ found-dropped : {A B : Type 0} (hit keep : A → Bool) (val : A → B) (d : B) (
 found-dropped hit keep val d [] h = refl
 found-dropped hit keep val d (x ∷ xs) h = dropped_step hit keep val d x xs (hit x) (keep x) refl refl (h x) (found-dropped hit keep val d xs h)
 
-kept_step : {A B : Type 0} (hit keep : A → Bool) (val : A → B) (d : B) (x : A) (xs : List A) (c : Bool) → keep x ≡ c → (c ≡ false → hit x ≡ false) → ((y : B) → found hit val y (filter keep xs) ≡ found hit val y xs)
+kept_step : {A B : Type 0} (hit keep : A → Bool) (val : A → B) (d : B) (x : A) (xs : List A) (c : Bool) → keep x ≡ c → (c ≡ false → hit x ≡ false)
+    → ((y : B) → found hit val y (filter keep xs) ≡ found hit val y xs)
     → found hit val d (if c then x ∷ filter keep xs else filter keep xs) ≡ found hit val d (x ∷ xs)
 kept_step hit keep val d x xs true k n r = r (if hit x then val x else d)
 kept_step hit keep val d x xs false k n r = r d ∙ ap (λ (c : Bool). found hit val (if c then val x else d) xs) (sym (n refl))
@@ -107,11 +108,13 @@ out_released_wait xs n old e = key_released (λ (h : HeldWait). h.k) (λ h. h.va
 
 -- tests and sleeps
 pub tested : (xs : List Test) (test : Test) (old : ℕ → ℕ → Option ℕ) → old ≡ (λ t k. found (λ (x : Test). (t == x.t) && (k == x.k)) (λ x. Some x.v) None xs)
-    → ◌≡◌ {A = ℕ → ℕ → Option ℕ} (λ (t k : ℕ). found (λ (x : Test). (t == x.t) && (k == x.k)) (λ x. Some x.v) None (filter (is_other_test test) xs ++ test ∷ [])) (λ t l. if (t == test.t) && (l == test.k) then Some test.v else old t l)
+    → ◌≡◌ {A = ℕ → ℕ → Option ℕ} (λ (t k : ℕ). found (λ (x : Test). (t == x.t) && (k == x.k)) (λ x. Some x.v) None (filter (is_other_test test) xs ++ test ∷ []))
+    (λ t l. if (t == test.t) && (l == test.k) then Some test.v else old t l)
 tested xs test old e =
     fun_ext (λ t. fun_ext (λ k.
     found-append (λ (x : Test). (t == x.t) && (k == x.k)) (λ x. Some x.v) None (filter (is_other_test test) xs) test
-    ∙ chosen_if ((t == test.t) && (k == test.k)) (Some test.v) _ _ (λ c. found-kept (λ (x : Test). (t == x.t) && (k == x.k)) (is_other_test test) (λ x. Some x.v) None xs (λ x h. grind (arith, nat_tests, c, h)))))
+    ∙ chosen_if ((t == test.t) && (k == test.k)) (Some test.v) _ _ (λ c. found-kept (λ (x : Test). (t == x.t) && (k == x.k)) (is_other_test test) (λ x. Some x.v) None xs
+    (λ x h. grind (arith, nat_tests, c, h)))))
     ∙ (λ i. λ t l. if (t == test.t) && (l == test.k) then Some test.v else sym e i t l)
 
 pub untested : (xs : List Test) (t : ℕ) (old : ℕ → ℕ → Option ℕ) → old ≡ (λ t k. found (λ (x : Test). (t == x.t) && (k == x.k)) (λ x. Some x.v) None xs)
@@ -148,7 +151,8 @@ append-nil : {A : Type 0} (xs : List A) → xs ++ [] ≡ xs
 append-nil [] = refl
 append-nil (x ∷ xs) = ap (λ ys. x ∷ ys) (append-nil xs)
 
-pub slept_on : (xs : List Asleep) (l : ℕ) (taken given : List WaitEntry) (sleeper : Option ℕ) (old : ℕ → ℕ → Bool) → old ≡ (λ t k. found (λ (x : Asleep). (t == x.t) && (k == x.k)) (λ x. true) false xs)
+pub slept_on : (xs : List Asleep) (l : ℕ) (taken given : List WaitEntry) (sleeper : Option ℕ) (old : ℕ → ℕ → Bool)
+    → old ≡ (λ t k. found (λ (x : Asleep). (t == x.t) && (k == x.k)) (λ x. true) false xs)
     → (λ (t k : ℕ). found (λ (x : Asleep). (t == x.t) && (k == x.k)) (λ x. true) false (filter (stays_asleep l taken given) xs ++ newly_asleep l sleeper)) ≡ given_asleep l taken given sleeper old
 slept_on xs l taken given None old e =
     fun_ext (λ t. fun_ext (λ k.

@@ -7,7 +7,8 @@ use Rattle.core_data.specs.Acts.{with_act}
 use Rattle.core_data.specs.Noted.{noted}
 use Rattle.core_data.specs.Position.{Position}
 use Rattle.core_data.specs.Rows.{with_seat}
-use Rattle.core_data.specs.Columns.{Columns, columns, put, has_matched_of, is_unstored_of, saw_off_of, is_claimed_of, saw_clear_of, has_stored_of, saw_rest_of, saw_rest_off_of, saw_rest_idle_of, has_slept_of, is_requeued_of, saw_idle_of}
+use Rattle.core_data.specs.Columns.{Columns, columns, put, has_matched_of, is_unstored_of, saw_off_of, is_claimed_of, saw_clear_of, has_stored_of, saw_rest_of, saw_rest_off_of, saw_rest_idle_of}
+use Rattle.core_data.specs.Columns.{has_slept_of, is_requeued_of, saw_idle_of}
 use Rattle.core_data.specs.Columns.{has_added_of, has_dropped_of, has_passed_of, has_own_stored_of, has_slept_in_of, owes_walk_of, has_retaken_of}
 use Rattle.core_data.specs.declared.act.Act.{Act}
 use Rattle.core_data.specs.declared.act.Act.TheVariants.{TookTask, Renewed, StoredWord, Matched, SawOff, Claimed, SawClear, SawRest, SawRestOff, SawRestIdle, TookQueue, Queued, Dequeued, Picked}
@@ -21,7 +22,10 @@ use Rattle.step_stores.proofs.Writes.{get-requeued, get-idle, get-added, get-dro
 -- what the row says of each column after the step, by what it said before
 
 row-TookTask : (core : Columns) (s : ℕ) (w : SeatCore) (n : ℕ) → with_seat core s (record w { pos = record w.pos { recent = with_act w.pos.recent (TookTask n) } })
-    ≡ record (with_seat core s w) { has_matched = put core.has_matched s (λ t. if t == n then false else has_matched_of w t); has_stored = put core.has_stored s (λ t. if t == n then false else has_stored_of w t) }
+    ≡ record (with_seat core s w) {
+      has_matched = put core.has_matched s (λ t. if t == n then false else has_matched_of w t);
+      has_stored = put core.has_stored s (λ t. if t == n then false else has_stored_of w t);
+    }
 row-TookTask core s w n =
     λ i. record (with_seat core s w) {
       has_matched = put core.has_matched s (fun_ext (λ t. since-with (Matched t) (TookTask t) (TookTask n) w.pos.recent) i);
@@ -103,7 +107,10 @@ row-StoredWord core s w n =
     }
 
 row-Matched : (core : Columns) (s : ℕ) (w : SeatCore) (n : ℕ) → with_seat core s (record w { pos = record w.pos { recent = with_act w.pos.recent (Matched n) } })
-    ≡ record (with_seat core s w) { has_matched = put core.has_matched s (λ t. if t == n then true else has_matched_of w t); is_unstored = put core.is_unstored s (λ t. if t == n then true else is_unstored_of w t) }
+    ≡ record (with_seat core s w) {
+      has_matched = put core.has_matched s (λ t. if t == n then true else has_matched_of w t);
+      is_unstored = put core.is_unstored s (λ t. if t == n then true else is_unstored_of w t);
+    }
 row-Matched core s w n =
     λ i. record (with_seat core s w) {
       has_matched = put core.has_matched s (fun_ext (λ t. since-with (Matched t) (TookTask t) (Matched n) w.pos.recent) i);
@@ -153,7 +160,10 @@ row-SawOff core s w n =
     }
 
 row-Claimed : (core : Columns) (s : ℕ) (w : SeatCore) (n : ℕ) → with_seat core s (record w { pos = record w.pos { recent = with_act w.pos.recent (Claimed n) } })
-    ≡ record (with_seat core s w) { is_claimed = put core.is_claimed s (λ t. if t == n then true else is_claimed_of w t); saw_clear = put core.saw_clear s (λ t. if t == n then false else saw_clear_of w t) }
+    ≡ record (with_seat core s w) {
+      is_claimed = put core.is_claimed s (λ t. if t == n then true else is_claimed_of w t);
+      saw_clear = put core.saw_clear s (λ t. if t == n then false else saw_clear_of w t);
+    }
 row-Claimed core s w n =
     λ i. record (with_seat core s w) {
       has_matched = put core.has_matched s (fun_ext (λ t. since-with (Matched t) (TookTask t) (Claimed n) w.pos.recent) i);
@@ -178,7 +188,10 @@ row-Claimed core s w n =
     }
 
 row-SawClear : (core : Columns) (s : ℕ) (w : SeatCore) (n : ℕ) → with_seat core s (record w { pos = record w.pos { recent = with_act w.pos.recent (SawClear n) } })
-    ≡ record (with_seat core s w) { saw_clear = put core.saw_clear s (λ t. if t == n then true else saw_clear_of w t); saw_idle = put core.saw_idle s (λ c t. if t == n then true else saw_idle_of w c t) }
+    ≡ record (with_seat core s w) {
+      saw_clear = put core.saw_clear s (λ t. if t == n then true else saw_clear_of w t);
+      saw_idle = put core.saw_idle s (λ c t. if t == n then true else saw_idle_of w c t);
+    }
 row-SawClear core s w n =
     λ i. record (with_seat core s w) {
       has_matched = put core.has_matched s (fun_ext (λ t. since-with (Matched t) (TookTask t) (SawClear n) w.pos.recent) i);
@@ -339,7 +352,10 @@ row-Queued core s w n =
     }
 
 row-Dequeued : (core : Columns) (s : ℕ) (w : SeatCore) (n : ℕ) → with_seat core s (record w { pos = record w.pos { recent = with_act w.pos.recent (Dequeued n) } })
-    ≡ record (with_seat core s w) { is_requeued = put core.is_requeued s (λ t. if t == n then false else is_requeued_of w t); has_dropped = put core.has_dropped s (λ c t. if t == n then true else has_dropped_of w c t) }
+    ≡ record (with_seat core s w) {
+      is_requeued = put core.is_requeued s (λ t. if t == n then false else is_requeued_of w t);
+      has_dropped = put core.has_dropped s (λ c t. if t == n then true else has_dropped_of w c t);
+    }
 row-Dequeued core s w n =
     λ i. record (with_seat core s w) {
       has_matched = put core.has_matched s (fun_ext (λ t. since-with (Matched t) (TookTask t) (Dequeued n) w.pos.recent) i);
@@ -445,7 +461,10 @@ row-OwnStored core s w n =
     }
 
 row-Slept : (core : Columns) (s : ℕ) (w : SeatCore) (n : ℕ) → with_seat core s (record w { pos = record w.pos { recent = with_act w.pos.recent (Slept n) } })
-    ≡ record (with_seat core s w) { has_slept = put core.has_slept s (λ t. if t == n then true else has_slept_of w t); has_slept_in = put core.has_slept_in s (λ k t. if t == n then true else has_slept_in_of w k t) }
+    ≡ record (with_seat core s w) {
+      has_slept = put core.has_slept s (λ t. if t == n then true else has_slept_of w t);
+      has_slept_in = put core.has_slept_in s (λ k t. if t == n then true else has_slept_in_of w k t);
+    }
 row-Slept core s w n =
     λ i. record (with_seat core s w) {
       has_matched = put core.has_matched s (fun_ext (λ t. since-with (Matched t) (TookTask t) (Slept n) w.pos.recent) i);
@@ -495,7 +514,10 @@ row-Passed core s w n =
     }
 
 row-Bumped : (core : Columns) (s : ℕ) (w : SeatCore) (n : ℕ) → with_seat core s (record w { pos = record w.pos { recent = with_act w.pos.recent (Bumped n) } })
-    ≡ record (with_seat core s w) { owes_walk = put core.owes_walk s (λ k. if k == n then true else owes_walk_of w k); has_retaken = put core.has_retaken s (λ k. if k == n then false else has_retaken_of w k) }
+    ≡ record (with_seat core s w) {
+      owes_walk = put core.owes_walk s (λ k. if k == n then true else owes_walk_of w k);
+      has_retaken = put core.has_retaken s (λ k. if k == n then false else has_retaken_of w k);
+    }
 row-Bumped core s w n =
     λ i. record (with_seat core s w) {
       has_matched = put core.has_matched s (fun_ext (λ t. since-with (Matched t) (TookTask t) (Bumped n) w.pos.recent) i);
@@ -585,9 +607,11 @@ noted_row core s w (SawClear n) h e =
 noted_row core s w (SawRest n) h e =
     row-SawRest (columns core) s w n ∙ (λ i. record (same-seat core s w h e i) { saw_rest = put (columns core).saw_rest s (λ t. if t == n then true else sym (get-rest_state core s w h e) i t) })
 noted_row core s w (SawRestOff n) h e =
-    row-SawRestOff (columns core) s w n ∙ (λ i. record (same-seat core s w h e i) { saw_rest_off = put (columns core).saw_rest_off s (λ t. if t == n then true else sym (get-rest_off core s w h e) i t) })
+    row-SawRestOff (columns core) s w n
+    ∙ (λ i. record (same-seat core s w h e i) { saw_rest_off = put (columns core).saw_rest_off s (λ t. if t == n then true else sym (get-rest_off core s w h e) i t) })
 noted_row core s w (SawRestIdle n) h e =
-    row-SawRestIdle (columns core) s w n ∙ (λ i. record (same-seat core s w h e i) { saw_rest_idle = put (columns core).saw_rest_idle s (λ t. if t == n then true else sym (get-rest_idle core s w h e) i t) })
+    row-SawRestIdle (columns core) s w n
+    ∙ (λ i. record (same-seat core s w h e i) { saw_rest_idle = put (columns core).saw_rest_idle s (λ t. if t == n then true else sym (get-rest_idle core s w h e) i t) })
 noted_row core s w (TookQueue n) h e =
     row-TookQueue (columns core) s w n ∙ (λ i. record (same-seat core s w h e i) {
       saw_idle =
@@ -619,7 +643,8 @@ noted_row core s w (TookWait n) h e =
       has_retaken = put (columns core).has_retaken s (λ k. if k == n then true else sym (get-retaken core s w h e) i k);
     })
 noted_row core s w (OwnStored n) h e =
-    row-OwnStored (columns core) s w n ∙ (λ i. record (same-seat core s w h e i) { has_own_stored = put (columns core).has_own_stored s (λ k t. if t == n then true else sym (get-own_stored core s w h e) i k t) })
+    row-OwnStored (columns core) s w n
+    ∙ (λ i. record (same-seat core s w h e i) { has_own_stored = put (columns core).has_own_stored s (λ k t. if t == n then true else sym (get-own_stored core s w h e) i k t) })
 noted_row core s w (Slept n) h e =
     row-Slept (columns core) s w n ∙ (λ i. record (same-seat core s w h e i) {
       has_slept = put (columns core).has_slept s (λ t. if t == n then true else sym (get-slept core s w h e) i t);

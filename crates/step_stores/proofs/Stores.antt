@@ -20,8 +20,10 @@ use Rattle.core_data.specs.declared.values.WorkItem.{WorkItem}
 use Rattle.core_data.specs.declared.words.TaskWords.{TaskWords}
 use Rattle.core_data.specs.declared.words.CpuWords.{CpuWords}
 use Rattle.core_data.specs.declared.words.CondWords.{CondWords}
-use Rattle.step_stores.proofs.FoundLemmas.{out_held_task, out_held_queue, out_held_works, out_held_wait, out_released_task, out_released_queue, out_released_works, out_released_wait, tested, untested, woken, slept_on, read_so}
-use Rattle.step_stores.proofs.Writes.{table-task, same-task, table-cpu, same-cpu, table-cond, same-cond, table-seat, same-seat, get-journal, get-task_out, get-queue_out, get-works_out, get-wait_out, get-test, get-asleep, get-reads}
+use Rattle.step_stores.proofs.FoundLemmas.{out_held_task, out_held_queue, out_held_works, out_held_wait, out_released_task, out_released_queue, out_released_works, out_released_wait, tested, untested}
+use Rattle.step_stores.proofs.FoundLemmas.{woken, slept_on, read_so}
+use Rattle.step_stores.proofs.Writes.{table-task, same-task, table-cpu, same-cpu, table-cond, same-cond, table-seat, same-seat, get-journal, get-task_out, get-queue_out, get-works_out, get-wait_out}
+use Rattle.step_stores.proofs.Writes.{get-test, get-asleep, get-reads}
 
 pub put_state_lem : (core : Core) (k : ℕ) (w : TaskWords) (state : State) → k < (columns core).tasks → w ≡ get_or core.tasks.items k w
     → columns (record core { tasks = with_item core.tasks k (record w { state = state }) }) ≡ record (columns core) { state = put (columns core).state k state }
@@ -30,12 +32,14 @@ put_state_lem core k w state h e = table-task core k (record w { state = state }
 pub put_rq_lem : (core : Core) (k : ℕ) (w : TaskWords) (on_rq : ℕ) (changes : ℕ) → k < (columns core).tasks → w ≡ get_or core.tasks.items k w
     → columns (record core { tasks = with_item core.tasks k (record w { on_rq = on_rq; changes = changes }) })
     ≡ record (columns core) { on_rq = put (columns core).on_rq k on_rq; changes = put (columns core).changes k changes }
-put_rq_lem core k w on_rq changes h e = table-task core k (record w { on_rq = on_rq; changes = changes }) h ∙ (λ i. record (same-task core k w h e i) { on_rq = put (columns core).on_rq k on_rq; changes = put (columns core).changes k changes })
+put_rq_lem core k w on_rq changes h e = table-task core k (record w { on_rq = on_rq; changes = changes }) h
+    ∙ (λ i. record (same-task core k w h e i) { on_rq = put (columns core).on_rq k on_rq; changes = put (columns core).changes k changes })
 
 pub put_busy_lem : (core : Core) (k : ℕ) (w : TaskWords) (on_cpu : Bool) (runs : ℕ) → k < (columns core).tasks → w ≡ get_or core.tasks.items k w
     → columns (record core { tasks = with_item core.tasks k (record w { on_cpu = on_cpu; runs = runs }) })
     ≡ record (columns core) { on_cpu = put (columns core).on_cpu k on_cpu; runs = put (columns core).runs k runs }
-put_busy_lem core k w on_cpu runs h e = table-task core k (record w { on_cpu = on_cpu; runs = runs }) h ∙ (λ i. record (same-task core k w h e i) { on_cpu = put (columns core).on_cpu k on_cpu; runs = put (columns core).runs k runs })
+put_busy_lem core k w on_cpu runs h e = table-task core k (record w { on_cpu = on_cpu; runs = runs }) h
+    ∙ (λ i. record (same-task core k w h e i) { on_cpu = put (columns core).on_cpu k on_cpu; runs = put (columns core).runs k runs })
 
 pub put_cpu_lem : (core : Core) (k : ℕ) (w : TaskWords) (cpu : ℕ) → k < (columns core).tasks → w ≡ get_or core.tasks.items k w
     → columns (record core { tasks = with_item core.tasks k (record w { cpu = cpu }) }) ≡ record (columns core) { cpu = put (columns core).cpu k cpu }
@@ -56,7 +60,8 @@ take_body_lem core k w h e = table-task core k (record w { body = false }) h ∙
 pub put_body_lem : (core : Core) (k : ℕ) (w : TaskWords) (ended : Bool) → k < (columns core).tasks → w ≡ get_or core.tasks.items k w
     → columns (record core { tasks = with_item core.tasks k (record w { body = true; ended = ended }) })
     ≡ record (columns core) { body = put (columns core).body k true; ended = put (columns core).ended k ended }
-put_body_lem core k w ended h e = table-task core k (record w { body = true; ended = ended }) h ∙ (λ i. record (same-task core k w h e i) { body = put (columns core).body k true; ended = put (columns core).ended k ended })
+put_body_lem core k w ended h e = table-task core k (record w { body = true; ended = ended }) h
+    ∙ (λ i. record (same-task core k w h e i) { body = put (columns core).body k true; ended = put (columns core).ended k ended })
 
 pub put_queue_lock_lem : (core : Core) (k : ℕ) (w : CpuWords) (lock : Option ℕ) → k < (columns core).cpus → w ≡ get_or core.cpus.items k w
     → columns (record core { cpus = with_item core.cpus k (record w { queue_lock = lock }) }) ≡ record (columns core) { queue_lock = put (columns core).queue_lock k lock }
@@ -113,21 +118,24 @@ put_body_out_lem core k w new t h e is =
     ∙ (λ i. record (same-seat core k w h e i) { body_held = put (columns core).body_held k t })
 
 pub put_to_clear_lem : (core : Core) (k : ℕ) (w : SeatCore) (new : Position) (t : Option ℕ) → k < (columns core).seats → w ≡ get_or core.seats.items k w
-    → new ≡ record w.pos { to_clear = t } → columns (record core { seats = with_item core.seats k (record w { pos = new }) }) ≡ record (columns core) { task_to_clear = put (columns core).task_to_clear k t }
+    → new ≡ record w.pos { to_clear = t }
+    → columns (record core { seats = with_item core.seats k (record w { pos = new }) }) ≡ record (columns core) { task_to_clear = put (columns core).task_to_clear k t }
 put_to_clear_lem core k w new t h e is =
     ap (λ x. columns (record core { seats = with_item core.seats k (record w { pos = x }) })) is
     ∙ table-seat core k (record w { pos = record w.pos { to_clear = t } }) h
     ∙ (λ i. record (same-seat core k w h e i) { task_to_clear = put (columns core).task_to_clear k t })
 
 pub put_seen_lem : (core : Core) (k : ℕ) (w : SeatCore) (new : Position) (state : Option State) → k < (columns core).seats → w ≡ get_or core.seats.items k w
-    → new ≡ record w.pos { seen = state } → columns (record core { seats = with_item core.seats k (record w { pos = new }) }) ≡ record (columns core) { seen_state = put (columns core).seen_state k state }
+    → new ≡ record w.pos { seen = state }
+    → columns (record core { seats = with_item core.seats k (record w { pos = new }) }) ≡ record (columns core) { seen_state = put (columns core).seen_state k state }
 put_seen_lem core k w new state h e is =
     ap (λ x. columns (record core { seats = with_item core.seats k (record w { pos = x }) })) is
     ∙ table-seat core k (record w { pos = record w.pos { seen = state } }) h
     ∙ (λ i. record (same-seat core k w h e i) { seen_state = put (columns core).seen_state k state })
 
 pub put_level_known_lem : (core : Core) (k : ℕ) (w : SeatCore) (new : Position) (level : Option ℕ) → k < (columns core).seats → w ≡ get_or core.seats.items k w
-    → new ≡ record w.pos { level_known = level } → columns (record core { seats = with_item core.seats k (record w { pos = new }) }) ≡ record (columns core) { level_known = put (columns core).level_known k level }
+    → new ≡ record w.pos { level_known = level }
+    → columns (record core { seats = with_item core.seats k (record w { pos = new }) }) ≡ record (columns core) { level_known = put (columns core).level_known k level }
 put_level_known_lem core k w new level h e is =
     ap (λ x. columns (record core { seats = with_item core.seats k (record w { pos = x }) })) is
     ∙ table-seat core k (record w { pos = record w.pos { level_known = level } }) h

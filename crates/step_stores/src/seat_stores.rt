@@ -47,7 +47,8 @@ pub fn put_body_out(core: &mut Core, s: SeatNo, t: Option<TaskNo>)
 /// Sets the task whose busy word seat s still has to clear.
 pub fn put_to_clear(core: &mut Core, s: SeatNo, t: Option<TaskNo>)
     requires { s < (columns core.old).seats }
-    ensures { columns core.new ≡ record (columns core.old) { task_to_clear = put (columns core.old).task_to_clear s t } }
+    ensures { columns core.new
+        ≡ record (columns core.old) { task_to_clear = put (columns core.old).task_to_clear s t } }
 {
     let row = &mut core.seats[s as usize];
     pos::set_to_clear(&mut row.pos, t);
@@ -65,7 +66,8 @@ pub fn put_seen(core: &mut Core, s: SeatNo, state: Option<State>)
 /// Sets the migrate-disable level of its current task that seat s has read.
 pub fn put_level_known(core: &mut Core, s: SeatNo, level: Option<u32>)
     requires { s < (columns core.old).seats }
-    ensures { columns core.new ≡ record (columns core.old) { level_known = put (columns core.old).level_known s level } }
+    ensures { columns core.new
+        ≡ record (columns core.old) { level_known = put (columns core.old).level_known s level } }
 {
     let row = &mut core.seats[s as usize];
     pos::set_level_known(&mut row.pos, level);
@@ -74,7 +76,11 @@ pub fn put_level_known(core: &mut Core, s: SeatNo, level: Option<u32>)
 /// Adds an entry to the journal of seat s. Answers `NoMemory` where memory runs out.
 pub fn log(core: &mut Core, s: SeatNo, entry: Entry) -> Result<(), NoMemory>
     requires { s < (columns core.old).seats }
-    ensures { OnOk result (columns core.new ≡ record (columns core.old) { journal = put (columns core.old).journal s ((columns core.old).journal s ++ entry ∷ []) }) }
+    ensures { OnOk result
+        (columns core.new ≡ record (columns core.old) {
+          journal = put (columns core.old).journal s
+              ((columns core.old).journal s ++ entry ∷ []);
+        }) }
 {
     let row = &mut core.seats[s as usize];
     add_entry(&mut row.journal, entry)?;
@@ -84,7 +90,11 @@ pub fn log(core: &mut Core, s: SeatNo, entry: Entry) -> Result<(), NoMemory>
 /// Adds a value to those that seat s has out. Answers `NoMemory` where memory runs out.
 pub fn hold_task(core: &mut Core, s: SeatNo, t: TaskNo, val: TaskVal) -> Result<(), NoMemory>
     requires { s < (columns core.old).seats }
-    ensures { OnOk result (columns core.new ≡ record (columns core.old) { task_held = put_at (columns core.old).task_held s t (Some val) }) }
+    ensures { OnOk result
+        (columns core.new ≡ record (columns core.old) {
+          task_held = put_at (columns core.old).task_held s t
+              (Some val);
+        }) }
 {
     let row = &mut core.seats[s as usize];
     held::hold_task(&mut row.held, t, val)?;
@@ -94,7 +104,8 @@ pub fn hold_task(core: &mut Core, s: SeatNo, t: TaskNo, val: TaskVal) -> Result<
 /// Drops a value from those that seat s has out.
 pub fn release_task(core: &mut Core, s: SeatNo, t: TaskNo)
     requires { s < (columns core.old).seats }
-    ensures { columns core.new ≡ record (columns core.old) { task_held = put_at (columns core.old).task_held s t None } }
+    ensures { columns core.new
+        ≡ record (columns core.old) { task_held = put_at (columns core.old).task_held s t None } }
 {
     let row = &mut core.seats[s as usize];
     held::release_task(&mut row.held, t);
@@ -103,7 +114,11 @@ pub fn release_task(core: &mut Core, s: SeatNo, t: TaskNo)
 /// Adds a value to those that seat s has out. Answers `NoMemory` where memory runs out.
 pub fn hold_queue(core: &mut Core, s: SeatNo, c: CpuNo, val: QueueVal) -> Result<(), NoMemory>
     requires { s < (columns core.old).seats }
-    ensures { OnOk result (columns core.new ≡ record (columns core.old) { queue_held = put_at (columns core.old).queue_held s c (Some val) }) }
+    ensures { OnOk result
+        (columns core.new ≡ record (columns core.old) {
+          queue_held = put_at (columns core.old).queue_held s c
+              (Some val);
+        }) }
 {
     let row = &mut core.seats[s as usize];
     held::hold_queue(&mut row.held, c, val)?;
@@ -113,7 +128,8 @@ pub fn hold_queue(core: &mut Core, s: SeatNo, c: CpuNo, val: QueueVal) -> Result
 /// Drops a value from those that seat s has out.
 pub fn release_queue(core: &mut Core, s: SeatNo, c: CpuNo)
     requires { s < (columns core.old).seats }
-    ensures { columns core.new ≡ record (columns core.old) { queue_held = put_at (columns core.old).queue_held s c None } }
+    ensures { columns core.new
+        ≡ record (columns core.old) { queue_held = put_at (columns core.old).queue_held s c None } }
 {
     let row = &mut core.seats[s as usize];
     held::release_queue(&mut row.held, c);
@@ -122,7 +138,11 @@ pub fn release_queue(core: &mut Core, s: SeatNo, c: CpuNo)
 /// Adds a value to those that seat s has out. Answers `NoMemory` where memory runs out.
 pub fn hold_works(core: &mut Core, s: SeatNo, c: CpuNo, val: WorksVal) -> Result<(), NoMemory>
     requires { s < (columns core.old).seats }
-    ensures { OnOk result (columns core.new ≡ record (columns core.old) { works_held = put_at (columns core.old).works_held s c (Some val) }) }
+    ensures { OnOk result
+        (columns core.new ≡ record (columns core.old) {
+          works_held = put_at (columns core.old).works_held s c
+              (Some val);
+        }) }
 {
     let row = &mut core.seats[s as usize];
     held::hold_works(&mut row.held, c, val)?;
@@ -132,7 +152,8 @@ pub fn hold_works(core: &mut Core, s: SeatNo, c: CpuNo, val: WorksVal) -> Result
 /// Drops a value from those that seat s has out.
 pub fn release_works(core: &mut Core, s: SeatNo, c: CpuNo)
     requires { s < (columns core.old).seats }
-    ensures { columns core.new ≡ record (columns core.old) { works_held = put_at (columns core.old).works_held s c None } }
+    ensures { columns core.new
+        ≡ record (columns core.old) { works_held = put_at (columns core.old).works_held s c None } }
 {
     let row = &mut core.seats[s as usize];
     held::release_works(&mut row.held, c);
@@ -141,7 +162,11 @@ pub fn release_works(core: &mut Core, s: SeatNo, c: CpuNo)
 /// Adds a value to those that seat s has out. Answers `NoMemory` where memory runs out.
 pub fn hold_wait(core: &mut Core, s: SeatNo, l: CondNo, val: WaitVal) -> Result<(), NoMemory>
     requires { s < (columns core.old).seats }
-    ensures { OnOk result (columns core.new ≡ record (columns core.old) { wait_held = put_at (columns core.old).wait_held s l (Some val) }) }
+    ensures { OnOk result
+        (columns core.new ≡ record (columns core.old) {
+          wait_held = put_at (columns core.old).wait_held s l
+              (Some val);
+        }) }
 {
     let row = &mut core.seats[s as usize];
     held::hold_wait(&mut row.held, l, val)?;
@@ -151,7 +176,8 @@ pub fn hold_wait(core: &mut Core, s: SeatNo, l: CondNo, val: WaitVal) -> Result<
 /// Drops a value from those that seat s has out.
 pub fn release_wait(core: &mut Core, s: SeatNo, l: CondNo)
     requires { s < (columns core.old).seats }
-    ensures { columns core.new ≡ record (columns core.old) { wait_held = put_at (columns core.old).wait_held s l None } }
+    ensures { columns core.new
+        ≡ record (columns core.old) { wait_held = put_at (columns core.old).wait_held s l None } }
 {
     let row = &mut core.seats[s as usize];
     held::release_wait(&mut row.held, l);
@@ -160,7 +186,10 @@ pub fn release_wait(core: &mut Core, s: SeatNo, l: CondNo)
 /// Sets what a task tested at a condition. Answers `NoMemory` where memory runs out.
 pub fn set_test(core: &mut Core, s: SeatNo, test: Test) -> Result<(), NoMemory>
     requires { s < (columns core.old).seats }
-    ensures { OnOk result (columns core.new ≡ record (columns core.old) { tested = put (columns core.old).tested s (λ t l. if (t == test.t) && (l == test.k) then Some test.v else (columns core.old).tested s t l) }) }
+    ensures { OnOk result (columns core.new ≡ record (columns core.old) {
+      tested = put (columns core.old).tested s
+          (λ t l. if (t == test.t) && (l == test.k) then Some test.v else (columns core.old).tested s t l);
+    }) }
 {
     let row = &mut core.seats[s as usize];
     pos::set_test(&mut row.pos, test)?;
@@ -170,7 +199,12 @@ pub fn set_test(core: &mut Core, s: SeatNo, test: Test) -> Result<(), NoMemory>
 /// Forgets what task t tested, and that it was put to sleep.
 pub fn forget_sleep(core: &mut Core, s: SeatNo, t: TaskNo)
     requires { s < (columns core.old).seats }
-    ensures { columns core.new ≡ record (columns core.old) { tested = put (columns core.old).tested s (λ u l. if u == t then None else (columns core.old).tested s u l); is_asleep = put (columns core.old).is_asleep s (λ u l. if u == t then false else (columns core.old).is_asleep s u l) } }
+    ensures { columns core.new ≡ record (columns core.old) {
+      tested = put (columns core.old).tested s
+          (λ u l. if u == t then None else (columns core.old).tested s u l);
+      is_asleep = put (columns core.old).is_asleep s
+          (λ u l. if u == t then false else (columns core.old).is_asleep s u l);
+    } }
 {
     let row = &mut core.seats[s as usize];
     pos::forget_sleep(&mut row.pos, t);
@@ -187,7 +221,11 @@ pub fn give_asleep(
     sleeper: Option<TaskNo>,
 ) -> Result<(), NoMemory>
     requires { s < (columns core.old).seats }
-    ensures { OnOk result (columns core.new ≡ record (columns core.old) { is_asleep = put (columns core.old).is_asleep s (given_asleep l taken.now given.now sleeper ((columns core.old).is_asleep s)) }) }
+    ensures { OnOk result
+        (columns core.new ≡ record (columns core.old) {
+          is_asleep = put (columns core.old).is_asleep s
+              (given_asleep l taken.now given.now sleeper ((columns core.old).is_asleep s));
+        }) }
 {
     let row = &mut core.seats[s as usize];
     pos::give_asleep(&mut row.pos, l, taken, given, sleeper)?;
@@ -197,7 +235,9 @@ pub fn give_asleep(
 /// Sets what seat s has read of a task. Answers `NoMemory` where memory runs out.
 pub fn set_reads(core: &mut Core, s: SeatNo, reads: TaskReads) -> Result<(), NoMemory>
     requires { s < (columns core.old).seats }
-    ensures { OnOk result (columns core.new ≡ record (columns core.old) { last_reads = put_at (columns core.old).last_reads s reads.t reads }) }
+    ensures { OnOk result
+        (columns core.new
+        ≡ record (columns core.old) { last_reads = put_at (columns core.old).last_reads s reads.t reads }) }
 {
     let row = &mut core.seats[s as usize];
     pos::set_reads(&mut row.pos, reads)?;

@@ -57,7 +57,10 @@ pub fn put_state(core: &mut Core, t: TaskNo, state: State)
 /// Stores `on_rq` of task t, with the number of its changes.
 pub fn put_rq(core: &mut Core, t: TaskNo, on_rq: u8, changes: u64)
     requires { t < (columns core.old).tasks }
-    ensures { columns core.new ≡ record (columns core.old) { on_rq = put (columns core.old).on_rq t on_rq; changes = put (columns core.old).changes t changes } }
+    ensures { columns core.new ≡ record (columns core.old) {
+      on_rq = put (columns core.old).on_rq t on_rq;
+      changes = put (columns core.old).changes t changes;
+    } }
 {
     let row = &mut core.tasks[t as usize];
     row.on_rq = on_rq;
@@ -67,7 +70,10 @@ pub fn put_rq(core: &mut Core, t: TaskNo, on_rq: u8, changes: u64)
 /// Stores the busy word of task t, with the number of its changes.
 pub fn put_busy(core: &mut Core, t: TaskNo, on_cpu: bool, runs: u64)
     requires { t < (columns core.old).tasks }
-    ensures { columns core.new ≡ record (columns core.old) { on_cpu = put (columns core.old).on_cpu t on_cpu; runs = put (columns core.old).runs t runs } }
+    ensures { columns core.new ≡ record (columns core.old) {
+      on_cpu = put (columns core.old).on_cpu t on_cpu;
+      runs = put (columns core.old).runs t runs;
+    } }
 {
     let row = &mut core.tasks[t as usize];
     row.on_cpu = on_cpu;
@@ -113,7 +119,10 @@ pub fn take_body(core: &mut Core, t: TaskNo)
 /// Puts the body of task t home.
 pub fn put_body(core: &mut Core, t: TaskNo, ended: bool)
     requires { t < (columns core.old).tasks }
-    ensures { columns core.new ≡ record (columns core.old) { body = put (columns core.old).body t true; ended = put (columns core.old).ended t ended } }
+    ensures { columns core.new ≡ record (columns core.old) {
+      body = put (columns core.old).body t true;
+      ended = put (columns core.old).ended t ended;
+    } }
 {
     let row = &mut core.tasks[t as usize];
     row.body = true;

@@ -1,5 +1,6 @@
 -- The tasks of faultless lines are a forest.
-use Rattle.std.proofs.Common.{◌≡◌, ◌≢◌, ℕ, zero, suc, ◌+◌, ◌<◌, ◌≤◌, Bool, true, false, cond, ◌||◌, List, [], ◌∷◌, ◌++◌, length, Option, Some, None, refl, sym, ap, subst, ◌∙◌, append_assoc, length-append, All, arith}
+use Rattle.std.proofs.Common.{◌≡◌, ◌≢◌, ℕ, zero, suc, ◌+◌, ◌<◌, ◌≤◌, Bool, true, false, cond, ◌||◌, List, [], ◌∷◌, ◌++◌, length, Option, Some, None, refl, sym, ap, subst, ◌∙◌, append_assoc}
+use Rattle.std.proofs.Common.{length-append, All, arith}
 use Rattle.std.specs.Prelude.{AllPairs, slice_index_or, nat_lt}
 use Rattle.std.specs.List.{list_any, filter_map, cons_option, position_from, flat_map}
 use Rattle.std.specs.Option.{is_none}
@@ -17,7 +18,8 @@ use Rattle.task_script.specs.declared.script.TaskDef.{TaskDef}
 use Rattle.task_script.specs.declared.script.Script.{Script}
 use Rattle.task_script.specs.Plan.{sides}
 use Rattle.task_script.specs.Forest.{IsForest, reads as read_tasks}
-use Rattle.task_script.specs.Forms.{Kind, lines_kind, count_kind, upper_kind, number_kind, keep_kind, drop_kind, tally_kind, pin_kind, cat_kind, weave_kind, reads, Form, skip_line, cpus_line, caches_line, room_line, task_line, text_line, end_line}
+use Rattle.task_script.specs.Forms.{Kind, lines_kind, count_kind, upper_kind, number_kind, keep_kind, drop_kind, tally_kind, pin_kind, cat_kind, weave_kind, reads, Form, skip_line, cpus_line}
+use Rattle.task_script.specs.Forms.{caches_line, room_line, task_line, text_line, end_line}
 use Rattle.task_script.specs.Script.{number_of, plan_of, task_of, tasks_of, texts_of, named_in, read_in, so_far, lacks_task, reads_again, AreFaultless, IsScript}
 use Rattle.task_script.proofs.FormLaws.{is_good}
 use Rattle.task_script.proofs.ScriptLaws.{form_good}
@@ -39,7 +41,8 @@ lower : (p : List ℕ → Bool) (i k : ℕ) (xs : Names) → position_from p i x
 lower p i k [] e = absurd cc
 lower p i k (x ∷ xs) e = lower_step p i k xs (p x) (lower p (i + 1) k xs) e
 
-upper_step : (p : List ℕ → Bool) (i k : ℕ) (xs : Names) (b : Bool) → (position_from p (i + 1) xs ≡ Some k → k < i + 1 + length xs) → cond b (Some i) (position_from p (i + 1) xs) ≡ Some k → k < i + suc (length xs)
+upper_step : (p : List ℕ → Bool) (i k : ℕ) (xs : Names) (b : Bool) → (position_from p (i + 1) xs ≡ Some k → k < i + 1 + length xs) → cond b (Some i) (position_from p (i + 1) xs) ≡ Some k
+    → k < i + suc (length xs)
 upper_step p i k xs true more e = let same : i ≡ k = cc in omega arith
 upper_step p i k xs false more e = let below : k < i + 1 + length xs = more e in omega arith
 
@@ -175,7 +178,10 @@ read-more names sources seen tasks (name ∷ more) same are found once =
       read = subst (λ (z : List ℕ). AreRead names (sources ++ name ∷ more) (tasks ++ z)) (sym numbers)
           (subst (λ (z : Names). AreRead names z (tasks ++ this.number ∷ filter_map (number_of names) more)) (append_assoc sources (name ∷ []) more)
           (subst (λ (z : List ℕ). AreRead names ((sources ++ name ∷ []) ++ more) z) (append_assoc tasks (this.number ∷ []) (filter_map (number_of names) more)) rest.read));
-      below = subst (λ (z : List ℕ). All (λ t. t < length names) z) (sym numbers) (cons_below (length names) this.number (filter_map (number_of names) more) (number-below names this.number name this.is) rest.below);
+      below =
+          subst
+          (λ (z : List ℕ). All (λ t. t < length names) z) (sym numbers)
+          (cons_below (length names) this.number (filter_map (number_of names) more) (number-below names this.number name this.is) rest.below);
       counted = ap length numbers ∙ ap (λ (n : ℕ). suc n) rest.counted;
     }
 
@@ -251,8 +257,10 @@ GrownAfter before done = Grown (flat_map named_in before) (flat_map read_in befo
 -- a line that is no task leaves the tasks
 grown-same : (before : List Form) (form : Form) (done : List TaskDef) → named_in form ≡ [] → read_in form ≡ [] → GrownAfter before done → GrownAfter (before ++ form ∷ []) done
 grown-same before form done none unread g =
-    let names : flat_map named_in (before ++ form ∷ []) ≡ flat_map named_in before = flat_push named_in before form ∙ ap (λ (z : Names). flat_map named_in before ++ z) none ∙ append-nil (flat_map named_in before) in
-    let sources : flat_map read_in (before ++ form ∷ []) ≡ flat_map read_in before = flat_push read_in before form ∙ ap (λ (z : Names). flat_map read_in before ++ z) unread ∙ append-nil (flat_map read_in before) in
+    let names : flat_map named_in (before ++ form ∷ []) ≡ flat_map named_in before = flat_push named_in before form ∙ ap (λ (z : Names). flat_map named_in before ++ z) none
+    ∙ append-nil (flat_map named_in before) in
+    let sources : flat_map read_in (before ++ form ∷ []) ≡ flat_map read_in before = flat_push read_in before form ∙ ap (λ (z : Names). flat_map read_in before ++ z) unread
+    ∙ append-nil (flat_map read_in before) in
     subst (λ (z : Names). Grown z (flat_map read_in (before ++ form ∷ [])) done) (sym names) (subst (λ (z : Names). Grown (flat_map named_in before) z done) (sym sources) g)
 
 names-same : (before : List Form) (form : Form) → named_in form ≡ [] → flat_map named_in (before ++ form ∷ []) ≡ flat_map named_in before
@@ -271,12 +279,18 @@ forest-on : (before : List Form) (done : List TaskDef) (lines : Names) (forms : 
 forest-on before done [] [] g all = subst (λ (z : List TaskDef). IsForest z) (sym (append-nil done)) g.forest
 forest-on before done [] (form ∷ forms) g all = absurd all
 forest-on before done (line ∷ lines) [] g all = absurd all
-forest-on before done (line ∷ lines) (skip_line ∷ forms) g all = passed before skip_line done forms refl refl (forest-on (before ++ skip_line ∷ []) done lines forms (grown-same before skip_line done refl refl g) all.1)
-forest-on before done (line ∷ lines) (cpus_line n ∷ forms) g all = passed before (cpus_line n) done forms refl refl (forest-on (before ++ cpus_line n ∷ []) done lines forms (grown-same before (cpus_line n) done refl refl g) all.1)
-forest-on before done (line ∷ lines) (caches_line n ∷ forms) g all = passed before (caches_line n) done forms refl refl (forest-on (before ++ caches_line n ∷ []) done lines forms (grown-same before (caches_line n) done refl refl g) all.1)
-forest-on before done (line ∷ lines) (room_line n ∷ forms) g all = passed before (room_line n) done forms refl refl (forest-on (before ++ room_line n ∷ []) done lines forms (grown-same before (room_line n) done refl refl g) all.1)
-forest-on before done (line ∷ lines) (text_line t ∷ forms) g all = passed before (text_line t) done forms refl refl (forest-on (before ++ text_line t ∷ []) done lines forms (grown-same before (text_line t) done refl refl g) all.1)
-forest-on before done (line ∷ lines) (end_line ∷ forms) g all = passed before end_line done forms refl refl (forest-on (before ++ end_line ∷ []) done lines forms (grown-same before end_line done refl refl g) all.1)
+forest-on before done (line ∷ lines) (skip_line ∷ forms) g all =
+    passed before skip_line done forms refl refl (forest-on (before ++ skip_line ∷ []) done lines forms (grown-same before skip_line done refl refl g) all.1)
+forest-on before done (line ∷ lines) (cpus_line n ∷ forms) g all =
+    passed before (cpus_line n) done forms refl refl (forest-on (before ++ cpus_line n ∷ []) done lines forms (grown-same before (cpus_line n) done refl refl g) all.1)
+forest-on before done (line ∷ lines) (caches_line n ∷ forms) g all =
+    passed before (caches_line n) done forms refl refl (forest-on (before ++ caches_line n ∷ []) done lines forms (grown-same before (caches_line n) done refl refl g) all.1)
+forest-on before done (line ∷ lines) (room_line n ∷ forms) g all =
+    passed before (room_line n) done forms refl refl (forest-on (before ++ room_line n ∷ []) done lines forms (grown-same before (room_line n) done refl refl g) all.1)
+forest-on before done (line ∷ lines) (text_line t ∷ forms) g all =
+    passed before (text_line t) done forms refl refl (forest-on (before ++ text_line t ∷ []) done lines forms (grown-same before (text_line t) done refl refl g) all.1)
+forest-on before done (line ∷ lines) (end_line ∷ forms) g all =
+    passed before end_line done forms refl refl (forest-on (before ++ end_line ∷ []) done lines forms (grown-same before end_line done refl refl g) all.1)
 forest-on before done (line ∷ lines) (task_line name kind ∷ forms) g all =
     let names = flat_map named_in before in
     let good = is_good (so_far before) (task_line name kind) (form_good (so_far before) line (task_line name kind) all.0.formed all.0.good) in

@@ -7,8 +7,11 @@ use Rattle.std.specs.Str.{bytes_eq}
 use Rattle.std.proofs.lemmas.Bool.{and_parts, or_parts, not-false, leb-true, leb-false, eqb-false}
 use Rattle.handoff_data.specs.Line.{IsLine}
 use Rattle.task_script.specs.Lines.{input_lines, before_returns, without_returns, is_blank, skip_blanks, has_bytes, words}
-use Rattle.task_script.specs.Forms.{AreLines, HasLinePrefix, HasLineText, value_of, is_number, is_within, Kind, reads, lines_kind, count_kind, upper_kind, number_kind, keep_kind, drop_kind, tally_kind, pin_kind, cat_kind, weave_kind, Form, skip_line, cpus_line, caches_line, room_line, task_line, text_line, end_line, setting_form, reader_form, joining_form, choosing_form, long_form, worded_form, text_of, bare_form, form_of}
-use Rattle.task_script.specs.Script.{SoFar, faults, lowest, form_code, is_bad_group, is_kept, has_tasks, bad_number, bad_name, name_twice, no_such_task, already_read, too_many, bad_order, text_without_task}
+use Rattle.task_script.specs.Forms.{AreLines, HasLinePrefix, HasLineText, value_of, is_number, is_within, Kind, reads, lines_kind, count_kind, upper_kind, number_kind, keep_kind, drop_kind}
+use Rattle.task_script.specs.Forms.{tally_kind, pin_kind, cat_kind, weave_kind, Form, skip_line, cpus_line, caches_line, room_line, task_line, text_line, end_line, setting_form, reader_form}
+use Rattle.task_script.specs.Forms.{joining_form, choosing_form, long_form, worded_form, text_of, bare_form, form_of}
+use Rattle.task_script.specs.Script.{SoFar, faults, lowest, form_code, is_bad_group, is_kept, has_tasks, bad_number, bad_name, name_twice, no_such_task, already_read, too_many, bad_order}
+use Rattle.task_script.specs.Script.{text_without_task}
 use Rattle.task_script.specs.Reading.{CanSettle}
 use Rattle.task_script.specs.Valid.{IsText, IsWord}
 
@@ -137,13 +140,21 @@ none_text form e = absurd cc
 
 joining_text : (name kind first second : List ℕ) (form : Form) → IsWord name → IsWord first → IsWord second → joining_form name kind first second ≡ Some form → HasWords form
 joining_text name kind first second form n a b e =
-    pick (bytes_eq kind (codes "cat")) (task_line name (cat_kind first second)) (cond (bytes_eq kind (codes "weave")) (Some (task_line name (weave_kind first second))) None) form e (n, tt, (a, (b, tt)))
+    pick (bytes_eq kind (codes "cat")) (task_line name (cat_kind first second)) (cond (bytes_eq kind (codes "weave")) (Some (task_line name (weave_kind first second))) None) form e (
+      n,
+      tt,
+      (a, (b, tt)),
+    )
     (λ w. pick (bytes_eq kind (codes "weave")) (task_line name (weave_kind first second)) None form w (n, tt, (a, (b, tt))) (none_text form))
 
 choosing_text : (name kind word source : List ℕ) (form : Form) → IsWord name → IsWord word → IsWord source → choosing_form name kind word source ≡ Some form → HasWords form
 choosing_text name kind word source form n w s e =
     pick (bytes_eq kind (codes "keep")) (task_line name (keep_kind word source))
-    (cond (bytes_eq kind (codes "drop")) (Some (task_line name (drop_kind word source))) (cond (bytes_eq kind (codes "pin")) (Some (task_line name (pin_kind word source))) None)) form e (n, w, (s, tt))
+    (cond (bytes_eq kind (codes "drop")) (Some (task_line name (drop_kind word source))) (cond (bytes_eq kind (codes "pin")) (Some (task_line name (pin_kind word source))) None)) form e (
+      n,
+      w,
+      (s, tt),
+    )
     (λ d. pick (bytes_eq kind (codes "drop")) (task_line name (drop_kind word source)) (cond (bytes_eq kind (codes "pin")) (Some (task_line name (pin_kind word source))) None) form d (n, w, (s, tt))
     (λ p. pick (bytes_eq kind (codes "pin")) (task_line name (pin_kind word source)) None form p (n, tt, (s, tt)) (none_text form)))
 
@@ -151,14 +162,16 @@ long_text : (name kind third fourth fifth : List ℕ) (form : Form) → IsWord n
     → long_form name kind third fourth fifth ≡ Some form → HasWords form
 long_text name kind third fourth fifth form n t o i e =
     elim (bytes_eq kind (codes "cat") || bytes_eq kind (codes "weave"))
-    as (λ b. cond b (cond (bytes_eq third (codes "from")) (joining_form name kind fourth fifth) None) (cond (bytes_eq fourth (codes "from")) (choosing_form name kind third fifth) None) ≡ Some form → HasWords form) [
+    as (λ b. cond b (cond (bytes_eq third (codes "from")) (joining_form name kind fourth fifth) None) (cond (bytes_eq fourth (codes "from")) (choosing_form name kind third fifth) None) ≡ Some form
+    → HasWords form) [
       | true ↦ λ j. joining_text name kind fourth fifth form n o i (within (bytes_eq third (codes "from")) (joining_form name kind fourth fifth) form j)
       | false ↦ λ j. choosing_text name kind third fifth form n t i (within (bytes_eq fourth (codes "from")) (choosing_form name kind third fifth) form j)
     ] e
 
 setting_text : (word number : List ℕ) (form : Form) → setting_form word number ≡ Some form → HasWords form
 setting_text word number form e =
-    pick (bytes_eq word (codes "cpus")) (cpus_line number) (cond (bytes_eq word (codes "caches")) (Some (caches_line number)) (cond (bytes_eq word (codes "room")) (Some (room_line number)) None)) form e tt
+    pick (bytes_eq word (codes "cpus")) (cpus_line number) (cond (bytes_eq word (codes "caches")) (Some (caches_line number)) (cond (bytes_eq word (codes "room")) (Some (room_line number)) None)) form
+    e tt
     (λ f. pick (bytes_eq word (codes "caches")) (caches_line number) (cond (bytes_eq word (codes "room")) (Some (room_line number)) None) form f tt
     (λ g. pick (bytes_eq word (codes "room")) (room_line number) None form g tt (none_text form)))
 

@@ -65,7 +65,8 @@ other_name names new name k false is there e = is
 other_name names new name k true is there e =
     let both : number_of names name ≡ Some k = subst (λ (n : List ℕ). number_of names n ≡ Some k) ((bytes_eq-Decides new name).0 is) there in cc
 
-found_step : {X : Type 0} (p : X → Bool) (i : ℕ) (xs : List X) (b : Bool) → is_some (position_from p (i + 1) xs) ≡ list_any p xs → is_some (cond b (Some i) (position_from p (i + 1) xs)) ≡ b || list_any p xs
+found_step : {X : Type 0} (p : X → Bool) (i : ℕ) (xs : List X) (b : Bool) → is_some (position_from p (i + 1) xs) ≡ list_any p xs → is_some (cond b (Some i) (position_from p (i + 1) xs)) ≡ b
+    || list_any p xs
 found_step p i xs true more = refl
 found_step p i xs false more = more
 

@@ -1,5 +1,6 @@
 -- What the reader answers is a script or the first fault.
-use Rattle.std.proofs.Common.{◌≡◌, ℕ, suc, ◌+◌, ◌<◌, ◌≤◌, ◌==◌, Bool, true, false, cond, ◌&&◌, List, [], ◌∷◌, ◌++◌, length, take, Option, Some, None, Result, Ok, Err, refl, sym, ap, subst, ◌∙◌, append_assoc, inl, inr, ◌⊎◌, lit≤, arith}
+use Rattle.std.proofs.Common.{◌≡◌, ℕ, suc, ◌+◌, ◌<◌, ◌≤◌, ◌==◌, Bool, true, false, cond, ◌&&◌, List, [], ◌∷◌, ◌++◌, length, take, Option, Some, None, Result, Ok, Err, refl, sym, ap, subst, ◌∙◌}
+use Rattle.std.proofs.Common.{append_assoc, inl, inr, ◌⊎◌, lit≤, arith}
 use Rattle.std.specs.Prelude.{unwrap_or, nat_lt, ⊤}
 use Rattle.std.specs.List.{onto_first, list_any}
 use Rattle.std.specs.Option.{option_map, option_to_list}
@@ -12,8 +13,10 @@ use Rattle.task_script.specs.declared.reader.Source.{Source}
 use Rattle.task_script.specs.declared.script.ScriptError.{ScriptError}
 use Rattle.task_script.specs.declared.script.ScriptError.TheVariants as errors
 use Rattle.task_script.specs.Lines.{input_lines}
-use Rattle.task_script.specs.Forms.{Kind, lines_kind, count_kind, upper_kind, number_kind, keep_kind, drop_kind, tally_kind, pin_kind, cat_kind, weave_kind, Form, skip_line, cpus_line, caches_line, room_line, task_line, text_line, end_line, form_of}
-use Rattle.task_script.specs.Script.{shape_of, script_of, given, cpus_in, tasks_of, is_end, SoFar, so_far, faults, lowest, form_code, line_code, code_of, IsFaultless, AreFaultless, IsScript, NotScript, judged_lines, is_over, IsFaulty, faulty_line, no_end, FirstFault}
+use Rattle.task_script.specs.Forms.{Kind, lines_kind, count_kind, upper_kind, number_kind, keep_kind, drop_kind, tally_kind, pin_kind, cat_kind, weave_kind, Form, skip_line, cpus_line, caches_line}
+use Rattle.task_script.specs.Forms.{room_line, task_line, text_line, end_line, form_of}
+use Rattle.task_script.specs.Script.{shape_of, script_of, given, cpus_in, tasks_of, is_end, SoFar, so_far, faults, lowest, form_code, line_code, code_of, IsFaultless, AreFaultless, IsScript}
+use Rattle.task_script.specs.Script.{NotScript, judged_lines, is_over, IsFaulty, faulty_line, no_end, FirstFault}
 use Rattle.task_script.specs.Reading.{State, held, start, source_task, all_tasks, opened, added, with_text, next, fault_at, stepped, step, and_then, run, judged, verdict, IsScriptOf, Fails}
 use Rattle.task_script.proofs.FormLaws.{is_good}
 use Rattle.task_script.proofs.SoFarLaws.{held_next, said, said_next, closed_said}
@@ -210,7 +213,11 @@ next_keeps s (task_line name kind) e k =
     let one = one_added s.names name kind in
     record {
       closed = λ ended. absurd (true≢false (sym ended ∙ open_still));
-      counted = omega (arith, length-append (all_tasks s ++ added s.names name kind) (option_to_list (option_map source_task (opened name kind))), length-append (all_tasks s) (added s.names name kind));
+      counted = omega (
+        arith,
+        length-append (all_tasks s ++ added s.names name kind) (option_to_list (option_map source_task (opened name kind))),
+        length-append (all_tasks s) (added s.names name kind),
+      );
       few = omega arith;
     }
 next_keeps s (text_line text) e k =
@@ -218,12 +225,18 @@ next_keeps s (text_line text) e k =
     let counted = k.counted in
     record {
       closed = λ ended. absurd (true≢false (sym ended ∙ open_still));
-      counted = omega (arith, length-append s.tasks (option_to_list (option_map source_task (with_text s.source text))), length-append s.tasks (option_to_list (option_map source_task s.source)), text_counted s.source text);
+      counted = omega (
+        arith,
+        length-append s.tasks (option_to_list (option_map source_task (with_text s.source text))),
+        length-append s.tasks (option_to_list (option_map source_task s.source)),
+        text_counted s.source text,
+      );
       few = k.few;
     }
 next_keeps s end_line e k = settled_keeps s (next s end_line) k refl refl refl
 
-stepped_keeps : (number : ℕ) (s : State) (line : List ℕ) → Keeps s → (code : Option ℕ) (form : Option Form) → line_code (held s) line ≡ code → form_of line ≡ form → OnState Keeps (stepped number s code form)
+stepped_keeps : (number : ℕ) (s : State) (line : List ℕ) → Keeps s → (code : Option ℕ) (form : Option Form) → line_code (held s) line ≡ code → form_of line ≡ form
+    → OnState Keeps (stepped number s code form)
 stepped_keeps number s line k (Some code) form e is = tt
 stepped_keeps number s line k None None e is = k
 stepped_keeps number s line k None (Some form) e is = next_keeps s form (form_good (held s) line form is e) k
@@ -347,7 +360,8 @@ module _ (bytes : List ℕ) where
 
   script_holds : is_over bytes ≡ false → (t : State) → t.ended ≡ true → Keeps t → AllRead start [] (judged_lines bytes) t → (script : Script) → IsScriptOf t script → IsScript bytes script
   script_holds e t ended keeps h script is =
-      let said_tasks : t.tasks ≡ tasks_of [] h.forms = sym (append-nil t.tasks) ∙ ap (λ (o : Option Source). t.tasks ++ option_to_list (option_map source_task o)) (sym (keeps.closed ended)) ∙ h.tasks in
+      let said_tasks : t.tasks ≡ tasks_of [] h.forms = sym (append-nil t.tasks) ∙ ap (λ (o : Option Source). t.tasks ++ option_to_list (option_map source_task o)) (sym (keeps.closed ended))
+      ∙ h.tasks in
       let cpus = ap (λ (r : SoFar). r.cpus) h.held_is in
       let caches = ap (λ (r : SoFar). r.caches) h.held_is in
       let room = is.2 ∙ ap (λ (r : SoFar). unwrap_or r.room 4) h.held_is in
@@ -421,7 +435,8 @@ one_script bytes script other a b =
     b.says ∙ ap script_of (one_reading [] (input_lines bytes) b.forms a.forms b.faultless a.faultless) ∙ sym a.says
 
 pub few_tasks : (bytes : List ℕ) (s : State) → verdict bytes ≡ Ok s → length s.tasks ≤ 200
-few_tasks bytes s e = let keeps = verdict_keeps bytes s e in let counted = keeps.counted in let few = keeps.few in omega (arith, length-append s.tasks (option_to_list (option_map source_task s.source)))
+few_tasks bytes s e = let keeps = verdict_keeps bytes s e in let counted = keeps.counted in let few = keeps.few in
+    omega (arith, length-append s.tasks (option_to_list (option_map source_task s.source)))
 
 -- an error that isn't want of memory
 pub refused : {Y : Type 0} (error : ScriptError) (read : Result Y ScriptFault) → Fails error read → (fault : ScriptFault) → error ≡ errors.Bad fault → read ≡ Err fault

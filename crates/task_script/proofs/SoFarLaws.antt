@@ -9,7 +9,8 @@ use Rattle.std.proofs.lemmas.List.Folds.{list_any-append}
 use Rattle.std.proofs.lemmas.Grind.{flat_map-append}
 use Rattle.task_script.specs.declared.reader.Source.{Source}
 use Rattle.task_script.specs.declared.script.TaskDef.{TaskDef}
-use Rattle.task_script.specs.Forms.{Kind, lines_kind, count_kind, upper_kind, number_kind, keep_kind, drop_kind, tally_kind, pin_kind, cat_kind, weave_kind, reads, value_of, Form, skip_line, cpus_line, caches_line, room_line, task_line, text_line, end_line}
+use Rattle.task_script.specs.Forms.{Kind, lines_kind, count_kind, upper_kind, number_kind, keep_kind, drop_kind, tally_kind, pin_kind, cat_kind, weave_kind, reads, value_of, Form, skip_line}
+use Rattle.task_script.specs.Forms.{cpus_line, caches_line, room_line, task_line, text_line, end_line}
 use Rattle.task_script.specs.Script.{task_of, tasks_of, texts_of, given, cpus_in, caches_in, room_in, named_in, read_in, is_kept, is_end, takes_text, SoFar, so_far, form_code}
 use Rattle.task_script.specs.Reading.{State, held, source_task, all_tasks, opened, added, with_text, next}
 use Rattle.task_script.proofs.FormLaws.{is_good}
@@ -97,15 +98,18 @@ module _ (s : State) (before : List Form) (f : held s ≡ so_far before) where
       (ended_stays skip_line refl)
   held_next (cpus_line number) e =
       let form = cpus_line number in
-      same_so_far (next s form) (before ++ form ∷ []) (sym (given_some cpus_in before form (value_of number) refl)) (caches_stay form refl) (room_stays form refl) (names_stay form refl) (sources_stay form refl)
+      same_so_far (next s form) (before ++ form ∷ []) (sym (given_some cpus_in before form (value_of number) refl)) (caches_stay form refl) (room_stays form refl) (names_stay form refl)
+      (sources_stay form refl)
       (texts_then form refl) (ended_stays form refl)
   held_next (caches_line number) e =
       let form = caches_line number in
-      same_so_far (next s form) (before ++ form ∷ []) (cpus_stay form refl) (sym (given_some caches_in before form (value_of number) refl)) (room_stays form refl) (names_stay form refl) (sources_stay form refl)
+      same_so_far (next s form) (before ++ form ∷ []) (cpus_stay form refl) (sym (given_some caches_in before form (value_of number) refl)) (room_stays form refl) (names_stay form refl)
+      (sources_stay form refl)
       (texts_then form refl) (ended_stays form refl)
   held_next (room_line number) e =
       let form = room_line number in
-      same_so_far (next s form) (before ++ form ∷ []) (cpus_stay form refl) (caches_stay form refl) (sym (given_some room_in before form (value_of number) refl)) (names_stay form refl) (sources_stay form refl)
+      same_so_far (next s form) (before ++ form ∷ []) (cpus_stay form refl) (caches_stay form refl) (sym (given_some room_in before form (value_of number) refl)) (names_stay form refl)
+      (sources_stay form refl)
       (texts_then form refl) (ended_stays form refl)
   held_next (task_line name kind) e =
       let form = task_line name kind in
@@ -167,7 +171,8 @@ said_next s (task_line name kind) e forms =
     let rest = tasks_of (s.names ++ name ∷ []) forms in
     let task = task_of s.names name kind (texts_of forms) in
     append_assoc (all_tasks s) (added s.names name kind) (open_said (opened name kind) forms ++ rest)
-    ∙ ap (λ (ts : List TaskDef). all_tasks s ++ ts) (sym (append_assoc (added s.names name kind) (open_said (opened name kind) forms) rest) ∙ ap (λ (ts : List TaskDef). ts ++ rest) (added_said s.names name kind forms))
+    ∙ ap (λ (ts : List TaskDef). all_tasks s ++ ts) (sym (append_assoc (added s.names name kind) (open_said (opened name kind) forms) rest)
+    ∙ ap (λ (ts : List TaskDef). ts ++ rest) (added_said s.names name kind forms))
     ∙ sym (closed_said s.tasks s.source (task_line name kind ∷ forms) (task ∷ rest) refl)
 said_next s (text_line text) e forms = ap (λ (ts : List TaskDef). s.tasks ++ (ts ++ tasks_of s.names forms)) (text_said s.source text forms (texts_good (held s) text e))
 said_next s end_line e forms = sym (closed_said s.tasks s.source (end_line ∷ forms) (tasks_of s.names forms) refl)

@@ -14,7 +14,8 @@ use Rattle.task_script.specs.declared.reader.Source.{Source}
 use Rattle.task_script.specs.declared.script.TaskDef.{TaskDef}
 use Rattle.task_script.specs.declared.script.Script.{Script}
 use Rattle.task_script.specs.declared.script.ScriptFault.{ScriptFault}
-use Rattle.task_script.specs.Forms.{value_of, is_number, is_within, is_name, Kind, lines_kind, count_kind, upper_kind, number_kind, keep_kind, drop_kind, tally_kind, pin_kind, cat_kind, weave_kind, Form, skip_line, cpus_line, caches_line, room_line, task_line, text_line, end_line, form_of}
+use Rattle.task_script.specs.Forms.{value_of, is_number, is_within, is_name, Kind, lines_kind, count_kind, upper_kind, number_kind, keep_kind, drop_kind, tally_kind, pin_kind, cat_kind, weave_kind}
+use Rattle.task_script.specs.Forms.{Form, skip_line, cpus_line, caches_line, room_line, task_line, text_line, end_line, form_of}
 use Rattle.task_script.specs.Script.{shape_of, task_of, plan_of, number_of, has_tasks, has_bad_count, is_bad_group, form_code, line_code, judged_lines, is_over, IsScript}
 use Rattle.task_script.specs.Reading.{State, held, start, source_task, closed, opened, added, with_text, settled, next, fault_at, stepped, step, and_then, run, judged, verdict}
 use Rattle.task_script.specs.Valid.{IsMachine, IsRoom, names_of, AreNames, IsText, Begins, AllBegin}

@@ -1,5 +1,6 @@
 -- What form a line has, by its words.
-use Rattle.std.specs.Prelude.{ℕ, ◌+◌, ◌*◌, ◌-◌, Bool, false, ◌&&◌, ◌||◌, ◌==◌, if◌then◌else◌, List, [], ◌∷◌, length, nat_le, Option, Some, None, unwrap_or, codes, ⊤}
+use Rattle.std.specs.Prelude.{ℕ, ◌+◌, ◌*◌, ◌-◌, Bool, false, ◌&&◌, ◌||◌, ◌==◌, if◌then◌else◌, List, [], ◌∷◌, length}
+use Rattle.std.specs.Prelude.{nat_le, Option, Some, None, unwrap_or, codes, ⊤}
 use Rattle.std.specs.List.{list_all}
 use Rattle.std.specs.Str.{bytes_eq}
 use Rattle.std.specs.Char.{is_ascii_digit, is_ascii_lowercase}
@@ -122,7 +123,8 @@ worded_form (word ∷ number ∷ []) = setting_form word number
 worded_form (word ∷ name ∷ kind ∷ []) =
     if bytes_eq word (codes "task") && bytes_eq kind (codes "lines") then Some (task_line name lines_kind) else None
 worded_form (word ∷ name ∷ kind ∷ number ∷ []) =
-    if bytes_eq word (codes "task") && bytes_eq kind (codes "count") then Some (task_line name (count_kind number)) else None
+    if bytes_eq word (codes "task") && bytes_eq kind (codes "count") then Some (task_line name (count_kind number))
+    else None
 worded_form (word ∷ name ∷ kind ∷ from ∷ source ∷ []) =
     if bytes_eq word (codes "task") && bytes_eq from (codes "from") then reader_form name kind source else None
 worded_form (word ∷ name ∷ kind ∷ third ∷ fourth ∷ fifth ∷ []) =

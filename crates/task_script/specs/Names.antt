@@ -12,4 +12,5 @@ texts names = map (λ (name : Bor (List ℕ)). name.now) names
 
 -- the map has each name's number, and no other name
 abbrev pub AreNumbered : List (Bor (List ℕ)) → BTreeMap (Bor (List ℕ)) ℕ → Type 0
-AreNumbered names numbers = (name : List ℕ) → get_by (λ k. slice_cmp nat_cmp name k.now) numbers ≡ number_of (texts names) name
+AreNumbered names numbers = (name : List ℕ)
+    → get_by (λ k. slice_cmp nat_cmp name k.now) numbers ≡ number_of (texts names) name

@@ -1,7 +1,8 @@
 -- Plans of text tasks.
 use Rattle.std.specs.Prelude.{ℕ}
 use Rattle.task_script.specs.declared.plan.Plan.{Plan}
-use Rattle.task_script.specs.declared.plan.Plan.TheVariants.{Lines, Count, Upper, Number, Keep, Drop, Tally, Cat, Weave, Pin}
+use Rattle.task_script.specs.declared.plan.Plan.TheVariants.{Lines, Count, Upper, Number, Keep, Drop, Tally, Cat, Weave}
+use Rattle.task_script.specs.declared.plan.Plan.TheVariants.{Pin}
 
 -- how many tasks a plan reads
 abbrev pub sides : Plan → ℕ

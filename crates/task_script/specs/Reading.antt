@@ -1,6 +1,7 @@
 -- What the reader holds, and what one line does to it. `Script` says what a script is and which fault is the first; the
 -- two are shown to agree.
-use Rattle.std.specs.Prelude.{◌≡◌, ℕ, ◌+◌, ◌<◌, ◌≤◌, ◌^◌, Bool, true, false, IsTrue, if◌then◌else◌, List, [], ◌∷◌, ◌++◌, length, Option, Some, None, Result, Ok, Err, unwrap_or, ⊤}
+use Rattle.std.specs.Prelude.{◌≡◌, ℕ, ◌+◌, ◌<◌, ◌≤◌, ◌^◌, Bool, true, false, IsTrue, if◌then◌else◌, List, [], ◌∷◌, ◌++◌}
+use Rattle.std.specs.Prelude.{length, Option, Some, None, Result, Ok, Err, unwrap_or, ⊤}
 use Rattle.std.specs.Option.{IsSomeAnd, is_some, option_map, option_to_list}
 use Rattle.task_script.specs.declared.reader.Source.{Source}
 use Rattle.task_script.specs.declared.reader.Reader.{Reader}
@@ -9,7 +10,8 @@ use Rattle.task_script.specs.declared.script.Script.{Script}
 use Rattle.task_script.specs.declared.script.ScriptFault.{ScriptFault}
 use Rattle.task_script.specs.declared.script.ScriptError.{ScriptError}
 use Rattle.task_script.specs.declared.script.ScriptError.TheVariants as errors
-use Rattle.task_script.specs.Forms.{value_of, is_name, Kind, lines_kind, reads, Form, skip_line, cpus_line, caches_line, room_line, task_line, text_line, end_line, form_of}
+use Rattle.task_script.specs.Forms.{value_of, is_name, Kind, lines_kind, reads, Form, skip_line, cpus_line, caches_line}
+use Rattle.task_script.specs.Forms.{room_line, task_line, text_line, end_line, form_of}
 use Rattle.task_script.specs.Script.{shape_of, task_of, SoFar, line_code, judged_lines, is_over}
 
 -- what the lines so far come to, and their tasks; a `lines` task whose texts may still come stands apart
@@ -37,7 +39,16 @@ state_of r =
     }
 
 abbrev pub start : State
-start = record { cpus = None; caches = None; room = None; names = []; sources = []; ended = false; tasks = []; source = None }
+start = record {
+  cpus = None;
+  caches = None;
+  room = None;
+  names = [];
+  sources = [];
+  ended = false;
+  tasks = [];
+  source = None;
+}
 
 abbrev pub held : State → SoFar
 held s =
@@ -147,4 +158,5 @@ Gives view (Err error) read = Fails error read
 -- the script of what the reader has at the end
 abbrev pub IsScriptOf : State → Script → Type 0
 IsScriptOf s script =
-    (script.tasks ≡ s.tasks) × (script.shape ≡ shape_of (unwrap_or s.cpus 1) s.caches (length s.tasks)) × (script.room ≡ unwrap_or s.room 4)
+    (script.tasks ≡ s.tasks) × (script.shape ≡ shape_of (unwrap_or s.cpus 1) s.caches (length s.tasks))
+    × (script.room ≡ unwrap_or s.room 4)

@@ -1,5 +1,6 @@
 -- Which bytes are a script, which script they are, and else the first fault.
-use Rattle.std.specs.Prelude.{◌≡◌, ℕ, ◌+◌, ◌*◌, ◌≤◌, Bool, true, false, ◌&&◌, ◌||◌, not, ◌==◌, if◌then◌else◌, nat_lt, nat_le, List, [], ◌∷◌, ◌++◌, length, take, filter, Option, Some, None, unwrap_or, ⊤}
+use Rattle.std.specs.Prelude.{◌≡◌, ℕ, ◌+◌, ◌*◌, ◌≤◌, Bool, true, false, ◌&&◌, ◌||◌, not, ◌==◌, if◌then◌else◌, nat_lt}
+use Rattle.std.specs.Prelude.{nat_le, List, [], ◌∷◌, ◌++◌, length, take, filter, Option, Some, None, unwrap_or, ⊤}
 use Rattle.std.specs.List.{last_or, position, filter_map, flat_map, list_any}
 use Rattle.std.specs.Option.{is_some, is_none}
 use Rattle.std.specs.Str.{bytes_eq}
@@ -9,7 +10,10 @@ use Rattle.task_script.specs.declared.plan.Plan.TheVariants as plan
 use Rattle.task_script.specs.declared.script.TaskDef.{TaskDef}
 use Rattle.task_script.specs.declared.script.Script.{Script}
 use Rattle.task_script.specs.Lines.{input_lines}
-use Rattle.task_script.specs.Forms.{is_number, value_of, is_within, is_name, Kind, lines_kind, count_kind, upper_kind, number_kind, keep_kind, drop_kind, tally_kind, pin_kind, cat_kind, weave_kind, reads, Form, skip_line, cpus_line, caches_line, room_line, task_line, text_line, end_line, form_of}
+use Rattle.task_script.specs.Forms.{is_number, value_of, is_within, is_name, Kind, lines_kind, count_kind, upper_kind}
+use Rattle.task_script.specs.Forms.{number_kind, keep_kind, drop_kind, tally_kind, pin_kind, cat_kind, weave_kind}
+use Rattle.task_script.specs.Forms.{reads, Form, skip_line, cpus_line, caches_line, room_line, task_line, text_line}
+use Rattle.task_script.specs.Forms.{end_line, form_of}
 
 -- ---- what lines of these forms say
 
@@ -260,7 +264,8 @@ code_of over more s line = line_code s line
 pub data IsFaulty (bytes : List ℕ) (front : List (List ℕ)) (s : SoFar) (code : ℕ) : Type 0 where
   faulty_line : (line : List ℕ) (more : List (List ℕ)) → judged_lines bytes ≡ front ++ line ∷ more
       → code_of (is_over bytes) more s line ≡ Some code → IsFaulty bytes front s code
-  no_end : is_over bytes ≡ false → judged_lines bytes ≡ front → s.ended ≡ false → code ≡ 11 → IsFaulty bytes front s code
+  no_end : is_over bytes ≡ false → judged_lines bytes ≡ front → s.ended ≡ false → code ≡ 11
+      → IsFaulty bytes front s code
 
 -- the first fault of the bytes is on this line, and has this code, the lowest there
 pub record FirstFault (bytes : List ℕ) (line code : ℕ) : Type 0 where

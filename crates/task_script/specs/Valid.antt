@@ -1,11 +1,13 @@
 -- What each script is, whatever its bytes are: its machine, its names, and its plans as they begin.
-use Rattle.std.specs.Prelude.{◌≡◌, ◌≢◌, ℕ, ◌*◌, ◌<◌, ◌≤◌, false, IsTrue, List, length, map, Some, None, All, AllPairs, ⊤}
+use Rattle.std.specs.Prelude.{◌≡◌, ◌≢◌, ℕ, ◌*◌, ◌<◌, ◌≤◌, false, IsTrue, List, length, map, Some, None, All, AllPairs}
+use Rattle.std.specs.Prelude.{⊤}
 use Rattle.std.specs.List.{last_or}
 use Rattle.handoff_data.specs.Line.{IsLine}
 use Rattle.handoff_data.specs.Shape.{IsShape}
 use Rattle.handoff_data.specs.declared.shape.Shape.{Shape}
 use Rattle.task_script.specs.declared.plan.Plan.{Plan}
-use Rattle.task_script.specs.declared.plan.Plan.TheVariants.{Lines, Count, Upper, Number, Keep, Drop, Tally, Cat, Weave, Pin}
+use Rattle.task_script.specs.declared.plan.Plan.TheVariants.{Lines, Count, Upper, Number, Keep, Drop, Tally, Cat, Weave}
+use Rattle.task_script.specs.declared.plan.Plan.TheVariants.{Pin}
 use Rattle.task_script.specs.declared.script.TaskDef.{TaskDef}
 use Rattle.task_script.specs.Forms.{is_name}
 

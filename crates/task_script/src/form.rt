@@ -2,7 +2,9 @@ ghost use Rattle.std.specs.Prelude.{◌≡◌, ◌∷◌, ◌≤◌, [], IsTrue,
 ghost use Rattle.std.specs.Option.{option_map};
 ghost use Rattle.handoff_data.specs.Line.{IsLine};
 ghost use Rattle.task_script.specs.Lines.{words};
-ghost use Rattle.task_script.specs.Forms.{number_in, is_within, is_name, is_name_byte, reads, form_of, bare_form, worded_form, setting_form, reader_form, joining_form, choosing_form, long_form, kind_of, form_seen, names_in, HasLineText};
+ghost use Rattle.task_script.specs.Forms.{number_in, is_within, is_name, is_name_byte, reads, form_of, bare_form};
+ghost use Rattle.task_script.specs.Forms.{worded_form, setting_form, reader_form, joining_form, choosing_form};
+ghost use Rattle.task_script.specs.Forms.{long_form, kind_of, form_seen, names_in, HasLineText};
 
 use crate::pieces::{next_word, skip_blanks, without_returns};
 

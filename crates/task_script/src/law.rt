@@ -10,8 +10,10 @@ ghost use Rattle.task_script.specs.Valid.{IsMachine, IsRoom, AreNames, names_of,
 /// items; its names are names and none stands twice; and each plan is one that has read and put out nothing yet. A law:
 /// the call does nothing.
 pub fn law_script()
-    ensures some { (bytes : List ℕ) → ((s : Script) × IsScript bytes s) ⊎ ((f : ScriptFault) × FirstFault bytes f.line f.code) }
-    ensures not_both { (bytes : List ℕ) (s : Script) (line code : ℕ) → IsScript bytes s → FirstFault bytes line code → ⊥ }
+    ensures some { (bytes : List ℕ) → ((s : Script) × IsScript bytes s)
+        ⊎ ((f : ScriptFault) × FirstFault bytes f.line f.code) }
+    ensures not_both { (bytes : List ℕ) (s : Script) (line code : ℕ) → IsScript bytes s → FirstFault bytes line code
+        → ⊥ }
     ensures one_script { (bytes : List ℕ) (s t : Script) → IsScript bytes s → IsScript bytes t → t ≡ s }
     ensures one_fault { (bytes : List ℕ) (line code other_line other_code : ℕ) → FirstFault bytes line code
         → FirstFault bytes other_line other_code → (line ≡ other_line) × (code ≡ other_code) }

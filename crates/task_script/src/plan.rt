@@ -24,8 +24,8 @@ pub enum Plan {
     /// One line of side 0, one of side 1, in turn, and the rest of the other where one has ended. The next line is read
     /// from `side`, and `ended` says that the other side has ended.
     Weave { side: u32, ended: bool },
-    /// Each line. Its task is to be migration-disabled while `on`, which is from its first line on, for as many lines as
-    /// `left` says at the beginning or until the input ends; `left` of them are still to come.
+    /// Each line. Its task is to be migration-disabled while `on`, which is from its first line on, for as many lines
+    /// as `left` says at the beginning or until the input ends; `left` of them are still to come.
     Pin { left: u64, on: bool },
 }
 

@@ -1,14 +1,18 @@
-ghost use Rattle.std.specs.Prelude.{◌≡◌, ◌≤◌, ◌<◌, ◌^◌, ℕ, [], ◌++◌, IsTrue, Some, length, take, None, ◌∷◌, Err, IfOk, OnOk, vec_len};
+ghost use Rattle.std.specs.Prelude.{◌≡◌, ◌≤◌, ◌<◌, ◌^◌, ℕ, [], ◌++◌, IsTrue, Some, length, take, None, ◌∷◌, Err, IfOk};
+ghost use Rattle.std.specs.Prelude.{OnOk, vec_len};
 ghost use Rattle.std.specs.List.{list_any, filter_map};
 ghost use Rattle.std.specs.Str.{bytes_eq};
 ghost use Rattle.handoff_data.specs.Line.{IsLine};
 ghost use Rattle.task_script.specs.Lines.{input_lines};
-ghost use Rattle.task_script.specs.Forms.{value_of, is_name, reads, kind_of, task_line, text_line, form_seen, HasLinePrefix, HasLineSources, HasLineText};
-ghost use Rattle.task_script.specs.Script.{SoFar, number_of, plan_of, lacks_task, reads_again, is_bad_group, has_bad_count, faults, lowest, form_code, IsScript, NotScript, FirstFault};
+ghost use Rattle.task_script.specs.Forms.{value_of, is_name, reads, kind_of, task_line, text_line, form_seen};
+ghost use Rattle.task_script.specs.Forms.{HasLinePrefix, HasLineSources, HasLineText};
+ghost use Rattle.task_script.specs.Script.{SoFar, number_of, plan_of, lacks_task, reads_again, is_bad_group};
+ghost use Rattle.task_script.specs.Script.{has_bad_count, faults, lowest, form_code, IsScript, NotScript, FirstFault};
 ghost use Rattle.task_script.specs.declared.script.Script.{Script};
 ghost use Rattle.task_script.specs.declared.script.ScriptFault.{ScriptFault};
 ghost use Rattle.task_script.specs.Forest.{IsForest};
-ghost use Rattle.task_script.specs.Reading.{Gives, IsScriptOf, state_of, start, held, all_tasks, closed, opened, added, settled, next, CanSettle, step, run, verdict};
+ghost use Rattle.task_script.specs.Reading.{Gives, IsScriptOf, state_of, start, held, all_tasks, closed, opened, added};
+ghost use Rattle.task_script.specs.Reading.{settled, next, CanSettle, step, run, verdict};
 
 use crate::form::{Form, Inputs, Kind, form_of, is_name, is_within, number_in, sources_of};
 use crate::lists::{Sources, Tasks};
@@ -296,7 +300,8 @@ impl<'a> Reader<'a> {
     // Adds the number of a task to those that a task reads.
     fn add_source(&self, from: &mut Vec<TaskNo>, name: &[u8]) -> Result<(), NoMemory>
         requires { length self.now.names < 200 }
-        ensures { OnOk result (from.new.items ≡ from.old.items ++ filter_map (number_of self.now.names) (name.now ∷ [])) }
+        ensures { OnOk result (from.new.items ≡ from.old.items
+            ++ filter_map (number_of self.now.names) (name.now ∷ [])) }
     {
         if let Some(number) = self.number_of(name) {
             from.push(number as TaskNo)?;
@@ -323,7 +328,10 @@ impl<'a> Reader<'a> {
 
     // Keeps the names that a task of this kind reads.
     fn keep_sources(&mut self, kind: Kind<'a>) -> Result<(), NoMemory>
-        ensures { OnOk result (state_of self.new ≡ record (state_of self.old) { sources = self.old.sources ++ reads (kind_of kind.entry) }) }
+        ensures { OnOk result (state_of self.new ≡ record (state_of self.old) {
+          sources = self.old.sources
+              ++ reads (kind_of kind.entry);
+        }) }
     {
         match sources_of(kind) {
             Inputs::Nothing => {}
@@ -343,7 +351,8 @@ impl<'a> Reader<'a> {
         requires prefix { HasLinePrefix (kind_of kind) }
         requires sources { HasLineSources (kind_of kind) }
         requires none { self.old.source ≡ None }
-        ensures { OnOk result (state_of self.new ≡ settled (state_of self.old) (task_line name.now (kind_of kind.entry))) }
+        ensures { OnOk result
+            (state_of self.new ≡ settled (state_of self.old) (task_line name.now (kind_of kind.entry))) }
     {
         let from = self.numbers_of(alloc, kind)?;
         self.keep_sources(kind)?;
@@ -504,7 +513,8 @@ pub fn read_script(alloc: Global, bytes: &[u8]) -> Result<Script, ScriptError>
     ensures found { IfOk result (λ s. IsScript bytes.now s) }
     ensures only { IfOk result (λ s. (t : Script) → IsScript bytes.now t → t ≡ s) }
     ensures forest { IfOk result (λ s. IsForest s.tasks) }
-    ensures bad { (f : ScriptFault) → result ≡ Err (ScriptError.Bad f) → FirstFault bytes.now f.line f.code × NotScript bytes.now }
+    ensures bad { (f : ScriptFault) → result ≡ Err (ScriptError.Bad f) → FirstFault bytes.now f.line f.code
+        × NotScript bytes.now }
 {
     let reader = read_input(alloc, bytes)?;
     Ok(reader.into_script())

@@ -22,7 +22,8 @@ use Rattle.word_rule.specs.May.{MayGiveQueueVal, MayGiveTaskVal, MaySetBusyWord,
 use Rattle.word_rule.specs.Standing.{may_run}
 use Rattle.word_rule.specs.Told.{TakenQueue}
 use Rattle.word_steps.specs.Folds.{put_both, has_put, current_task, stays_queued, queue_held, number_read, task_to_clear, task_held, ended_known}
-use Rattle.word_steps.specs.Records.{Rec, Took, Gave, OutBody, HomeBody, Queued, Dequeued, Moved, SetBusy, ClearedBusy, StateSet, Claimed, MadeRunnable, LoadedState, LoadedRq, LoadedBusy, LoadedCpu, LoadedCount, StoredCpu, Bumped, LoadedCond}
+use Rattle.word_steps.specs.Records.{Rec, Took, Gave, OutBody, HomeBody, Queued, Dequeued, Moved, SetBusy, ClearedBusy, StateSet, Claimed, MadeRunnable, LoadedState, LoadedRq, LoadedBusy, LoadedCpu}
+use Rattle.word_steps.specs.Records.{LoadedCount, StoredCpu, Bumped, LoadedCond}
 use Rattle.word_steps.specs.declared.val.Val.TheVariants as val
 
 -- one more at the back, and at the front

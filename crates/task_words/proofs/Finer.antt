@@ -10,8 +10,10 @@ use Rattle.handoff_data.specs.declared.state.State.{State}
 use Rattle.task_words.specs.Gives.{is_load, is_quiet, takes_queue, without}
 use Rattle.word_rule.specs.May.{MayGiveQueueVal}
 use Rattle.word_rule.specs.Standing.{standing, standing_after, may_run, may_run_after, is_runnable}
-use Rattle.word_steps.specs.Folds.{put_both, put_column_if, queue_held, queue_after, has_added, added_after, has_dropped, dropped_after, has_put, put_after, current_task, current_after, stays_queued, stays_after, body_held, body_after, task_to_clear, to_clear_after}
-use Rattle.word_steps.specs.Records.{Rec, Took, Gave, OutBody, HomeBody, Queued, Dequeued, Moved, SetBusy, ClearedBusy, StateSet, Claimed, MadeRunnable, LoadedState, LoadedRq, LoadedBusy, LoadedCpu, LoadedCount, StoredCpu, Bumped, LoadedCond}
+use Rattle.word_steps.specs.Folds.{put_both, put_column_if, queue_held, queue_after, has_added, added_after, has_dropped, dropped_after, has_put, put_after, current_task, current_after, stays_queued}
+use Rattle.word_steps.specs.Folds.{stays_after, body_held, body_after, task_to_clear, to_clear_after}
+use Rattle.word_steps.specs.Records.{Rec, Took, Gave, OutBody, HomeBody, Queued, Dequeued, Moved, SetBusy, ClearedBusy, StateSet, Claimed, MadeRunnable, LoadedState, LoadedRq, LoadedBusy, LoadedCpu}
+use Rattle.word_steps.specs.Records.{LoadedCount, StoredCpu, Bumped, LoadedCond}
 use Rattle.word_steps.specs.declared.val.Val.TheVariants as val
 
 -- What is known of one table is known of another that knows more

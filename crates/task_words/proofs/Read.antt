@@ -10,7 +10,8 @@ use Rattle.task_words.proofs.Finer.{IsFiner, finer_without, loads_quiet}
 use Rattle.task_words.specs.Gives.{is_load, since}
 use Rattle.word_rule.specs.Standing.{may_run, is_runnable}
 use Rattle.word_steps.specs.Folds.{put_both, current_task, stays_queued, queue_held, seen_state}
-use Rattle.word_steps.specs.Records.{Rec, Took, Gave, OutBody, HomeBody, Queued, Dequeued, Moved, SetBusy, ClearedBusy, StateSet, Claimed, MadeRunnable, LoadedState, LoadedRq, LoadedBusy, LoadedCpu, LoadedCount, StoredCpu, Bumped, LoadedCond}
+use Rattle.word_steps.specs.Records.{Rec, Took, Gave, OutBody, HomeBody, Queued, Dequeued, Moved, SetBusy, ClearedBusy, StateSet, Claimed, MadeRunnable, LoadedState, LoadedRq, LoadedBusy, LoadedCpu}
+use Rattle.word_steps.specs.Records.{LoadedCount, StoredCpu, Bumped, LoadedCond}
 use Rattle.word_steps.specs.declared.val.Val.TheVariants as val
 
 same_some : (a b : State) → Some a ≡ Some b → a ≡ b

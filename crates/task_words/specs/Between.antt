@@ -2,7 +2,8 @@
 use Rattle.std.specs.Prelude.{ℕ, List, Bool}
 use Rattle.atomic_table.specs.Table.{State}
 use Rattle.core_data.specs.Columns.{Columns}
-use Rattle.core_law.specs.Laws.{OneRunAtATime, StandsOnce, WakesQueueAtMostOnce, NoLostWake, SleepersWait, SleepsOnItsProcessor, journals_of}
+use Rattle.core_law.specs.Laws.{OneRunAtATime, StandsOnce, WakesQueueAtMostOnce, NoLostWake, SleepersWait}
+use Rattle.core_law.specs.Laws.{SleepsOnItsProcessor, journals_of}
 use Rattle.core_law.specs.Reached.{IsReached}
 use Rattle.word_steps.specs.Decode.{core_of}
 use Rattle.word_steps.specs.Words.{words_of}

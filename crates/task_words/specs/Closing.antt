@@ -26,14 +26,28 @@ empty_turn tasks = record { entries = []; spare = 4 * tasks + 16 }
 -- the pass of the seat s, which did nothing yet, and those of n seats in their order
 abbrev pub new_pass : TableId → Shape → List (List ℕ) → ℕ → PassView
 new_pass name shape lasting s =
-    record { of = name; shape = shape; lasting = lasting; seat = s; trace = []; turn = empty_turn shape.tasks; told = [] }
+    record {
+      of = name;
+      shape = shape;
+      lasting = lasting;
+      seat = s;
+      trace = [];
+      turn = empty_turn shape.tasks;
+      told = [];
+    }
 
 abbrev pub first_passes : TableId → Shape → List (List ℕ) → ℕ → List PassView
 first_passes name shape lasting n = map (new_pass name shape lasting) (range_with_len 0 n)
 
 -- a pass but for its entries
 abbrev pub token_of : PassView → TokenView
-token_of pass = record { of = pass.of; shape = pass.shape; lasting = pass.lasting; seat = pass.seat; trace = pass.trace }
+token_of pass = record {
+  of = pass.of;
+  shape = pass.shape;
+  lasting = pass.lasting;
+  seat = pass.seat;
+  trace = pass.trace;
+}
 
 -- the pass has given all back: no value of a lock, no body; it has no current task, and no busy word to clear
 abbrev pub IsDone : PassView → Type 0
@@ -94,4 +108,5 @@ IsExclusive passes s t k = gave_exclusively s (traces_in passes s) t k ≡ true
 abbrev pub NoneMissed : Shape → List PassView → List State → List ℕ → Type 0
 NoneMissed shape passes states conds =
     (s t k v count : ℕ) (state : State) → slice_get states t ≡ Some state → is_sleep state ≡ true
-    → slice_get conds k ≡ Some count → IsSleeper shape passes s t k v → (count ≡ v) ⊎ (IsStillOwed passes k t ⊎ IsExclusive passes s t k)
+    → slice_get conds k ≡ Some count → IsSleeper shape passes s t k v → (count ≡ v)
+    ⊎ (IsStillOwed passes k t ⊎ IsExclusive passes s t k)

@@ -12,8 +12,10 @@ use Rattle.handoff_data.specs.declared.state.State.{State}
 use Rattle.word_rule.specs.May.{number_of}
 use Rattle.word_rule.specs.Standing.{is_runnable}
 use Rattle.word_rule.specs.Told.{TakenQueue, TakenWait, IsOff}
-use Rattle.word_steps.specs.Folds.{task_held, current_task, stays_queued, body_held, task_to_clear, seen_state, is_claimed, is_moving}
-use Rattle.word_steps.specs.Records.{Rec, Took, Queued, Dequeued, Moved, SetBusy, StateSet, MadeRunnable, LoadedState, LoadedRq, LoadedBusy, LoadedCpu, LoadedCount, LoadedCond}
+use Rattle.word_steps.specs.Folds.{task_held, current_task, stays_queued, body_held, task_to_clear, seen_state}
+use Rattle.word_steps.specs.Folds.{is_claimed, is_moving}
+use Rattle.word_steps.specs.Records.{Rec, Took, Queued, Dequeued, Moved, SetBusy, StateSet, MadeRunnable, LoadedState}
+use Rattle.word_steps.specs.Records.{LoadedRq, LoadedBusy, LoadedCpu, LoadedCount, LoadedCond}
 use Rattle.word_steps.specs.declared.val.Val.TheVariants as val
 
 -- loads change nothing of a queue

@@ -25,5 +25,6 @@ pass_view p = record {
 pub record IsPass (p : Inside) : Type 0 where
   pub current : p.current ≡ current_task p.token.seat p.token.trace
   pub within : (t : ℕ) → p.current ≡ Some t → t < p.token.shape.tasks
-  pub tied : journal p.token.seat p.token.trace ≡ told_before (journal p.token.seat p.token.trace) p.turn.entries ++ p.turn.entries
+  pub tied : journal p.token.seat p.token.trace ≡ told_before (journal p.token.seat p.token.trace) p.turn.entries
+      ++ p.turn.entries
   pub room : length p.turn.entries + p.turn.spare ≡ 4 * p.token.shape.tasks + 16

@@ -15,12 +15,16 @@ pub record IsOwnStore (s : ℕ) (trace : List Rec) (state : State) : Type 0 wher
   pub stays : stays_queued trace ≡ true
   pub allowed :
       (state ≡ running)
-      ⊎ ((is_sleep state ≡ true) ⊎ ((state ≡ dead) × IsSome (task_held trace (unwrap_or (current_task s trace) 0)) × (ended_known trace (unwrap_or (current_task s trace) 0) ≡ Some true)))
+      ⊎ ((is_sleep state ≡ true) ⊎ ((state ≡ dead) × IsSome (task_held trace (unwrap_or (current_task s trace) 0))
+      × (ended_known trace (unwrap_or (current_task s trace) 0) ≡ Some true)))
 
 -- the masks with no bits but those of TASK_NORMAL and TASK_WAKEKILL
 abbrev pub IsWakeMask : State → Type 0
 IsWakeMask mask =
-    (mask.0 ≡ 0) ⊎ ((mask.0 ≡ 1) ⊎ ((mask.0 ≡ 2) ⊎ ((mask.0 ≡ 3) ⊎ ((mask.0 ≡ 0x100) ⊎ ((mask.0 ≡ 0x101) ⊎ ((mask.0 ≡ 0x102) ⊎ (mask.0 ≡ 0x103)))))))
+    (mask.0 ≡ 0)
+    ⊎ ((mask.0 ≡ 1)
+    ⊎ ((mask.0 ≡ 2)
+    ⊎ ((mask.0 ≡ 3) ⊎ ((mask.0 ≡ 0x100) ⊎ ((mask.0 ≡ 0x101) ⊎ ((mask.0 ≡ 0x102) ⊎ (mask.0 ≡ 0x103)))))))
 
 -- the turn after a state was read: one that doesn't match has its entry
 abbrev pub tested : ℕ → State → State → TurnView → TurnView

@@ -1,6 +1,7 @@
 -- What loads of busy words leave of a seat's trace.
 use Rattle.std.specs.Prelude.{◌≡◌, ℕ, List}
-use Rattle.word_steps.specs.Folds.{task_held, queue_held, wait_held, current_task, task_to_clear, is_claimed, has_matched, is_moving, has_stored, number_read}
+use Rattle.word_steps.specs.Folds.{task_held, queue_held, wait_held, current_task, task_to_clear, is_claimed}
+use Rattle.word_steps.specs.Folds.{has_matched, is_moving, has_stored, number_read}
 use Rattle.word_steps.specs.Records.{Rec}
 use Rattle.task_words.specs.Untouched.{Untouched}
 

@@ -2,7 +2,8 @@
 ghost use Rattle.std.specs.Prelude.{◌≡◌, ◌+◌, ◌∷◌, map, length};
 ghost use Rattle.std.specs.List.{All};
 ghost use Rattle.handoff_data.specs.Legal.{HasNoBad, IsLegal};
-ghost use Rattle.task_words.specs.Closing.{token_of, IsDone, journals_in, AllDead, DeadHaveEnded, DeathsAreOfDead, SleepersSlept, NoneMissed};
+ghost use Rattle.task_words.specs.Closing.{token_of, IsDone, journals_in, AllDead, DeadHaveEnded, DeathsAreOfDead};
+ghost use Rattle.task_words.specs.Closing.{SleepersSlept, NoneMissed};
 ghost use Rattle.task_words.specs.Views.{IsOf};
 ghost use Rattle.word_table.specs.End.{HasEachSeat, IsEnd};
 ghost use Rattle.word_table.specs.Gathered.{IsGatheredOf};
@@ -44,9 +45,11 @@ impl<B: Kept> Wk<B> {
         requires of { All (IsOf self) passes.items }
         requires all { HasEachSeat (self.shape.cpus + self.shape.agents) (map (λ p. p.seat) passes.items) }
         requires done { All IsDone passes.items }
-        ensures sizes { (length result.bodies.items ≡ self.shape.tasks) × (length result.states.items ≡ self.shape.tasks) × (length result.conds.items ≡ self.shape.conds) }
+        ensures sizes { (length result.bodies.items ≡ self.shape.tasks)
+            × (length result.states.items ≡ self.shape.tasks) × (length result.conds.items ≡ self.shape.conds) }
         ensures lasting { map B.lasting result.bodies.items ≡ self.lasting }
-        ensures end { IsEnd B.ended self.shape (map token_of passes.items) result.bodies.items result.states.items result.conds.items }
+        ensures end { IsEnd B.ended self.shape (map token_of passes.items) result.bodies.items result.states.items
+            result.conds.items }
         ensures ended { DeadHaveEnded B.ended result.bodies.items result.states.items }
         ensures rules { HasNoBad (journals_in self.shape passes.items) }
         ensures legal { AllDead self.shape result.states.items → IsLegal (journals_in self.shape passes.items) }

@@ -1,10 +1,12 @@
 //! Queues put and given after what a seat has done with them since it took their lock.
-ghost use Rattle.std.specs.Prelude.{◌≡◌, ◌++◌, ◌∷◌, [], ◌<◌, ◌≤◌, true, false, Some, None, ◌+◌, MatchOption, ◌==◌, IfSome, IsSome, unwrap_or};
+ghost use Rattle.std.specs.Prelude.{◌≡◌, ◌++◌, ◌∷◌, [], ◌<◌, ◌≤◌, true, false, Some, None, ◌+◌, MatchOption, ◌==◌};
+ghost use Rattle.std.specs.Prelude.{IfSome, IsSome, unwrap_or};
 ghost use Rattle.std.specs.List.{filter};
 ghost use Rattle.core_data.specs.Queue.{is_other};
 ghost use Rattle.core_gives.specs.Waits.{has_task};
 ghost use Rattle.handoff_data.specs.declared.entry.Entry.TheVariants as entry;
-ghost use Rattle.task_words.specs.Gives.{HasRoomFor, IsAsTaken, IsPut, IsWoken, IsPicked, IsPickedCur, IsPutBack, IsAsleep, IsMovedOff, IsMoved, IsEntered, entered, IsJustTaken, IsQueuedUnder};
+ghost use Rattle.task_words.specs.Gives.{HasRoomFor, IsAsTaken, IsPut, IsWoken, IsPicked, IsPickedCur, IsPutBack};
+ghost use Rattle.task_words.specs.Gives.{IsAsleep, IsMovedOff, IsMoved, IsEntered, entered, IsJustTaken, IsQueuedUnder};
 ghost use Rattle.task_words.specs.Needs.{need_step};
 ghost use Rattle.task_words.specs.Views.{IsOf, IsSame, IsSameSeat, logged};
 ghost use Rattle.word_rule.specs.May.{IsPutHere};
@@ -54,7 +56,9 @@ impl<B: Kept> QueueGuard<B> {
         requires taken { IsJustTaken pass.now.shape pass.now.seat pass.now.trace self.old.cpu self.old.val }
         ensures table { self.new.of ≡ self.old.of }
         ensures processor { self.new.cpu ≡ self.old.cpu }
-        ensures value { MatchOption result ((self.old.val.waiting ≡ []) × (self.new.val ≡ self.old.val)) (λ t. (self.old.val.waiting ≡ t ∷ self.new.val.waiting) × (self.new.val ≡ record self.old.val { waiting = self.new.val.waiting })) }
+        ensures value { MatchOption result ((self.old.val.waiting ≡ []) × (self.new.val ≡ self.old.val))
+            (λ t. (self.old.val.waiting ≡ t ∷ self.new.val.waiting)
+            × (self.new.val ≡ record self.old.val { waiting = self.new.val.waiting })) }
         ensures task { IfSome result (λ t. t < wk.now.shape.tasks) }
         ensures ready { IfSome result (λ t. may_run pass.now.seat pass.now.trace self.old.cpu t ≡ true) }
     {
@@ -136,7 +140,9 @@ impl<B: Kept> QueueGuard<B> {
         requires processor { self.cpu < wk.now.shape.cpus }
         requires may { IsAsTaken pass.old.shape pass.old.seat pass.old.trace self.cpu self.val }
         ensures same { IsSame pass.old pass.new }
-        ensures trace { pass.new.trace ≡ Gave self.cpu (val.Queue (unwrap_or (queue_held pass.old.trace self.cpu) self.val)) (val.Queue self.val) ∷ pass.old.trace }
+        ensures trace { pass.new.trace ≡ Gave self.cpu
+            (val.Queue (unwrap_or (queue_held pass.old.trace self.cpu) self.val)) (val.Queue self.val)
+            ∷ pass.old.trace }
     {
         self.give(wk, pass);
     }
@@ -148,7 +154,9 @@ impl<B: Kept> QueueGuard<B> {
         requires processor { self.cpu < wk.now.shape.cpus }
         requires may { IsPut pass.old.shape pass.old.seat pass.old.trace self.cpu self.val }
         ensures same { IsSame pass.old pass.new }
-        ensures trace { pass.new.trace ≡ Gave self.cpu (val.Queue (unwrap_or (queue_held pass.old.trace self.cpu) self.val)) (val.Queue self.val) ∷ pass.old.trace }
+        ensures trace { pass.new.trace ≡ Gave self.cpu
+            (val.Queue (unwrap_or (queue_held pass.old.trace self.cpu) self.val)) (val.Queue self.val)
+            ∷ pass.old.trace }
     {
         self.give(wk, pass);
     }
@@ -160,7 +168,9 @@ impl<B: Kept> QueueGuard<B> {
         requires processor { self.cpu < wk.now.shape.cpus }
         requires may { IsWoken pass.old.shape pass.old.seat pass.old.trace self.cpu self.val }
         ensures same { IsSame pass.old pass.new }
-        ensures trace { pass.new.trace ≡ Gave self.cpu (val.Queue (unwrap_or (queue_held pass.old.trace self.cpu) self.val)) (val.Queue self.val) ∷ pass.old.trace }
+        ensures trace { pass.new.trace ≡ Gave self.cpu
+            (val.Queue (unwrap_or (queue_held pass.old.trace self.cpu) self.val)) (val.Queue self.val)
+            ∷ pass.old.trace }
     {
         self.give(wk, pass);
     }
@@ -172,7 +182,9 @@ impl<B: Kept> QueueGuard<B> {
         requires processor { self.cpu < wk.now.shape.cpus }
         requires may { IsMoved pass.old.shape pass.old.seat pass.old.trace self.cpu self.val }
         ensures same { IsSame pass.old pass.new }
-        ensures trace { pass.new.trace ≡ Gave self.cpu (val.Queue (unwrap_or (queue_held pass.old.trace self.cpu) self.val)) (val.Queue self.val) ∷ pass.old.trace }
+        ensures trace { pass.new.trace ≡ Gave self.cpu
+            (val.Queue (unwrap_or (queue_held pass.old.trace self.cpu) self.val)) (val.Queue self.val)
+            ∷ pass.old.trace }
     {
         self.give(wk, pass);
     }
@@ -185,7 +197,9 @@ impl<B: Kept> QueueGuard<B> {
         requires own { self.cpu ≡ pass.old.seat }
         requires may { IsPickedCur pass.old.shape pass.old.seat pass.old.trace self.val }
         ensures same { IsSame pass.old pass.new }
-        ensures trace { pass.new.trace ≡ Gave self.cpu (val.Queue (unwrap_or (queue_held pass.old.trace self.cpu) self.val)) (val.Queue self.val) ∷ pass.old.trace }
+        ensures trace { pass.new.trace ≡ Gave self.cpu
+            (val.Queue (unwrap_or (queue_held pass.old.trace self.cpu) self.val)) (val.Queue self.val)
+            ∷ pass.old.trace }
     {
         self.give(wk, pass);
     }
@@ -198,14 +212,16 @@ impl<B: Kept> QueueGuard<B> {
         requires own { self.cpu ≡ pass.old.seat }
         requires may { IsPicked pass.old.shape pass.old.seat pass.old.trace self.val }
         ensures same { IsSame pass.old pass.new }
-        ensures trace { pass.new.trace ≡ Gave self.cpu (val.Queue (unwrap_or (queue_held pass.old.trace self.cpu) self.val)) (val.Queue self.val) ∷ pass.old.trace }
+        ensures trace { pass.new.trace ≡ Gave self.cpu
+            (val.Queue (unwrap_or (queue_held pass.old.trace self.cpu) self.val)) (val.Queue self.val)
+            ∷ pass.old.trace }
     {
         self.give(wk, pass);
     }
 
     /// Gives the lock of the seat's own queue after its current task was put back at the end, whose state was read as
-    /// TASK_RUNNING or TASK_NEW. Its migrate-disable level was read as 0 since it was picked: from here on a seat that has
-    /// its lock may place it elsewhere.
+    /// TASK_RUNNING or TASK_NEW. Its migrate-disable level was read as 0 since it was picked: from here on a seat that
+    /// has its lock may place it elsewhere.
     pub fn give_put_back(self, wk: &Wk<B>, pass: &mut Pass)
         requires of { IsOf wk.now pass.old }
         requires table { self.of ≡ wk.now.name }
@@ -214,7 +230,9 @@ impl<B: Kept> QueueGuard<B> {
         requires may { IsPutBack pass.old.shape pass.old.seat pass.old.trace self.val }
         requires level { level_known pass.old.seat pass.old.trace ≡ Some 0 }
         ensures same { IsSame pass.old pass.new }
-        ensures trace { pass.new.trace ≡ Gave self.cpu (val.Queue (unwrap_or (queue_held pass.old.trace self.cpu) self.val)) (val.Queue self.val) ∷ pass.old.trace }
+        ensures trace { pass.new.trace ≡ Gave self.cpu
+            (val.Queue (unwrap_or (queue_held pass.old.trace self.cpu) self.val)) (val.Queue self.val)
+            ∷ pass.old.trace }
     {
         self.give(wk, pass);
     }
@@ -229,7 +247,9 @@ impl<B: Kept> QueueGuard<B> {
         requires may { IsAsleep pass.old.shape pass.old.seat pass.old.trace self.val }
         requires level { level_known pass.old.seat pass.old.trace ≡ Some 0 }
         ensures same { IsSame pass.old pass.new }
-        ensures trace { pass.new.trace ≡ Gave self.cpu (val.Queue (unwrap_or (queue_held pass.old.trace self.cpu) self.val)) (val.Queue self.val) ∷ pass.old.trace }
+        ensures trace { pass.new.trace ≡ Gave self.cpu
+            (val.Queue (unwrap_or (queue_held pass.old.trace self.cpu) self.val)) (val.Queue self.val)
+            ∷ pass.old.trace }
     {
         self.give(wk, pass);
     }
@@ -243,7 +263,8 @@ impl<B: Kept> TaskGuard<B> {
         requires task { self.task < wk.now.shape.tasks }
         requires may { IsQueuedUnder pass.old.shape pass.old.trace self.task self.val }
         ensures same { IsSame pass.old pass.new }
-        ensures trace { pass.new.trace ≡ Gave self.task (val.Task (unwrap_or (task_held pass.old.trace self.task) self.val)) (val.Task self.val) ∷ pass.old.trace }
+        ensures trace { pass.new.trace ≡ Gave self.task
+            (val.Task (unwrap_or (task_held pass.old.trace self.task) self.val)) (val.Task self.val) ∷ pass.old.trace }
     {
         self.give(wk, pass);
     }
@@ -279,7 +300,8 @@ impl<B: Kept> WaitGuard<B> {
         requires condition { self.cond < wk.now.shape.conds }
         requires may { IsEntered pass.old.shape pass.old.seat pass.old.trace self.cond self.val }
         ensures same { IsSame pass.old pass.new }
-        ensures trace { pass.new.trace ≡ Gave self.cond (val.Wait (unwrap_or (wait_held pass.old.trace self.cond) self.val)) (val.Wait self.val) ∷ pass.old.trace }
+        ensures trace { pass.new.trace ≡ Gave self.cond
+            (val.Wait (unwrap_or (wait_held pass.old.trace self.cond) self.val)) (val.Wait self.val) ∷ pass.old.trace }
     {
         self.give(wk, pass);
     }

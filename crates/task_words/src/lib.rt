@@ -1,5 +1,5 @@
-//! The shared words of a machine of tasks, and the single steps of its seats on them: each kind of step of the core as a
-//! call of running threads.
+//! The shared words of a machine of tasks, and the single steps of its seats on them: each kind of step of the core as
+//! a call of running threads.
 //!
 //! `wk.rt` and `pass.rt` are the types, `life.rt` and `close.rt` the beginning and the end, `laws.rt` the law between
 //! any two steps. The calls: `locks.rt` over `guards.rt`, `gives.rt` (a give for each thing that a seat does with a

@@ -56,9 +56,11 @@ impl<B: Kept> Wk<B> {
         requires tasks { length bodies.items ≡ shape.now.tasks }
         ensures shape { IfOk result (λ r. r.0.shape ≡ shape.now) }
         ensures lasting { IfOk result (λ r. r.0.lasting ≡ map B.lasting bodies.items) }
-        ensures passes { IfOk result (λ r. r.1.items ≡ first_passes r.0.name r.0.shape r.0.lasting (shape.now.cpus + shape.now.agents)) }
+        ensures passes { IfOk result
+            (λ r. r.1.items ≡ first_passes r.0.name r.0.shape r.0.lasting (shape.now.cpus + shape.now.agents)) }
         ensures of { IfOk result (λ r. All (IsOf r.0) r.1.items) }
-        ensures each { IfOk result (λ r. HasEachSeat (shape.now.cpus + shape.now.agents) (map (λ p. p.seat) r.1.items)) }
+        ensures each { IfOk result
+            (λ r. HasEachSeat (shape.now.cpus + shape.now.agents) (map (λ p. p.seat) r.1.items)) }
         ensures done { IfOk result (λ r. All IsDone r.1.items) }
     {
         let (words, tokens) = Words::new(alloc, shape, bodies)?;

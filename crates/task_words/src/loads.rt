@@ -31,9 +31,12 @@ pub fn load_state<B: Kept>(wk: &Wk<B>, pass: &mut Pass, t: TaskNo) -> State
     requires task { t < wk.now.shape.tasks }
     ensures same { IsSame pass.old pass.new }
     ensures trace { pass.new.trace ≡ LoadedState t None result ∷ pass.old.trace }
-    ensures own { current_task pass.old.seat pass.old.trace ≡ Some t → stays_queued pass.old.trace ≡ true → IsOfCurrent result }
-    ensures still { (stored : State) → current_task pass.old.seat pass.old.trace ≡ Some t → stays_queued pass.old.trace ≡ true → last_own pass.old.trace t ≡ Some stored → IsStill stored result }
-    ensures died { current_task pass.old.seat pass.old.trace ≡ Some t → stays_queued pass.old.trace ≡ true → last_own pass.old.trace t ≡ Some dead → result ≡ dead }
+    ensures own { current_task pass.old.seat pass.old.trace ≡ Some t → stays_queued pass.old.trace ≡ true
+        → IsOfCurrent result }
+    ensures still { (stored : State) → current_task pass.old.seat pass.old.trace ≡ Some t
+        → stays_queued pass.old.trace ≡ true → last_own pass.old.trace t ≡ Some stored → IsStill stored result }
+    ensures died { current_task pass.old.seat pass.old.trace ≡ Some t → stays_queued pass.old.trace ≡ true
+        → last_own pass.old.trace t ≡ Some dead → result ≡ dead }
 {
     State(load::<B, LoadState>(&wk.words, &mut pass.token, t) as u16)
 }
@@ -86,7 +89,8 @@ pub fn load_count<B: Kept>(wk: &Wk<B>, pass: &mut Pass, t: TaskNo) -> u32
     requires task { t < wk.now.shape.tasks }
     ensures same { IsSame pass.old pass.new }
     ensures trace { pass.new.trace ≡ LoadedCount t result ∷ pass.old.trace }
-    ensures known { current_task pass.old.seat pass.old.trace ≡ Some t → level_known pass.new.seat pass.new.trace ≡ Some result }
+    ensures known { current_task pass.old.seat pass.old.trace ≡ Some t
+        → level_known pass.new.seat pass.new.trace ≡ Some result }
     ensures zero { result ≡ 0 }
 {
     load::<B, LoadCount>(&wk.words, &mut pass.token, t) as u32

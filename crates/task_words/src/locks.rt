@@ -96,7 +96,8 @@ impl<B: Kept> TaskGuard<B> {
         requires task { self.task < wk.now.shape.tasks }
         requires may { MayGiveTaskVal pass.old.seat pass.old.trace wk.now.shape self.task self.val }
         ensures same { IsSame pass.old pass.new }
-        ensures trace { pass.new.trace ≡ Gave self.task (val.Task (unwrap_or (task_held pass.old.trace self.task) self.val)) (val.Task self.val) ∷ pass.old.trace }
+        ensures trace { pass.new.trace ≡ Gave self.task
+            (val.Task (unwrap_or (task_held pass.old.trace self.task) self.val)) (val.Task self.val) ∷ pass.old.trace }
     {
         let TaskGuard { taken, task } = self;
         // T is settled by now, and never off every queue at TASK_WAKING: who takes the lock next can wake it (two
@@ -114,7 +115,9 @@ impl<B: Kept> QueueGuard<B> {
         requires processor { self.cpu < wk.now.shape.cpus }
         requires may { MayGiveQueueVal pass.old.seat pass.old.trace wk.now.shape self.cpu self.val }
         ensures same { IsSame pass.old pass.new }
-        ensures trace { pass.new.trace ≡ Gave self.cpu (val.Queue (unwrap_or (queue_held pass.old.trace self.cpu) self.val)) (val.Queue self.val) ∷ pass.old.trace }
+        ensures trace { pass.new.trace ≡ Gave self.cpu
+            (val.Queue (unwrap_or (queue_held pass.old.trace self.cpu) self.val)) (val.Queue self.val)
+            ∷ pass.old.trace }
     {
         let gives_up = pass.token.seat() == self.cpu && self.val_mut(wk).get().cur.is_none();
         let QueueGuard { taken, cpu } = self;
@@ -133,7 +136,9 @@ impl<B: Kept> WorksGuard<B> {
         requires processor { self.cpu < wk.now.shape.cpus }
         requires may { MayGiveWorksVal pass.old.seat pass.old.trace self.cpu self.val }
         ensures same { IsSame pass.old pass.new }
-        ensures trace { pass.new.trace ≡ Gave self.cpu (val.Works (unwrap_or (works_held pass.old.trace self.cpu) self.val)) (val.Works self.val) ∷ pass.old.trace }
+        ensures trace { pass.new.trace ≡ Gave self.cpu
+            (val.Works (unwrap_or (works_held pass.old.trace self.cpu) self.val)) (val.Works self.val)
+            ∷ pass.old.trace }
     {
         let WorksGuard { taken, cpu } = self;
         give::<B, WorksLock>(&wk.words, &mut pass.token, cpu, taken);
@@ -148,7 +153,8 @@ impl<B: Kept> WaitGuard<B> {
         requires condition { self.cond < wk.now.shape.conds }
         requires may { MayGiveWaitVal pass.old.seat pass.old.trace wk.now.shape self.cond self.val }
         ensures same { IsSame pass.old pass.new }
-        ensures trace { pass.new.trace ≡ Gave self.cond (val.Wait (unwrap_or (wait_held pass.old.trace self.cond) self.val)) (val.Wait self.val) ∷ pass.old.trace }
+        ensures trace { pass.new.trace ≡ Gave self.cond
+            (val.Wait (unwrap_or (wait_held pass.old.trace self.cond) self.val)) (val.Wait self.val) ∷ pass.old.trace }
     {
         let WaitGuard { taken, cond } = self;
         give::<B, WaitLock>(&wk.words, &mut pass.token, cond, taken);

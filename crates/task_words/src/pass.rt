@@ -106,7 +106,13 @@ impl Pass {
     /// Forgets the entries of the turn, which are told with it, so that the whole journal is. The room of the turn is
     /// then free: for four entries a task and sixteen. What the seat did stays.
     pub fn clear_turn(&mut self)
-        ensures cleared { self.new ≡ record self.old { turn = record { entries = []; spare = 4 * self.old.shape.tasks + 16 }; told = self.old.told ++ self.old.turn.entries } }
+        ensures cleared { self.new ≡ record self.old {
+          turn = record {
+            entries = [];
+            spare = 4 * self.old.shape.tasks + 16;
+          };
+          told = self.old.told ++ self.old.turn.entries;
+        } }
         ensures all { self.new.told ≡ journal self.old.seat self.old.trace }
     {
         self.turn.entries.clear();

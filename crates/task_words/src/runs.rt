@@ -5,7 +5,8 @@ ghost use Rattle.handoff_data.specs.declared.entry.Entry.TheVariants as entry;
 ghost use Rattle.task_words.specs.Needs.{need_step};
 ghost use Rattle.task_words.specs.Queues.{MayQueueHere, MayMoveHere};
 ghost use Rattle.task_words.specs.Views.{IsOf, IsSameSeat, logged};
-ghost use Rattle.word_rule.specs.May.{cpu_read_of, number_of, on_of, queued_next, MayQueueWord, MayDequeueWord, MaySetBusyWord, MayClearBusyWord, next_rq, next_busy};
+ghost use Rattle.word_rule.specs.May.{cpu_read_of, number_of, on_of, queued_next, MayQueueWord, MayDequeueWord};
+ghost use Rattle.word_rule.specs.May.{MaySetBusyWord, MayClearBusyWord, next_rq, next_busy};
 ghost use Rattle.word_steps.specs.Folds.{seen_state, level_known, number_read};
 ghost use Rattle.word_table.specs.Views.{IsOf as IsTokenOf, IsSame as IsSameToken};
 ghost use Rattle.word_steps.specs.Records.{Queued, Dequeued, Moved, SetBusy, ClearedBusy};
@@ -31,7 +32,8 @@ fn rq_once<B: Kept, K: Kind>(wk: &Wk<B>, token: &mut Token, t: TaskNo, on: u64, 
     requires on { on < 4 }
     requires may { (x : ℕ) → x / 4 < 2 ^ 60 → K.may wk.now.shape token.old.seat token.old.trace t x (next_rq x on) }
     ensures same { IsSameToken token.old token.new }
-    ensures hit { result ≡ true → token.new.trace ≡ K.note token.old.seat token.old.trace t (next_rq found on) found ∷ token.old.trace }
+    ensures hit { result ≡ true → token.new.trace ≡ K.note token.old.seat token.old.trace t (next_rq found on) found
+        ∷ token.old.trace }
     ensures room { result ≡ true → found / 4 < 2 ^ 60 }
     ensures miss { result ≡ false → token.new.trace ≡ token.old.trace }
 {
@@ -56,7 +58,8 @@ fn rq_again<B: Kept, K: Kind, R: Wait>(
     requires on { on < 4 }
     requires may { (x : ℕ) → x / 4 < 2 ^ 60 → K.may wk.now.shape token.old.seat token.old.trace t x (next_rq x on) }
     ensures same { IsSameToken token.old token.new }
-    ensures trace { token.new.trace ≡ K.note token.old.seat token.old.trace t (next_rq result on) result ∷ token.old.trace }
+    ensures trace { token.new.trace ≡ K.note token.old.seat token.old.trace t (next_rq result on) result
+        ∷ token.old.trace }
     ensures room { result / 4 < 2 ^ 60 }
 {
     let backoff = Backoff::new();
@@ -83,7 +86,8 @@ fn change_rq<B: Kept, K: Kind, R: Wait>(
     requires on { on < 4 }
     requires may { (x : ℕ) → x / 4 < 2 ^ 60 → K.may wk.now.shape token.old.seat token.old.trace t x (next_rq x on) }
     ensures same { IsSameToken token.old token.new }
-    ensures trace { token.new.trace ≡ K.note token.old.seat token.old.trace t (next_rq result on) result ∷ token.old.trace }
+    ensures trace { token.new.trace ≡ K.note token.old.seat token.old.trace t (next_rq result on) result
+        ∷ token.old.trace }
     ensures room { result / 4 < 2 ^ 60 }
 {
     let found = peek(&wk.words, t, K::column());
@@ -165,8 +169,8 @@ pub fn queue_task<B: Kept, R: Wait>(
 }
 
 /// Takes the seat's current task off its queue, as Linux's `deactivate_task` (`kernel/sched/core.c`): it sleeps, or,
-/// where `dies`, it is dead, by the state that the seat read under its queue's lock. A task dies only at migrate-disable
-/// level 0, as the seat read it since the pick. It answers the number of changes before.
+/// where `dies`, it is dead, by the state that the seat read under its queue's lock. A task dies only at
+/// migrate-disable level 0, as the seat read it since the pick. It answers the number of changes before.
 pub fn dequeue_task<B: Kept, R: Wait>(
     rt: &R,
     wk: &Wk<B>,
@@ -182,7 +186,8 @@ pub fn dequeue_task<B: Kept, R: Wait>(
     requires spare { need_step ≤ pass.old.turn.spare }
     ensures same { IsSameSeat pass.old pass.new }
     ensures trace { pass.new.trace ≡ Dequeued t pass.old.seat result ∷ pass.old.trace }
-    ensures turn { pass.new.turn ≡ logged (dequeue_entry (seen_state pass.old.seat pass.old.trace) result t pass.old.seat) pass.old.turn }
+    ensures turn { pass.new.turn
+        ≡ logged (dequeue_entry (seen_state pass.old.seat pass.old.trace) result t pass.old.seat) pass.old.turn }
     ensures room { result < 2 ^ 60 }
     ensures spare { pass.old.turn.spare ≤ pass.new.turn.spare + 1 }
 {

@@ -26,7 +26,8 @@ pub fn set_state<B: Kept>(wk: &Wk<B>, pass: &mut Pass, state: State)
     requires of { IsOf wk.now pass.old }
     requires may { IsOwnStore pass.old.seat pass.old.trace state }
     ensures same { IsSame pass.old pass.new }
-    ensures trace { pass.new.trace ≡ StateSet (unwrap_or (current_task pass.old.seat pass.old.trace) 0) state ∷ pass.old.trace }
+    ensures trace { pass.new.trace ≡ StateSet (unwrap_or (current_task pass.old.seat pass.old.trace) 0) state
+        ∷ pass.old.trace }
 {
     let Some(t) = pass.current else {
         unreachable!()
@@ -42,7 +43,8 @@ pub fn set_running<B: Kept>(wk: &Wk<B>, pass: &mut Pass)
     requires of { IsOf wk.now pass.old }
     requires may { IsOwnStore pass.old.seat pass.old.trace running }
     ensures same { IsSame pass.old pass.new }
-    ensures trace { pass.new.trace ≡ StateSet (unwrap_or (current_task pass.old.seat pass.old.trace) 0) running ∷ pass.old.trace }
+    ensures trace { pass.new.trace ≡ StateSet (unwrap_or (current_task pass.old.seat pass.old.trace) 0) running
+        ∷ pass.old.trace }
 {
     set_state(wk, pass, State::TASK_RUNNING);
 }

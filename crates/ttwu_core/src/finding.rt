@@ -1,7 +1,8 @@
 //! Where a waker finds a task whose state matches.
 ghost use Rattle.std.specs.Prelude.{◌≡◌, ◌≢◌, ℕ, ◌<◌, ◌∷◌, true, false, None, Some, IsSome};
 ghost use Rattle.std.specs.List.{All};
-ghost use Rattle.task_words.specs.Folds.{is_claimed, is_moving, task_held, queue_held, has_matched, is_unstored, current_task};
+ghost use Rattle.task_words.specs.Folds.{is_claimed, is_moving, task_held, queue_held, has_matched, is_unstored};
+ghost use Rattle.task_words.specs.Folds.{current_task};
 ghost use Rattle.task_words.specs.Rq.{Rq};
 ghost use Rattle.task_words.specs.Views.{IsOf, IsSame};
 ghost use Rattle.ttwu_core.specs.Finds.{DidFind, IsAwaited};

@@ -23,7 +23,8 @@ pub fn wake_own<B: Kept>(wk: &Wk<B>, pass: &mut Pass, mask: State) -> Wake
     ensures same { IsSameSeat pass.old pass.new }
     ensures did { DidWakeOwn mask pass.old pass.new result }
     ensures rests { Rests pass.old.seat pass.old.trace pass.new.trace }
-    ensures passed { mask ≡ normal → (k t : ℕ) → current_task pass.old.seat pass.old.trace ≡ Some t → has_passed pass.new.trace k t ≡ true }
+    ensures passed { mask ≡ normal → (k t : ℕ) → current_task pass.old.seat pass.old.trace ≡ Some t
+        → has_passed pass.new.trace k t ≡ true }
     ensures spare { pass.old.turn.spare ≤ pass.new.turn.spare + 1 }
 {
     let Some(t) = pass.current() else {

@@ -21,7 +21,8 @@ fn told_by_start<B: Kept, R: Wait>(rt: &R, wk: &Wk<B>, pass: &mut Pass) -> Optio
     ensures same { IsOneSeat pass.old pass.new }
     ensures between { IsBetween pass.new }
     ensures tied { journal pass.new.seat pass.new.trace ≡ pass.new.told ++ pass.new.turn.entries }
-    ensures gained { journal pass.new.seat pass.new.trace ≡ journal pass.old.seat pass.old.trace ++ pass.new.turn.entries }
+    ensures gained { journal pass.new.seat pass.new.trace ≡ journal pass.old.seat pass.old.trace
+        ++ pass.new.turn.entries }
     ensures first { result ≡ slice_get pass.new.turn.entries 0 }
 {
     pass.clear_turn();

@@ -53,7 +53,8 @@ fn resume<B: Kept, R: Wait>(rt: &R, wk: &Wk<B>, pass: &mut Pass, t: TaskNo) -> b
     unreachable!()
 }
 
-// The current task leaves its processor, unless it was woken meanwhile, and comes back once it is woken; whether it runs.
+// The current task leaves its processor, unless it was woken meanwhile, and comes back once it is woken; whether it
+// runs.
 fn leave<B: Kept, R: Wait>(rt: &R, wk: &Wk<B>, pass: &mut Pass, t: TaskNo) -> bool
     requires of { IsOf wk.now pass.old }
     requires processor { pass.old.seat < wk.now.shape.cpus }

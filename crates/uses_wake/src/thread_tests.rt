@@ -1,5 +1,5 @@
-//! Threads, one for each processor, that choose at random among wake-ups, walks and sleeps: their journals keep each rule
-//! of a history.
+//! Threads, one for each processor, that choose at random among wake-ups, walks and sleeps: their journals keep each
+//! rule of a history.
 ghost use Rattle.std.specs.Prelude.{◌≡◌, ◌<◌, ◌≤◌, true};
 ghost use Rattle.std.specs.List.{All};
 ghost use Rattle.task_words.specs.Seats.{IsBetween, IsRunning};
@@ -45,7 +45,8 @@ fn give_up<B: Kept, R: Wait>(rt: &R, wk: &Wk<B>, pass: &mut Pass, t: TaskNo, k: 
     pass.spare() >= 8 && put_back(rt, wk, pass, t)
 }
 
-// The current task sleeps at a condition until that is raised, unless it is or the task is woken first; whether it left.
+// The current task sleeps at a condition until that is raised, unless it is or the task is woken first; whether it
+// left.
 fn sleep<B: Kept, R: Wait>(
     rt: &R,
     wk: &Wk<B>,

@@ -59,7 +59,8 @@ fn take_off<B: Kept, R: Wait>(rt: &R, wk: &Wk<B>, pass: &mut Pass, t: TaskNo) ->
     ensures body { body_held pass.new.trace ≡ body_held pass.old.trace }
     ensures other { current_task pass.new.seat pass.new.trace ≢ Some t }
     ensures idle { current_task pass.old.seat pass.old.trace ≡ None → current_task pass.new.seat pass.new.trace ≡ None }
-    ensures cleared { current_task pass.old.seat pass.old.trace ≡ None → task_to_clear pass.new.seat pass.new.trace ≡ task_to_clear pass.old.seat pass.old.trace }
+    ensures cleared { current_task pass.old.seat pass.old.trace ≡ None
+        → task_to_clear pass.new.seat pass.new.trace ≡ task_to_clear pass.old.seat pass.old.trace }
     ensures claimed { is_claimed pass.new.trace ≡ is_claimed pass.old.trace }
     ensures moving { IfSome result (λ m. is_moving pass.new.trace t ≡ true) }
     ensures number { IfSome result (λ m. number_read pass.new.trace t ≡ Some (m + 1)) }
@@ -96,7 +97,8 @@ fn queue_moved<B: Kept, R: Wait>(rt: &R, wk: &Wk<B>, pass: &mut Pass, t: TaskNo,
     ensures waits { wait_held pass.new.trace ≡ wait_held pass.old.trace }
     ensures body { body_held pass.new.trace ≡ body_held pass.old.trace }
     ensures idle { current_task pass.old.seat pass.old.trace ≡ None → current_task pass.new.seat pass.new.trace ≡ None }
-    ensures cleared { current_task pass.old.seat pass.old.trace ≡ None → task_to_clear pass.new.seat pass.new.trace ≡ task_to_clear pass.old.seat pass.old.trace }
+    ensures cleared { current_task pass.old.seat pass.old.trace ≡ None
+        → task_to_clear pass.new.seat pass.new.trace ≡ task_to_clear pass.old.seat pass.old.trace }
     ensures claims { is_claimed pass.new.trace ≡ put (is_claimed pass.old.trace) t false }
     ensures moving { is_moving pass.new.trace t ≡ false }
     ensures number { 0 < number_of pass.new.trace t }

@@ -242,8 +242,10 @@ fn all_work<R: Threads + Wait + Sync>(
     requires conditions { wk.now.shape.conds ≡ 2 }
     requires between { All IsBetween passes.items }
     ensures len { IfOk result (λ v. length v.items ≡ length passes.items) }
-    ensures same { IfOk result (λ v. (i : ℕ) (d : _) (e : _) → i < length passes.items → IsOneSeat (slice_index_or passes.items i d) (slice_index_or v.items i e).pass) }
-    ensures between { IfOk result (λ v. (i : ℕ) (e : _) → i < length passes.items → (slice_index_or v.items i e).fine ≡ true → IsBetween (slice_index_or v.items i e).pass) }
+    ensures same { IfOk result (λ v. (i : ℕ) (d : _) (e : _) → i < length passes.items
+        → IsOneSeat (slice_index_or passes.items i d) (slice_index_or v.items i e).pass) }
+    ensures between { IfOk result (λ v. (i : ℕ) (e : _) → i < length passes.items
+        → (slice_index_or v.items i e).fine ≡ true → IsBetween (slice_index_or v.items i e).pass) }
 {
     map_vec(
         rt,
@@ -282,8 +284,8 @@ fn split(alloc: Global, done: Vec<Worked>) -> Result<Option<(Vec<Pass>, Vec<Jour
     Ok(Some((passes, journals)))
 }
 
-// What is left of a table once the threads of all seats have ended, and their journals; None where a turn didn't end as it
-// has to.
+// What is left of a table once the threads of all seats have ended, and their journals; None where a turn didn't end as
+// it has to.
 fn run_threads<R: Threads + Wait + Sync>(
     rt: &R,
     alloc: Global,
@@ -306,8 +308,8 @@ fn run_threads<R: Threads + Wait + Sync>(
     Ok(Some((wk.close(passes), journals)))
 }
 
-// What is left of a table, and the verdict on what so many processors did there in so many turns each; None where a turn
-// didn't end as it has to.
+// What is left of a table, and the verdict on what so many processors did there in so many turns each; None where a
+// turn didn't end as it has to.
 fn outcome<R: Threads + Wait + Sync>(
     rt: &R,
     alloc: Global,

@@ -69,7 +69,8 @@ fn run_on<B: Kept, R: Wait>(rt: &R, wk: &Wk<B>, pass: &mut Pass, t: TaskNo) -> b
     ensures waits { wait_held pass.new.trace ≡ wait_held pass.old.trace }
     ensures body { body_held pass.new.trace ≡ body_held pass.old.trace }
     ensures idle { current_task pass.old.seat pass.old.trace ≡ None → current_task pass.new.seat pass.new.trace ≡ None }
-    ensures cleared { current_task pass.old.seat pass.old.trace ≡ None → task_to_clear pass.new.seat pass.new.trace ≡ task_to_clear pass.old.seat pass.old.trace }
+    ensures cleared { current_task pass.old.seat pass.old.trace ≡ None
+        → task_to_clear pass.new.seat pass.new.trace ≡ task_to_clear pass.old.seat pass.old.trace }
     ensures claimed { is_claimed pass.new.trace ≡ is_claimed pass.old.trace }
     ensures moving { is_moving pass.new.trace ≡ is_moving pass.old.trace }
     ensures matched { has_matched pass.new.trace t ≡ true }
@@ -134,7 +135,8 @@ fn queue_woken<B: Kept, R: Wait>(rt: &R, wk: &Wk<B>, pass: &mut Pass, t: TaskNo,
     ensures waits { wait_held pass.new.trace ≡ wait_held pass.old.trace }
     ensures body { body_held pass.new.trace ≡ body_held pass.old.trace }
     ensures idle { current_task pass.old.seat pass.old.trace ≡ None → current_task pass.new.seat pass.new.trace ≡ None }
-    ensures cleared { current_task pass.old.seat pass.old.trace ≡ None → task_to_clear pass.new.seat pass.new.trace ≡ task_to_clear pass.old.seat pass.old.trace }
+    ensures cleared { current_task pass.old.seat pass.old.trace ≡ None
+        → task_to_clear pass.new.seat pass.new.trace ≡ task_to_clear pass.old.seat pass.old.trace }
     ensures claims { is_claimed pass.new.trace ≡ put (is_claimed pass.old.trace) t false }
     ensures claimed { is_claimed pass.new.trace t ≡ false }
     ensures moving { is_moving pass.new.trace t ≡ false }

@@ -125,7 +125,11 @@ part_same P (x ∷ xs) = inr (xs, (refl, part_same P xs))
 pub part_others : (t : ℕ) (xs : List WaitEntry) → IsPart (λ u. t ≡ u) (filter (is_of_other t) xs) xs
 part_others t [] = refl
 part_others t (x ∷ xs) = elim (cases_Bool (x.t == t)) [
-  | inl q ↦ inl (grind (arith, nat_tests, q), subst (λ zs. IsPart (λ u. t ≡ u) zs xs) (sym (ap (λ (b : Bool). if not b then x ∷ filter (is_of_other t) xs else filter (is_of_other t) xs) q)) (part_others t xs))
+  | inl q ↦
+      inl (
+        grind (arith, nat_tests, q),
+        subst (λ zs. IsPart (λ u. t ≡ u) zs xs) (sym (ap (λ (b : Bool). if not b then x ∷ filter (is_of_other t) xs else filter (is_of_other t) xs) q)) (part_others t xs),
+      )
   | inr q ↦ inr (filter (is_of_other t) xs, (ap (λ (b : Bool). if not b then x ∷ filter (is_of_other t) xs else filter (is_of_other t) xs) q, part_others t xs))
 ]
 

@@ -22,7 +22,8 @@ pub record IsStoredWithin (k : ℕ) (exclusive : Bool) (state : State) (s : ℕ)
   pub did : new ≡ Gave k (val.Wait taken) (val.Wait given) ∷ StateSet t state ∷ Took k (val.Wait taken) ∷ old
   pub within : has_task given t ≡ true
   pub stayed : has_task taken t ≡ true → given ≡ taken
-  pub at_tail : has_task taken t ≡ false → exclusive ≡ true → given ≡ taken ++ record { t = t; exclusive = exclusive } ∷ []
+  pub at_tail : has_task taken t ≡ false → exclusive ≡ true → given ≡ taken ++ record { t = t; exclusive = exclusive }
+      ∷ []
   pub at_head : has_task taken t ≡ false → exclusive ≡ false → given ≡ record { t = t; exclusive = exclusive } ∷ taken
 
 -- the wait queue of k was given without an entry of the current task, and with each of the others as it was

@@ -59,7 +59,8 @@ HasPassedAll [] trace = Unit {0}
 HasPassedAll (x ∷ xs) trace = ((k : ℕ) → has_passed trace k x.entry.t ≡ true) × HasPassedAll xs trace
 
 -- one entry was met, at the head: it went to the tail, unless its task was woken
-pub record HasMetOne (shape : Shape) (given taken : List WaitEntry) (old new : PassView) (true_wakes exclusive_wakes : ℕ) : Type 0 where
+pub record HasMetOne (shape : Shape) (given taken : List WaitEntry) (old new : PassView)
+    (true_wakes exclusive_wakes : ℕ) : Type 0 where
   pub entry : WaitEntry
   pub answer : Wake
   pub left : List WaitEntry

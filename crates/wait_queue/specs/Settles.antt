@@ -1,6 +1,7 @@
 -- What a call on a wait queue asks of its seat, and what it leaves as it was.
 use Rattle.std.specs.Prelude.{◌≡◌, ℕ, true, false, List, Some, None}
-use Rattle.task_words.specs.Folds.{task_held, queue_held, wait_held, current_task, stays_queued, task_to_clear, is_claimed, has_passed, has_retaken, owes_walk}
+use Rattle.task_words.specs.Folds.{task_held, queue_held, wait_held, current_task, stays_queued, task_to_clear}
+use Rattle.task_words.specs.Folds.{is_claimed, has_passed, has_retaken, owes_walk}
 use Rattle.task_words.specs.Records.{Rec}
 use Rattle.task_words.specs.Untouched.{Untouched}
 use Rattle.task_words.specs.WaitEntry.{WaitEntry}

@@ -21,7 +21,10 @@ pub record IsWalked (shape : Shape) (k : ℕ) (limit : Option ℕ) (old new : Pa
   pub met : HasMet shape meetings
       (record old { trace = Took k (val.Wait (entries_of meetings ++ rest)) ∷ old.trace }) after
   pub did : new
-      ≡ record after { trace = Gave k (val.Wait (entries_of meetings ++ rest)) (val.Wait (staying meetings ++ rest)) ∷ after.trace }
+      ≡ record after {
+        trace = Gave k (val.Wait (entries_of meetings ++ rest)) (val.Wait (staying meetings ++ rest))
+            ∷ after.trace;
+      }
   pub end : IsEnd limit meetings rest
   pub answer : woken ≡ count_true meetings
 
@@ -31,7 +34,8 @@ pub record IsRaisedAndWalked (shape : Shape) (k : ℕ) (old new : PassView) (wok
   pub walked : IsWalked shape k None (record old { trace = Bumped k value ∷ old.trace }) new woken
 
 -- the same, of the entries that a walk has out: which were met, and which stay
-pub record HasWalked (shape : Shape) (limit : Option ℕ) (given taken : List WaitEntry) (old new : PassView) (woken : ℕ) : Type 0 where
+pub record HasWalked (shape : Shape) (limit : Option ℕ) (given taken : List WaitEntry) (old new : PassView)
+    (woken : ℕ) : Type 0 where
   pub meetings : List Meeting
   pub rest : List WaitEntry
   pub all : taken ≡ entries_of meetings ++ rest

@@ -1,5 +1,6 @@
 //! A walk meets entries of a wait queue that it has out.
-ghost use Rattle.std.specs.Prelude.{◌≡◌, ◌≢◌, ℕ, ◌<◌, ◌≤◌, ◌+◌, ◌*◌, ◌∷◌, [], true, false, Some, IfSome, length, slice_get};
+ghost use Rattle.std.specs.Prelude.{◌≡◌, ◌≢◌, ℕ, ◌<◌, ◌≤◌, ◌+◌, ◌*◌, ◌∷◌, [], true, false, Some, IfSome, length};
+ghost use Rattle.std.specs.Prelude.{slice_get};
 ghost use Rattle.task_words.specs.Folds.{has_passed};
 ghost use Rattle.task_words.specs.Needs.{need_wake, need_walk};
 ghost use Rattle.task_words.specs.Told.{TakenWait};

@@ -75,7 +75,8 @@ written-part a b c bytes rest w kept =
 -- ---- what is read, so far
 
 -- so many bytes more, which fit
-pub reads-more : (limit n : ℕ) (a b c : Option (List ℕ)) (xs zs : List ℕ) → Consumes a b xs → TakesSome b c xs zs n → n ≤ limit + 1 - length xs → length xs ≤ limit → Consumes a c zs × (length zs ≤ limit + 1)
+pub reads-more : (limit n : ℕ) (a b c : Option (List ℕ)) (xs zs : List ℕ) → Consumes a b xs → TakesSome b c xs zs n → n ≤ limit + 1 - length xs → length xs ≤ limit
+    → Consumes a c zs × (length zs ≤ limit + 1)
 reads-more limit n a b c xs zs so_far more fits within = (
   consumes-more a b c xs more.some zs more.added so_far more.taken,
   rw (more.added, length-append xs more.some, more.counted) (omega arith),

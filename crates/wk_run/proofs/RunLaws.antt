@@ -27,7 +27,8 @@ script-read bytes script left line code is refused =
     refused.no_script script (subst (λ (b : List ℕ). IsScript b script) same is)
 
 -- the answers that are left where these can't be
-pub answers-left : (s : Status) → (s ≡ status.Usage → ⊥) → (s ≡ status.ReadFault → ⊥) → (s ≡ status.WriteFault → ⊥) → ((line code : ℕ) → s ≡ status.BadScript line code → ⊥) → ((why : JournalFault) → s ≡ status.Illegal why → ⊥) → (s ≡ status.Ok) ⊎ (s ≡ status.NoMemory)
+pub answers-left : (s : Status) → (s ≡ status.Usage → ⊥) → (s ≡ status.ReadFault → ⊥) → (s ≡ status.WriteFault → ⊥) → ((line code : ℕ) → s ≡ status.BadScript line code → ⊥)
+    → ((why : JournalFault) → s ≡ status.Illegal why → ⊥) → (s ≡ status.Ok) ⊎ (s ≡ status.NoMemory)
 answers-left status.Ok usage read write bad illegal = inl refl
 answers-left (status.BadScript line code) usage read write bad illegal = absurd (bad line code refl)
 answers-left status.Usage usage read write bad illegal = absurd (usage refl)

@@ -1,7 +1,8 @@
 -- The exit status of an answer.
 use Rattle.std.specs.Prelude.{ℕ}
 use Rattle.wk_run.specs.declared.status.Status.{Status}
-use Rattle.wk_run.specs.declared.status.Status.TheVariants.{Ok, BadScript, Usage, ReadFault, WriteFault, NoMemory, Illegal}
+use Rattle.wk_run.specs.declared.status.Status.TheVariants.{Ok, BadScript, Usage, ReadFault, WriteFault, NoMemory}
+use Rattle.wk_run.specs.declared.status.Status.TheVariants.{Illegal}
 
 abbrev pub code_of : Status → ℕ
 code_of Ok = 0

@@ -2,7 +2,8 @@
 ghost use Rattle.std.specs.Prelude.{◌≡◌, ◌≢◌, ◌<◌, ◌^◌, ◌⊎◌, ◌↔◌, ℕ, List, Some, Err, IfOk, string_bytes};
 ghost use Rattle.handoff_data.specs.History.{History};
 ghost use Rattle.journal_text.specs.Text.{entries_in, entry_count};
-ghost use Rattle.wk_run.specs.Check.{legal_line, IsFaultOf, IsLegalText, ReadsIllegal, WritesVerdict, WritesVerdictPart};
+ghost use Rattle.wk_run.specs.Check.{legal_line, IsFaultOf, IsLegalText, ReadsIllegal, WritesVerdict};
+ghost use Rattle.wk_run.specs.Check.{WritesVerdictPart};
 ghost use Rattle.wk_run.specs.Ends.{Rose};
 ghost use Rattle.wk_run.specs.declared.check.CheckError.TheVariants.{Illegal as illegal, NoMemory as refused};
 ghost use Rattle.wk_run.specs.declared.journal_fault.JournalFault.{JournalFault as Fault};
@@ -20,7 +21,8 @@ use std::alloc::Global;
 pub(crate) fn check_cmd<S: Source, K: Sink>(alloc: Global, input: &mut S, out: &mut K) -> Status
     ensures read { result ≢ Status.Usage }
     ensures no_script { (line code : ℕ) → result ≢ Status.BadScript line code }
-    ensures ok { result ≡ Status.Ok → WritesVerdict (S.remaining input.old) (S.remaining input.new) (K.taken out.old) (K.taken out.new) }
+    ensures ok { result ≡ Status.Ok
+        → WritesVerdict (S.remaining input.old) (S.remaining input.new) (K.taken out.old) (K.taken out.new) }
     ensures illegal { (fault : Fault) → result ≡ Status.Illegal fault
         → ReadsIllegal (S.remaining input.old) (S.remaining input.new) fault }
     ensures no_legal { (fault : Fault) → result ≡ Status.Illegal fault

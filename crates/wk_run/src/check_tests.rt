@@ -65,8 +65,8 @@ fn journals_are_judged_whole(rt: HostRuntime) -> Result<(), Fail> {
     expect_legal(&rt, early, "legal 9\n")?;
     let empty = "journal 1 ; cpus 1 ; tasks 0 ; seats 1 ; seat 0 ; end";
     expect_legal(&rt, empty, "legal 0\n")?;
-    // Processors 0 and 1 and one agent: task 1 is listed to processor 1, which then goes offline and comes up; task 2 is
-    // pulled from there to processor 0; the agent lists task 0 to processor 0, and changes its mask.
+    // Processors 0 and 1 and one agent: task 1 is listed to processor 1, which then goes offline and comes up; task 2
+    // is pulled from there to processor 0; the agent lists task 0 to processor 0, and changes its mask.
     let whole =
         "journal 1 ; cpus 2 ; tasks 3 ; seats 3 ; seat 0 ; new 0 1 0 ; pick 0 1 0 ; wake 1 2 ; list 1 2 1 0 ; sleep 0 2 0 ; finish 0 2 0 ; out 2 2 1 ; in 2 3 0 ; pick 2 1 0 ; die 2 4 0 ; finish 2 2 0 ; enq 0 3 0 list ; pick 0 3 0 ; die 0 4 0 ; finish 0 4 0 ; seat 1 ; new 1 1 1 ; new 2 1 1 ; pick 1 1 1 ; sleep 1 2 1 ; finish 1 2 1 ; enq 1 3 1 list ; pick 1 3 1 ; die 1 4 1 ; finish 1 4 1 ; offline 1 0 ; up 1 1 ; seat 2 ; wake 0 2 ; list 0 2 0 0 ; mask 0 1 0 ; stood 0 1 2 - ; done 0 1 ; refused 0 1 ; end";
     expect_legal(&rt, whole, "legal 32\n")?;

@@ -22,7 +22,8 @@ use task_script::{SCRIPT_LIMIT, ScriptError, TaskDef, read_script};
 pub(crate) fn run_cmd<S: Source, K: Sink>(alloc: Global, input: &mut S, out: &mut K) -> Status
     ensures read { result ≢ Status.Usage }
     ensures no_journals { (fault : Fault) → result ≢ Status.Illegal fault }
-    ensures ok { result ≡ Status.Ok → WritesReport (S.remaining input.old) (S.remaining input.new) (K.taken out.old) (K.taken out.new) }
+    ensures ok { result ≡ Status.Ok
+        → WritesReport (S.remaining input.old) (S.remaining input.new) (K.taken out.old) (K.taken out.new) }
     ensures bad_script { (line code : ℕ) → result ≡ Status.BadScript line code
         → ReadsFault (S.remaining input.old) (S.remaining input.new) line code }
     ensures read_fault { result ≡ Status.ReadFault → Rose (S.faults input.old) (S.faults input.new) }

@@ -1,4 +1,5 @@
-//! The run of a script from its bytes to its report, the check of journals, and the ends that bytes come from and go to.
+//! The run of a script from its bytes to its report, the check of journals, and the ends that bytes come from and go
+//! to.
 //!
 //! `top.rt` is the top call, `words.rt` the words of the command line, `command.rt` the command `run` and `report.rt`
 //! its report, `check.rt` the command `check`, `status.rt` and `journal_fault.rt` the answers. `ends.rt` has the traits

@@ -56,7 +56,12 @@ impl Model for MemSource {
 
     ghost Value = { End };
 
-    ghost view = { λ s. record { bytes = drop s.at s.bytes.items; fails = s.calls.fails.items; calls = s.calls.made; faults = s.calls.faults } };
+    ghost view = { λ s. record {
+      bytes = drop s.at s.bytes.items;
+      fails = s.calls.fails.items;
+      calls = s.calls.made;
+      faults = s.calls.faults;
+    } };
 
     ghost invariant = { λ s. s.at ≤ length s.bytes.items };
 }
@@ -138,7 +143,13 @@ impl Model for MemSink {
 
     ghost Value = { Store };
 
-    ghost view = { λ s. record { bytes = s.bytes.items; room = s.room; fails = s.calls.fails.items; calls = s.calls.made; faults = s.calls.faults } };
+    ghost view = { λ s. record {
+      bytes = s.bytes.items;
+      room = s.room;
+      fails = s.calls.fails.items;
+      calls = s.calls.made;
+      faults = s.calls.faults;
+    } };
 
     ghost invariant = { λ s. vec_len s.bytes + s.room ≤ vec_capacity s.bytes };
 }
@@ -149,7 +160,13 @@ impl MemSink {
     /// A sink that has taken nothing and has room for so many bytes, whose calls with the numbers `fails` are to fail.
     /// It takes memory for the room, and no other.
     pub fn new(alloc: Global, room: usize, fails: Vec<u64>) -> Result<MemSink, NoMemory>
-        ensures { IfOk result (λ s. s ≡ record { bytes = []; room = room; fails = fails.items; calls = 0; faults = 0 }) }
+        ensures { IfOk result (λ s. s ≡ record {
+          bytes = [];
+          room = room;
+          fails = fails.items;
+          calls = 0;
+          faults = 0;
+        }) }
     {
         Ok(MemSink {
             bytes: Vec::with_capacity(alloc, room)?,
@@ -190,7 +207,8 @@ impl Sink for MemSink {
         // that succeeds takes all.
         ensures failed { IsErr result ↔ (Contains self.old.fails self.old.calls ⊎ (self.old.room < length bytes.now)) }
         ensures whole { IfOk result (λ n. n ≡ length bytes.now) }
-        ensures room { MatchResult result (λ n. self.new.room + n ≡ self.old.room) (λ _. self.new.room ≡ self.old.room) }
+        ensures room { MatchResult result (λ n. self.new.room + n ≡ self.old.room)
+            (λ _. self.new.room ≡ self.old.room) }
         ensures fails { self.new.fails ≡ self.old.fails }
         ensures calls { self.new.calls ≡ one_more self.old.calls }
         ensures faults { CountsFault self.old.faults self.new.faults result }

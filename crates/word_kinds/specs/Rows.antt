@@ -5,7 +5,11 @@ use Rattle.handoff_data.specs.declared.shape.Shape.{Shape}
 use Rattle.word_table.specs.Layout.{rows_of}
 
 pub tasks_rows : (shape : Shape) → shape.tasks ≤ rows_of shape
-tasks_rows shape = le_trans (le-max_left shape.tasks shape.conds) (le-max_left (max shape.tasks shape.conds) (shape.cpus + shape.agents))
+tasks_rows shape =
+    le_trans (le-max_left shape.tasks shape.conds)
+    (le-max_left (max shape.tasks shape.conds) (shape.cpus + shape.agents))
 
 pub conds_rows : (shape : Shape) → shape.conds ≤ rows_of shape
-conds_rows shape = le_trans (le-max_right shape.tasks shape.conds) (le-max_left (max shape.tasks shape.conds) (shape.cpus + shape.agents))
+conds_rows shape =
+    le_trans (le-max_right shape.tasks shape.conds)
+    (le-max_left (max shape.tasks shape.conds) (shape.cpus + shape.agents))

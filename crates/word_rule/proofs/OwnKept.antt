@@ -22,7 +22,8 @@ use Rattle.word_steps.specs.TraceFacts.{CurrentHolds}
 use Rattle.word_steps.specs.Decode.{Homes, core_of}
 use Rattle.word_steps.specs.Events.{IsEvent, IsNoted, Writes}
 use Rattle.word_steps.specs.Folds.{current_task, stays_queued}
-use Rattle.word_steps.specs.Records.{Rec, Took, Gave, OutBody, HomeBody, Queued, Dequeued, Moved, SetBusy, ClearedBusy, StateSet, Claimed, MadeRunnable, LoadedState, LoadedRq, LoadedBusy, LoadedCpu, LoadedCount, StoredCpu, Bumped, LoadedCond}
+use Rattle.word_steps.specs.Records.{Rec, Took, Gave, OutBody, HomeBody, Queued, Dequeued, Moved, SetBusy, ClearedBusy, StateSet, Claimed, MadeRunnable, LoadedState, LoadedRq, LoadedBusy, LoadedCpu}
+use Rattle.word_steps.specs.Records.{LoadedCount, StoredCpu, Bumped, LoadedCond}
 use Rattle.word_steps.specs.Words.{LOCK, STATE, RQ, BUSY, CPU, COUNT, QUEUE_LOCK, WORKS_LOCK, WAIT_LOCK, COND, is_set}
 use Rattle.word_steps.specs.declared.val.Val.TheVariants as val
 
@@ -249,11 +250,13 @@ module _ (shape : Shape) (words : ℕ → ℕ → ℕ) (homes : Homes) (traces :
       as_made traces s w (put_at words t STATE 0) r (MadeRunnable t) writes noted
       (make_runnable_own words traces s own shape homes core t may)
   own_by (step.LoadState t mask) r w noted writes may =
-      as_made traces s w words r (LoadedState t mask (record { 0 = words t STATE })) writes noted (own_still words traces s own (LoadedState t mask (record { 0 = words t STATE })) (λ u e. e) (λ e. e) refl)
+      as_made traces s w words r (LoadedState t mask (record { 0 = words t STATE })) writes noted (own_still words traces s own (LoadedState t mask (record { 0 = words t STATE })) (λ u e. e)
+      (λ e. e) refl)
   own_by (step.LoadRq t) r w noted writes may =
       as_made traces s w words r (LoadedRq t (words t RQ % 4) (words t RQ / 4)) writes noted (own_still words traces s own (LoadedRq t (words t RQ % 4) (words t RQ / 4)) (λ u e. e) (λ e. e) refl)
   own_by (step.LoadBusy t) r w noted writes may =
-      as_made traces s w words r (LoadedBusy t (is_set (words t BUSY)) (words t BUSY / 2)) writes noted (own_still words traces s own (LoadedBusy t (is_set (words t BUSY)) (words t BUSY / 2)) (λ u e. e) (λ e. e) refl)
+      as_made traces s w words r (LoadedBusy t (is_set (words t BUSY)) (words t BUSY / 2)) writes noted (own_still words traces s own (LoadedBusy t (is_set (words t BUSY)) (words t BUSY / 2))
+      (λ u e. e) (λ e. e) refl)
   own_by (step.LoadCpu t) r w noted writes may =
       as_made traces s w words r (LoadedCpu t (words t CPU)) writes noted (own_still words traces s own (LoadedCpu t (words t CPU)) (λ u e. e) (λ e. e) refl)
   own_by (step.LoadCount t) r w noted writes may =

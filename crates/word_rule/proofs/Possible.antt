@@ -11,7 +11,8 @@ use Rattle.handoff_data.specs.declared.shape.Shape.{Shape}
 use Rattle.handoff_data.specs.declared.state.State.{State}
 use Rattle.word_rule.proofs.GrownKept.{same_number}
 use Rattle.word_rule.specs.WordsHold.{WordsHold}
-use Rattle.word_rule.specs.May.{MayQueueWord, MayDequeueWord, MayMoveWord, MaySetBusyWord, MayClearBusyWord, MaySetStateWord, MayClaimWord, MayMakeRunnableWord, MayCpuWord, IsMatchedHere, IsPutHere, on_of}
+use Rattle.word_rule.specs.May.{MayQueueWord, MayDequeueWord, MayMoveWord, MaySetBusyWord, MayClearBusyWord, MaySetStateWord, MayClaimWord, MayMakeRunnableWord, MayCpuWord, IsMatchedHere, IsPutHere}
+use Rattle.word_rule.specs.May.{on_of}
 use Rattle.word_steps.proofs.Conditions.{queue_locked, store_cpu_may, set_busy_may, move_may}
 use Rattle.word_steps.proofs.CurrentKept.{set_state_may}
 use Rattle.word_steps.proofs.EndedKept.{dead_allowed}

@@ -23,7 +23,8 @@ use Rattle.word_steps.specs.TraceFacts.{MovingHolds}
 use Rattle.word_steps.specs.Decode.{Homes, core_of, core_after}
 use Rattle.word_steps.specs.Events.{IsEvent, IsNoted, Writes}
 use Rattle.word_steps.specs.Folds.{is_claimed, is_moving, number_read, saw_off}
-use Rattle.word_steps.specs.Records.{Rec, Took, Gave, OutBody, HomeBody, Queued, Dequeued, Moved, SetBusy, ClearedBusy, StateSet, Claimed, MadeRunnable, LoadedState, LoadedRq, LoadedBusy, LoadedCpu, LoadedCount, StoredCpu, Bumped, LoadedCond}
+use Rattle.word_steps.specs.Records.{Rec, Took, Gave, OutBody, HomeBody, Queued, Dequeued, Moved, SetBusy, ClearedBusy, StateSet, Claimed, MadeRunnable, LoadedState, LoadedRq, LoadedBusy, LoadedCpu}
+use Rattle.word_steps.specs.Records.{LoadedCount, StoredCpu, Bumped, LoadedCond}
 use Rattle.word_steps.specs.Words.{LOCK, STATE, RQ, BUSY, CPU, COUNT, QUEUE_LOCK, WORKS_LOCK, WAIT_LOCK, COND, is_set, holder}
 use Rattle.word_steps.specs.declared.val.Val.TheVariants as val
 
@@ -250,13 +251,16 @@ module _ (shape : Shape) (words : ℕ → ℕ → ℕ) (homes : Homes) (traces :
       as_made traces s w words r (HomeBody t ended) writes noted (ways_still words traces s ways (HomeBody t ended) (λ u way. way) refl)
   ways_by (step.QueueTask c t) r w h noted writes made =
       as_made traces s w (put_at words t RQ writes.0) r (Queued t c (words t RQ % 4) (words t RQ / 4)) writes.1 noted
-      (queue_task_ways words traces s ways shape homes moving core c t (words t RQ % 4) writes.0 (next_word t writes.0 w writes.1 (ap (λ (c : Columns). c.changes t) made.next_is ∙ put_there (λ u. words u RQ / 4) t (words t RQ / 4 + 1) t refl)) made.possible)
+      (queue_task_ways words traces s ways shape homes moving core c t (words t RQ % 4) writes.0 (next_word t writes.0 w writes.1 (ap (λ (c : Columns). c.changes t) made.next_is
+      ∙ put_there (λ u. words u RQ / 4) t (words t RQ / 4 + 1) t refl)) made.possible)
   ways_by (step.DequeueTask c t) r w h noted writes made =
       as_made traces s w (put_at words t RQ writes.0) r (Dequeued t c (words t RQ / 4)) writes.1 noted
-      (dequeue_task_ways words traces s ways shape homes moving core c t writes.0 (next_word t writes.0 w writes.1 (ap (λ (c : Columns). c.changes t) made.next_is ∙ put_there (λ u. words u RQ / 4) t (words t RQ / 4 + 1) t refl)) made.possible)
+      (dequeue_task_ways words traces s ways shape homes moving core c t writes.0 (next_word t writes.0 w writes.1 (ap (λ (c : Columns). c.changes t) made.next_is
+      ∙ put_there (λ u. words u RQ / 4) t (words t RQ / 4 + 1) t refl)) made.possible)
   ways_by (step.MoveTask c t queue) r w h noted writes made =
       as_made traces s w (put_at words t RQ writes.0) r (Moved t c (words t RQ / 4)) writes.1 noted
-      (move_task_ways words traces s ways shape homes moving core c t writes.0 queue (next_word t writes.0 w writes.1 (ap (λ (c : Columns). c.changes t) made.next_is ∙ put_there (λ u. words u RQ / 4) t (words t RQ / 4 + 1) t refl)) made.possible)
+      (move_task_ways words traces s ways shape homes moving core c t writes.0 queue (next_word t writes.0 w writes.1 (ap (λ (c : Columns). c.changes t) made.next_is
+      ∙ put_there (λ u. words u RQ / 4) t (words t RQ / 4 + 1) t refl)) made.possible)
   ways_by (step.SetBusy c t queue) r w h noted writes made =
       as_made traces s w (put_at words t BUSY writes.0) r (SetBusy t c (words t BUSY / 2)) writes.1 noted
       (ways_beside words traces s ways t BUSY writes.0 (SetBusy t c (words t BUSY / 2)) (λ e. omega (arith, e)) (λ u way. way) refl)
@@ -273,11 +277,13 @@ module _ (shape : Shape) (words : ℕ → ℕ → ℕ) (homes : Homes) (traces :
       as_made traces s w (put_at words t STATE (0)) r (MadeRunnable t) writes noted
       (ways_beside words traces s ways t STATE (0) (MadeRunnable t) (λ e. omega (arith, e)) (λ u way. way) refl)
   ways_by (step.LoadState t mask) r w h noted writes made =
-      as_made traces s w words r (LoadedState t mask (record { 0 = words t STATE })) writes noted (ways_still words traces s ways (LoadedState t mask (record { 0 = words t STATE })) (λ u way. way) refl)
+      as_made traces s w words r (LoadedState t mask (record { 0 = words t STATE })) writes noted (ways_still words traces s ways (LoadedState t mask (record { 0 = words t STATE }))
+      (λ u way. way) refl)
   ways_by (step.LoadRq t) r w h noted writes made =
       as_made traces s w words r (LoadedRq t (words t RQ % 4) (words t RQ / 4)) writes noted (load_rq_ways words traces s ways t (words t RQ % 4))
   ways_by (step.LoadBusy t) r w h noted writes made =
-      as_made traces s w words r (LoadedBusy t (is_set (words t BUSY)) (words t BUSY / 2)) writes noted (ways_still words traces s ways (LoadedBusy t (is_set (words t BUSY)) (words t BUSY / 2)) (λ u way. way) refl)
+      as_made traces s w words r (LoadedBusy t (is_set (words t BUSY)) (words t BUSY / 2)) writes noted (ways_still words traces s ways (LoadedBusy t (is_set (words t BUSY)) (words t BUSY / 2))
+      (λ u way. way) refl)
   ways_by (step.LoadCpu t) r w h noted writes made =
       as_made traces s w words r (LoadedCpu t (words t CPU)) writes noted (ways_still words traces s ways (LoadedCpu t (words t CPU)) (λ u way. way) refl)
   ways_by (step.LoadCount t) r w h noted writes made =

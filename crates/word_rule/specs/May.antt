@@ -1,6 +1,7 @@
 -- When a seat may make each kind of step: by its number s, its own trace, the word that the step finds, x, and the word
 -- that it leaves, y.
-use Rattle.std.specs.Prelude.{◌≡◌, ◌≢◌, ℕ, suc, ◌+◌, ◌*◌, ◌%◌, ◌/◌, ◌^◌, ◌<◌, ◌⊎◌, Bool, true, false, List, Some, None, IsSome, unwrap_or, if◌then◌else◌}
+use Rattle.std.specs.Prelude.{◌≡◌, ◌≢◌, ℕ, suc, ◌+◌, ◌*◌, ◌%◌, ◌/◌, ◌^◌, ◌<◌, ◌⊎◌, Bool, true, false, List, Some, None}
+use Rattle.std.specs.Prelude.{IsSome, unwrap_or, if◌then◌else◌}
 use Rattle.core_data.specs.Entries.{has_entry}
 use Rattle.core_data.specs.Queue.{Queue, times_in}
 use Rattle.core_data.specs.declared.values.TaskVal.{TaskVal}
@@ -14,7 +15,10 @@ use Rattle.core_kinds.specs.Steps.{is_sleep, dead, running, waking}
 use Rattle.handoff_data.specs.declared.shape.Shape.{Shape}
 use Rattle.word_rule.specs.Sorts.{Sort, OfTask, OfQueue, OfWorks, OfWait}
 use Rattle.word_rule.specs.Standing.{standing, may_run}
-use Rattle.word_steps.specs.Folds.{task_held, queue_held, works_held, wait_held, body_held, ended_known, current_task, stays_queued, task_to_clear, seen_state, has_matched, saw_off, is_claimed, saw_clear, has_stored, saw_idle, has_added, has_dropped, has_put, has_passed, has_own_stored, is_moving, number_read, last_reads, saw_queued}
+use Rattle.word_steps.specs.Folds.{task_held, queue_held, works_held, wait_held, body_held, ended_known, current_task}
+use Rattle.word_steps.specs.Folds.{stays_queued, task_to_clear, seen_state, has_matched, saw_off, is_claimed, saw_clear}
+use Rattle.word_steps.specs.Folds.{has_stored, saw_idle, has_added, has_dropped, has_put, has_passed, has_own_stored}
+use Rattle.word_steps.specs.Folds.{is_moving, number_read, last_reads, saw_queued}
 use Rattle.word_steps.specs.Records.{Rec}
 use Rattle.word_steps.specs.declared.val.Val.{Val}
 use Rattle.word_steps.specs.declared.val.Val.TheVariants as val
@@ -51,7 +55,8 @@ module _ (s : ℕ) (trace : List Rec) where
     pub cpu : ℕ
     pub read : (last_reads trace t).cpu ≡ Some cpu
     pub queue : IsSome (queue_held trace cpu)
-    pub ready : (number_read trace t ≡ Some 0) ⊎ (((is_claimed trace t ≡ true) × (saw_clear trace t ≡ true)) ⊎ (is_moving trace t ≡ true))
+    pub ready : (number_read trace t ≡ Some 0) ⊎ (((is_claimed trace t ≡ true) × (saw_clear trace t ≡ true))
+        ⊎ (is_moving trace t ≡ true))
 
   -- `on_rq` to 0
   pub record MayDequeueWord (t x y : ℕ) : Type 0 where
@@ -83,7 +88,8 @@ module _ (s : ℕ) (trace : List Rec) where
     pub room : x / 2 < 2 ^ 60
     pub taken : Queue
     pub queue : queue_held trace s ≡ Some taken
-    pub stands : (may_run s trace s t ≡ true) ⊎ ((times taken t ≡ 1) × (has_added trace s t ≡ false) × (has_dropped trace s t ≡ false))
+    pub stands : (may_run s trace s t ≡ true)
+        ⊎ ((times taken t ≡ 1) × (has_added trace s t ≡ false) × (has_dropped trace s t ≡ false))
     pub none : current_task s trace ≡ None
     pub clear : task_to_clear s trace ≡ None
 
@@ -99,7 +105,8 @@ module _ (s : ℕ) (trace : List Rec) where
     pub stays : stays_queued trace ≡ true
     pub allowed :
         (record { 0 = y } ≡ running)
-        ⊎ ((is_sleep (record { 0 = y }) ≡ true) ⊎ ((record { 0 = y } ≡ dead) × IsSome (task_held trace t) × (ended_known trace t ≡ Some true)))
+        ⊎ ((is_sleep (record { 0 = y }) ≡ true)
+        ⊎ ((record { 0 = y } ≡ dead) × IsSome (task_held trace t) × (ended_known trace t ≡ Some true)))
 
   -- TASK_WAKING: under the task's lock a matching state was read and then `on_rq` as 0
   pub record MayClaimWord (t x y : ℕ) : Type 0 where
@@ -132,7 +139,8 @@ module _ (s : ℕ) (trace : List Rec) where
   -- the processor word: of a new task, of one that the seat has claimed, and of one that it moves
   pub record MayCpuWord (shape : Shape) (t x y : ℕ) : Type 0 where
     pub processor : y < shape.cpus
-    pub placeable : IsNewHere t ⊎ (((is_claimed trace t ≡ true) × (saw_clear trace t ≡ true)) ⊎ ((IsSome (task_held trace t)) × (is_moving trace t ≡ true)))
+    pub placeable : IsNewHere t ⊎ (((is_claimed trace t ≡ true) × (saw_clear trace t ≡ true))
+        ⊎ ((IsSome (task_held trace t)) × (is_moving trace t ≡ true)))
 
   -- The gives
 
@@ -147,7 +155,9 @@ module _ (s : ℕ) (trace : List Rec) where
     pub settled : (has_stored trace t ≡ false) ⊎ ((is_claimed trace t ≡ false) × (is_moving trace t ≡ false))
     -- a new task has no word stored
     pub begun :
-        (has_stored trace t ≡ false) ⊎ (((m : ℕ) × (number_read trace t ≡ Some (suc m))) ⊎ ((has_matched trace t ≡ true) ⊎ (current_task s trace ≡ Some t)))
+        (has_stored trace t ≡ false)
+        ⊎ (((m : ℕ) × (number_read trace t ≡ Some (suc m)))
+        ⊎ ((has_matched trace t ≡ true) ⊎ (current_task s trace ≡ Some t)))
 
   -- of a queue's lock: each task that stands there, once, and those who wait may run; only its own seat switches
   pub record MayGiveQueueVal (shape : Shape) (c : ℕ) (given : Queue) : Type 0 where
@@ -157,7 +167,8 @@ module _ (s : ℕ) (trace : List Rec) where
     pub waits : (t : ℕ) → times_in given.waiting t ≢ 0 → may_run s trace c t ≡ true
     pub next : (t : ℕ) → given.cur ≡ Some t → (may_run s trace c t ≡ true) ⊎ (has_added trace c t ≡ false)
     pub others : s ≢ c → (given.cur ≡ taken.cur) × (given.left ≡ taken.left)
-    pub own : s ≡ c → (t : ℕ) → current_task s trace ≡ Some t → (given.cur ≡ Some t) ⊎ ((given.cur ≡ None) × (given.left ≡ Some t) × (body_held trace ≡ None))
+    pub own : s ≡ c → (t : ℕ) → current_task s trace ≡ Some t → (given.cur ≡ Some t)
+        ⊎ ((given.cur ≡ None) × (given.left ≡ Some t) × (body_held trace ≡ None))
     pub clear : s ≡ c → (t : ℕ) → task_to_clear s trace ≡ Some t → given.left ≡ Some t
     pub left : (t : ℕ) → given.left ≡ Some t → t < shape.tasks
 
@@ -171,8 +182,10 @@ module _ (s : ℕ) (trace : List Rec) where
     pub held : wait_held trace k ≡ Some taken
     pub once : HasEachOnce given
     pub tasks : (x : WaitEntry) → has_entry given x ≡ true → x.t < shape.tasks
-    pub put_in : (x : WaitEntry) → has_entry given x ≡ true → has_entry taken x ≡ false → (current_task s trace ≡ Some x.t) × (has_own_stored trace k x.t ≡ true)
-    pub taken_out : (x : WaitEntry) → has_entry taken x ≡ true → has_entry given x ≡ false → (current_task s trace ≡ Some x.t) ⊎ (has_passed trace k x.t ≡ true)
+    pub put_in : (x : WaitEntry) → has_entry given x ≡ true → has_entry taken x ≡ false
+        → (current_task s trace ≡ Some x.t) × (has_own_stored trace k x.t ≡ true)
+    pub taken_out : (x : WaitEntry) → has_entry taken x ≡ true → has_entry given x ≡ false
+        → (current_task s trace ≡ Some x.t) ⊎ (has_passed trace k x.t ≡ true)
 
   abbrev pub MayGive : Shape → Sort → ℕ → Val → Type 0
   MayGive shape OfTask n (val.Task v) = MayGiveTaskVal shape n v

@@ -28,7 +28,8 @@ IsStill stored state = (state ≡ stored) ⊎ ((state ≡ running) × (stored �
 -- a current task that its seat hasn't taken off its queue has the state that the seat stored last, or was woken
 abbrev pub OwnHolds : (ℕ → ℕ → ℕ) → (ℕ → List Rec) → Type 0
 OwnHolds words traces =
-    (s t : ℕ) (stored : State) → current_task s (traces s) ≡ Some t → stays_queued (traces s) ≡ true → last_own (traces s) t ≡ Some stored
+    (s t : ℕ) (stored : State) → current_task s (traces s) ≡ Some t → stays_queued (traces s) ≡ true
+    → last_own (traces s) t ≡ Some stored
     → IsStill stored (record { 0 = words t STATE })
 
 -- What is known of the state x of t that the seat s reads, by its trace before: it has 16 bits; and of its own current
@@ -36,7 +37,9 @@ OwnHolds words traces =
 pub record StateTold (s : ℕ) (trace : List Rec) (t x : ℕ) : Type 0 where
   pub narrow : x < 2 ^ 16
   pub own : current_task s trace ≡ Some t → stays_queued trace ≡ true → IsOfCurrent (record { 0 = x })
-  pub still : (stored : State) → current_task s trace ≡ Some t → stays_queued trace ≡ true → last_own trace t ≡ Some stored
+  pub still : (stored : State) → current_task s trace ≡ Some t → stays_queued trace ≡ true
+      → last_own trace t ≡ Some stored
       → IsStill stored (record { 0 = x })
   -- .. so a task that it left for dead is
-  pub dead : current_task s trace ≡ Some t → stays_queued trace ≡ true → last_own trace t ≡ Some dead → ◌≡◌ {A = State} (record { 0 = x }) dead
+  pub dead : current_task s trace ≡ Some t → stays_queued trace ≡ true → last_own trace t ≡ Some dead
+      → ◌≡◌ {A = State} (record { 0 = x }) dead

@@ -24,7 +24,8 @@ pub record TakenTask (shape : Shape) (v : TaskVal) : Type 0 where
 
 -- the seat knows that a task is on no queue: it has claimed it, it moves it, or it has its lock and knows it as new
 abbrev pub IsOff : List Rec → ℕ → Type 0
-IsOff trace t = (is_claimed trace t ≡ true) ⊎ ((is_moving trace t ≡ true) ⊎ (IsSome (task_held trace t) × (number_read trace t ≡ Some 0)))
+IsOff trace t = (is_claimed trace t ≡ true)
+    ⊎ ((is_moving trace t ≡ true) ⊎ (IsSome (task_held trace t) × (number_read trace t ≡ Some 0)))
 
 -- no task stands there twice, and there is room for one that isn't there; the own queue's `cur` is the seat's current
 -- task, and its `left` the one to clear, if any

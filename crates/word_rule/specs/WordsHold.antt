@@ -8,7 +8,8 @@ use Rattle.word_rule.specs.Masks.{MasksHold}
 use Rattle.word_rule.specs.Own.{OwnHolds}
 use Rattle.word_rule.specs.Standing.{StandingHolds, RunsHold, OffHolds, GrownHolds}
 use Rattle.word_rule.specs.Ways.{WaysHold}
-use Rattle.word_steps.specs.TraceFacts.{MovingHolds, CurrentHolds, NumbersHold, MatchedHolds, QueuedHolds, PutHolds, EndedHolds, CountsZero, StatesFit}
+use Rattle.word_steps.specs.TraceFacts.{MovingHolds, CurrentHolds, NumbersHold, MatchedHolds, QueuedHolds, PutHolds}
+use Rattle.word_steps.specs.TraceFacts.{EndedHolds, CountsZero, StatesFit}
 use Rattle.word_steps.specs.Decode.{Homes, core_of}
 use Rattle.word_steps.specs.Exclusives.{ExclusivesHold}
 use Rattle.word_steps.specs.Records.{Rec}

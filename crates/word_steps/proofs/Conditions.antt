@@ -18,7 +18,8 @@ use Rattle.core_kinds.specs.Waking.{MayClaim, MayStoreCpu}
 use Rattle.handoff_data.specs.declared.state.State.{State}
 use Rattle.handoff_data.specs.declared.shape.Shape.{Shape}
 use Rattle.word_steps.specs.Decode.{Homes, core_of}
-use Rattle.word_steps.specs.Folds.{task_held, queue_held, works_held, wait_held, body_held, current_task, task_to_clear, seen_state, saw_off, is_claimed, saw_clear, has_stored, last_reads, has_passed, has_own_stored, has_added, has_dropped, saw_idle}
+use Rattle.word_steps.specs.Folds.{task_held, queue_held, works_held, wait_held, body_held, current_task, task_to_clear, seen_state, saw_off, is_claimed, saw_clear, has_stored, last_reads, has_passed}
+use Rattle.word_steps.specs.Folds.{has_own_stored, has_added, has_dropped, saw_idle}
 use Rattle.word_steps.specs.Records.{Rec}
 use Rattle.word_steps.specs.Words.{LOCK, RQ, BUSY, CPU, COUNT, QUEUE_LOCK, WORKS_LOCK, WAIT_LOCK, holder, is_set}
 

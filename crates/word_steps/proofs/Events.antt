@@ -24,7 +24,8 @@ use Rattle.word_steps.proofs.OwnRead.{own_read}
 use Rattle.word_steps.specs.Decode.{Homes, core_of}
 use Rattle.word_steps.specs.Events.{IsEvent}
 use Rattle.word_steps.specs.Folds.{task_held, queue_held, works_held, wait_held}
-use Rattle.word_steps.specs.Records.{Rec, Took, Gave, OutBody, HomeBody, Queued, Dequeued, Moved, SetBusy, ClearedBusy, StateSet, Claimed, MadeRunnable, LoadedState, LoadedRq, LoadedBusy, LoadedCpu, LoadedCount, StoredCpu, Bumped, LoadedCond}
+use Rattle.word_steps.specs.Records.{Rec, Took, Gave, OutBody, HomeBody, Queued, Dequeued, Moved, SetBusy, ClearedBusy, StateSet, Claimed, MadeRunnable, LoadedState, LoadedRq, LoadedBusy, LoadedCpu}
+use Rattle.word_steps.specs.Records.{LoadedCount, StoredCpu, Bumped, LoadedCond}
 use Rattle.word_steps.specs.Words.{LOCK, STATE, RQ, BUSY, CPU, COUNT, QUEUE_LOCK, WORKS_LOCK, WAIT_LOCK, COND, is_set}
 use Rattle.word_steps.specs.declared.val.Val.TheVariants as val
 

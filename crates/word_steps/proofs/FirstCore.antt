@@ -5,7 +5,11 @@ use Rattle.std.proofs.lemmas.Bool.{cases_lt}
 use Rattle.std.proofs.lemmas.List.{length-replicate}
 use Rattle.core_data.specs.Found.{no_reads}
 use Rattle.core_data.specs.Opening.{IsStart, first_task, first_cpu, first_cond, first_seat, no_tasks}
-use Rattle.core_data.specs.Columns.{Columns, columns_of, column, unserved, mark_of, done_of, refs_of, current_task_of, task_held_of, queue_held_of, list_held_of, works_held_of, wait_held_of, body_held_of, task_to_clear_of, seen_state_of, level_known_of, has_matched_of, is_unstored_of, saw_off_of, is_claimed_of, saw_clear_of, has_stored_of, saw_rest_of, saw_rest_off_of, saw_rest_idle_of, has_slept_of, is_requeued_of, saw_idle_of, has_added_of, has_dropped_of, has_passed_of, has_own_stored_of, has_slept_in_of, owes_walk_of, has_retaken_of, tested_of, is_asleep_of, last_reads_of, hand_of, actives_of, counts_of, lowered_of, given_up_of, due_of, ticket_of, zeroed_of, joined_of, refs_zero_of, completing_of, posted_of, works_hand_of, phases_of, unmarked_of, alive_of, turns_of, served_of, journal_of}
+use Rattle.core_data.specs.Columns.{Columns, columns_of, column, unserved, mark_of, done_of, refs_of, current_task_of, task_held_of, queue_held_of, list_held_of, works_held_of, wait_held_of}
+use Rattle.core_data.specs.Columns.{body_held_of, task_to_clear_of, seen_state_of, level_known_of, has_matched_of, is_unstored_of, saw_off_of, is_claimed_of, saw_clear_of, has_stored_of, saw_rest_of}
+use Rattle.core_data.specs.Columns.{saw_rest_off_of, saw_rest_idle_of, has_slept_of, is_requeued_of, saw_idle_of, has_added_of, has_dropped_of, has_passed_of, has_own_stored_of, has_slept_in_of}
+use Rattle.core_data.specs.Columns.{owes_walk_of, has_retaken_of, tested_of, is_asleep_of, last_reads_of, hand_of, actives_of, counts_of, lowered_of, given_up_of, due_of, ticket_of, zeroed_of}
+use Rattle.core_data.specs.Columns.{joined_of, refs_zero_of, completing_of, posted_of, works_hand_of, phases_of, unmarked_of, alive_of, turns_of, served_of, journal_of}
 use Rattle.core_data.specs.declared.words.CondWords.{CondWords}
 use Rattle.core_data.specs.declared.words.CpuWords.{CpuWords}
 use Rattle.core_data.specs.declared.words.TaskWords.{TaskWords}

@@ -6,10 +6,12 @@ use Rattle.core_data.specs.declared.act.Act.TheVariants.{Matched, SawRest, Passe
 use Rattle.handoff_data.specs.declared.entry.Entry.TheVariants as entry
 use Rattle.core_data.specs.Columns.{Columns, put_at}
 use Rattle.core_kinds.specs.Steps.{is_match, normal}
-use Rattle.core_kinds.specs.Waking.{load_state, load_rq, load_busy, load_cpu, load_count, load_cond, state_read, rq_read, busy_read, seen_if, noted_if, is_matched, is_refused, load_this, is_own_read, is_some_of}
+use Rattle.core_kinds.specs.Waking.{load_state, load_rq, load_busy, load_cpu, load_count, load_cond, state_read, rq_read, busy_read, seen_if, noted_if, is_matched, is_refused, load_this, is_own_read}
+use Rattle.core_kinds.specs.Waking.{is_some_of}
 use Rattle.handoff_data.specs.declared.shape.Shape.{Shape}
 use Rattle.handoff_data.specs.declared.state.State.{State}
-use Rattle.word_steps.proofs.Flats.{matched_by, matched_flat, rest_by, rest_flat, passed_by, passed_flat, off_by, off_flat, rest_off_by, rest_off_flat, rest_idle_by, rest_idle_flat, clear_by, clear_flat, logged_by, logged_flat, seen_by, seen_flat, tested_by, test_flat}
+use Rattle.word_steps.proofs.Flats.{matched_by, matched_flat, rest_by, rest_flat, passed_by, passed_flat, off_by, off_flat, rest_off_by, rest_off_flat, rest_idle_by, rest_idle_flat, clear_by}
+use Rattle.word_steps.proofs.Flats.{clear_flat, logged_by, logged_flat, seen_by, seen_flat, tested_by, test_flat}
 use Rattle.word_steps.proofs.Rows.{seat_row}
 use Rattle.word_steps.proofs.Shown.{known, shown}
 use Rattle.word_steps.specs.Decode.{Homes, core_of, core_after}

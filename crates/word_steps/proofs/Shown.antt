@@ -8,7 +8,9 @@ use Rattle.core_data.specs.Columns.{Columns, put, unserved}
 use Rattle.handoff_data.specs.declared.shape.Shape.{Shape}
 use Rattle.word_steps.proofs.Rows.{SeatRow, word_row, seat_row, table_path}
 use Rattle.word_steps.specs.Decode.{Homes, core_of, core_after}
-use Rattle.word_steps.specs.Folds.{body_held, current_task, has_added, has_dropped, has_own_stored, has_passed, has_retaken, has_slept, has_slept_in, has_stored, is_asleep, is_claimed, has_matched, is_requeued, is_unstored, journal, last_reads, level_known, owes_walk, queue_held, saw_clear, saw_idle, saw_off, saw_rest, saw_rest_idle, saw_rest_off, seen_state, task_held, task_to_clear, tested, wait_held, works_held}
+use Rattle.word_steps.specs.Folds.{body_held, current_task, has_added, has_dropped, has_own_stored, has_passed, has_retaken, has_slept, has_slept_in, has_stored, is_asleep, is_claimed, has_matched}
+use Rattle.word_steps.specs.Folds.{is_requeued, is_unstored, journal, last_reads, level_known, owes_walk, queue_held, saw_clear, saw_idle, saw_off, saw_rest, saw_rest_idle, saw_rest_off, seen_state}
+use Rattle.word_steps.specs.Folds.{task_held, task_to_clear, tested, wait_held, works_held}
 use Rattle.word_steps.specs.Records.{Rec}
 
 -- what a seat with this trace knows

@@ -50,7 +50,8 @@ module _ (shape : Shape) (words : ℕ → ℕ → ℕ) (homes : Homes) (traces :
       ≡ set_state (core_of shape words homes traces) s t state
   set_state_shown t state =
       shown_at shape (put_at words t STATE state.0) homes traces s (StateSet t state) (set_state_core t state) t here elsewhere mine others
-      ∙ sym (ran_flat (state.0 == 0) (slept_if (is_sleep state) (noted (stored_word (record now { state = put now.state t state; seen_state = put now.seen_state s None }) s t) s (OwnStored t)) s t) s t
+      ∙ sym (ran_flat (state.0 == 0) (slept_if (is_sleep state) (noted (stored_word (record now { state = put now.state t state; seen_state = put now.seen_state s None }) s t) s (OwnStored t)) s t) s
+      t
       ∙ ap (λ (z : Columns). passed_by (state.0 == 0) z s t) (slept_flat (is_sleep state) (noted (stored_word
       (record now { state = put now.state t state; seen_state = put now.seen_state s None }) s t) s (OwnStored t)) s t))
     where

@@ -6,9 +6,14 @@ use Rattle.core_data.specs.Columns.{Columns, put, unserved}
 use Rattle.core_data.specs.declared.values.TaskVal.{TaskVal}
 use Rattle.core_data.specs.declared.values.WaitEntry.{WaitEntry}
 use Rattle.core_data.specs.declared.values.WorkItem.{WorkItem}
-use Rattle.word_steps.specs.Folds.{task_held, queue_held, works_held, wait_held, body_held, current_task, task_to_clear, seen_state, level_known, has_matched, is_unstored, saw_off, saw_rest, saw_rest_off, saw_rest_idle, is_claimed, saw_clear, has_stored, has_slept, is_requeued, last_reads, saw_idle, has_added, has_dropped, has_passed, has_own_stored, has_slept_in, has_retaken, owes_walk, tested, is_asleep, journal}
+use Rattle.word_steps.specs.Folds.{task_held, queue_held, works_held, wait_held, body_held, current_task, task_to_clear}
+use Rattle.word_steps.specs.Folds.{seen_state, level_known, has_matched, is_unstored, saw_off, saw_rest, saw_rest_off}
+use Rattle.word_steps.specs.Folds.{saw_rest_idle, is_claimed, saw_clear, has_stored, has_slept, is_requeued, last_reads}
+use Rattle.word_steps.specs.Folds.{saw_idle, has_added, has_dropped, has_passed, has_own_stored, has_slept_in}
+use Rattle.word_steps.specs.Folds.{has_retaken, owes_walk, tested, is_asleep, journal}
 use Rattle.word_steps.specs.Records.{Rec}
-use Rattle.word_steps.specs.Words.{LOCK, STATE, RQ, BUSY, CPU, COUNT, QUEUE_LOCK, WORKS_LOCK, LIST_LOCK, HINT, PINNED, PHASE, ACTIVE, WAIT_LOCK, COND, MARK, DONE, REFS, holder, is_set, phase_of}
+use Rattle.word_steps.specs.Words.{LOCK, STATE, RQ, BUSY, CPU, COUNT, QUEUE_LOCK, WORKS_LOCK, LIST_LOCK, HINT, PINNED}
+use Rattle.word_steps.specs.Words.{PHASE, ACTIVE, WAIT_LOCK, COND, MARK, DONE, REFS, holder, is_set, phase_of}
 
 -- the values at home. A body that is out is `ended` as it was taken out.
 pub record Homes : Type 0 where

@@ -11,7 +11,9 @@ use Rattle.core_law.specs.declared.step.StepKind.{StepKind}
 use Rattle.core_law.specs.declared.step.StepKind.TheVariants as step
 use Rattle.handoff_data.specs.declared.shape.Shape.{Shape}
 use Rattle.word_steps.specs.Decode.{Homes, core_of, core_after}
-use Rattle.word_steps.specs.Records.{Rec, Took, Gave, OutBody, HomeBody, Queued, Dequeued, Moved, SetBusy, ClearedBusy, StateSet, Claimed, MadeRunnable, LoadedState, LoadedRq, LoadedBusy, LoadedCpu, LoadedCount, StoredCpu, Bumped, LoadedCond}
+use Rattle.word_steps.specs.Records.{Rec, Took, Gave, OutBody, HomeBody, Queued, Dequeued, Moved, SetBusy, ClearedBusy}
+use Rattle.word_steps.specs.Records.{StateSet, Claimed, MadeRunnable, LoadedState, LoadedRq, LoadedBusy, LoadedCpu}
+use Rattle.word_steps.specs.Records.{LoadedCount, StoredCpu, Bumped, LoadedCond}
 use Rattle.word_steps.specs.Words.{LOCK, STATE, RQ, BUSY, CPU, QUEUE_LOCK, WORKS_LOCK, WAIT_LOCK, COND}
 use Rattle.word_steps.specs.declared.val.Val.TheVariants as val
 

@@ -1,6 +1,7 @@
 -- What a seat's trace tells, newest step first: one fold for each column of the core that is a seat's.
 -- Each ends with "any other step leaves it", so that it computes on a trace with one step more.
-use Rattle.std.specs.Prelude.{ℕ, ◌+◌, ◌==◌, ◌&&◌, ◌++◌, ◌∷◌, [], Bool, true, false, List, Option, Some, None, is_none, is_some, if◌then◌else◌}
+use Rattle.std.specs.Prelude.{ℕ, ◌+◌, ◌==◌, ◌&&◌, ◌++◌, ◌∷◌, [], Bool, true, false, List, Option, Some, None, is_none}
+use Rattle.std.specs.Prelude.{is_some, if◌then◌else◌}
 use mathlib.Core.Bool.{not}
 use Rattle.handoff_data.specs.declared.entry.Entry.{Entry}
 use Rattle.handoff_data.specs.declared.entry.Entry.TheVariants as entry
@@ -17,8 +18,11 @@ use Rattle.core_gives.specs.Queues.{gives_up}
 use Rattle.core_gives.specs.Waits.{sleeper_of, is_walk}
 use Rattle.core_kinds.specs.Running.{queue_entry, dequeue_entry}
 use Rattle.core_kinds.specs.Steps.{normal, is_sleep, is_match, kept_reads, numbered_reads, waking}
-use Rattle.core_kinds.specs.Waking.{is_some_of, is_matched, is_refused, state_read, rq_read, busy_read, cpu_read, level_read}
-use Rattle.word_steps.specs.Records.{Rec, Took, Gave, OutBody, HomeBody, Queued, Dequeued, Moved, SetBusy, ClearedBusy, StateSet, Claimed, MadeRunnable, LoadedState, LoadedRq, LoadedBusy, LoadedCpu, LoadedCount, StoredCpu, Bumped, LoadedCond}
+use Rattle.core_kinds.specs.Waking.{is_some_of, is_matched, is_refused, state_read, rq_read, busy_read, cpu_read}
+use Rattle.core_kinds.specs.Waking.{level_read}
+use Rattle.word_steps.specs.Records.{Rec, Took, Gave, OutBody, HomeBody, Queued, Dequeued, Moved, SetBusy, ClearedBusy}
+use Rattle.word_steps.specs.Records.{StateSet, Claimed, MadeRunnable, LoadedState, LoadedRq, LoadedBusy, LoadedCpu}
+use Rattle.word_steps.specs.Records.{LoadedCount, StoredCpu, Bumped, LoadedCond}
 use Rattle.word_steps.specs.declared.val.Val.TheVariants as val
 
 -- f with v at the number, where there is one
@@ -432,7 +436,8 @@ has_retaken (r ∷ rs) = retaken_after r (has_retaken rs)
 -- a bump owes the condition a walk of all that waited when the lock was taken after it
 abbrev pub owes_after : Rec → (ℕ → Bool) → (ℕ → ℕ → Bool) → (ℕ → Bool) → ℕ → Bool
 owes_after (Bumped k v) retaken passed h = put h k true
-owes_after (Gave k (val.Wait taken) (val.Wait given)) retaken passed h = put_if (h k && (retaken k && is_walk (passed k) taken)) k false h
+owes_after (Gave k (val.Wait taken) (val.Wait given)) retaken passed h =
+    put_if (h k && (retaken k && is_walk (passed k) taken)) k false h
 owes_after r retaken passed h = h
 
 abbrev pub owes_walk : List Rec → ℕ → Bool
@@ -462,7 +467,8 @@ tested s (r ∷ rs) = test_after r (current_task s rs) (has_slept rs) (tested s 
 abbrev pub asleep_after : Rec → Option ℕ → (ℕ → ℕ → Bool) → (ℕ → ℕ → Bool) → ℕ → ℕ → Bool
 asleep_after (SetBusy t c n) current slept h = put_row h t false
 asleep_after (StateSet t state) current slept h = put_row_if (is_sleep state) t false h
-asleep_after (Gave k (val.Wait taken) (val.Wait given)) current slept h = given_asleep k taken given (sleeper_of current (slept k) given) h
+asleep_after (Gave k (val.Wait taken) (val.Wait given)) current slept h =
+    given_asleep k taken given (sleeper_of current (slept k) given) h
 asleep_after r current slept h = h
 
 abbrev pub is_asleep : ℕ → List Rec → ℕ → ℕ → Bool

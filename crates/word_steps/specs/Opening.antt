@@ -11,10 +11,19 @@ use Rattle.word_steps.specs.Words.{STATE, ACTIVE}
 -- each task is TASK_NEW, each processor is active in epoch 0; every other word is 0
 abbrev pub first_words : Shape → ℕ → ℕ → ℕ
 first_words shape n c =
-    if c == STATE then (if nat_lt n shape.tasks then fresh.0 else 0) else if c == ACTIVE then (if nat_lt n shape.cpus then 1 else 0) else 0
+    if c == STATE then (if nat_lt n shape.tasks then fresh.0 else 0) else if c == ACTIVE
+    then (if nat_lt n shape.cpus then 1 else 0) else 0
 
 abbrev pub first_val : CpuMask → TaskVal
-first_val mask = record { mask = mask; r = 0; narrowed = None; wake_cpu = 0; pending = None; stop_queued = false; dest = 0 }
+first_val mask = record {
+  mask = mask;
+  r = 0;
+  narrowed = None;
+  wake_cpu = 0;
+  pending = None;
+  stop_queued = false;
+  dest = 0;
+}
 
 -- every value is home, and no body has ended
 abbrev pub first_homes : Shape → CpuMask → Homes

@@ -16,7 +16,8 @@
 --   the others   as they were made                   nobody yet
 --
 -- Linux's `on_rq` is the queue word here, in column RQ, and its `on_cpu` the busy word, in column BUSY.
-use Rattle.std.specs.Prelude.{ℕ, zero, suc, ◌+◌, ◌*◌, ◌%◌, ◌==◌, Bool, Option, Some, None, List, slice_index, nat_lt, if◌then◌else◌}
+use Rattle.std.specs.Prelude.{ℕ, zero, suc, ◌+◌, ◌*◌, ◌%◌, ◌==◌, Bool, Option, Some, None, List, slice_index, nat_lt}
+use Rattle.std.specs.Prelude.{if◌then◌else◌}
 use Rattle.core_data.specs.declared.words.Phase.{Phase}
 use Rattle.core_data.specs.declared.words.Phase.TheVariants.{Live, Leaving, Swept, Dead, Rising}
 
@@ -97,7 +98,8 @@ abbrev pub is_set : ℕ → Bool
 is_set word = word % 2 == 1
 
 abbrev pub phase_of : ℕ → Phase
-phase_of word = if word == 0 then Live else if word == 1 then Leaving else if word == 2 then Swept else if word == 3 then Dead else Rising
+phase_of word = if word == 0 then Live else if word == 1 then Leaving else if word == 2 then Swept else if word == 3
+    then Dead else Rising
 
 -- the words that steps store
 abbrev pub rq_word : ℕ → ℕ → ℕ

@@ -93,7 +93,9 @@ impl QueueBox {
 
     /// Takes the task at the front out, if there is one.
     pub fn pop(&mut self) -> Option<TaskNo>
-        ensures { MatchOption result ((self.old.waiting ≡ []) × (self.new ≡ self.old)) (λ t. (self.old.waiting ≡ t ∷ self.new.waiting) × (self.new ≡ record self.old { waiting = self.new.waiting })) }
+        ensures { MatchOption result ((self.old.waiting ≡ []) × (self.new ≡ self.old))
+            (λ t. (self.old.waiting ≡ t ∷ self.new.waiting)
+            × (self.new ≡ record self.old { waiting = self.new.waiting })) }
     {
         self.inner.pop()
     }

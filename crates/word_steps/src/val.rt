@@ -1,7 +1,8 @@
 //! The values that locks guard, in one type.
 ghost use Rattle.std.specs.Prelude.{◌≡◌};
 ghost use Rattle.std.specs.Borrow.{sem};
-ghost use Rattle.word_steps.specs.Lending.{LendsTask, LendsQueue, LendsWorks, LendsWait, IsTask, IsQueue, IsWorks, IsWait};
+ghost use Rattle.word_steps.specs.Lending.{LendsTask, LendsQueue, LendsWorks, LendsWait, IsTask, IsQueue, IsWorks};
+ghost use Rattle.word_steps.specs.Lending.{IsWait};
 ghost use Rattle.word_steps.specs.declared.val.Val.TheVariants as val;
 
 use crate::boxes::{QueueBox, TaskBox};

@@ -166,7 +166,8 @@ module _ {B : Type 0} (lasting : B → List ℕ) (ended_of : B → Bool) (key : 
       (λ o q near e. dite (ℕ_discrete o j)
       (λ is. dite (ℕ_discrete q k)
       (λ mine_too.
-      let out : has_out j tr' ≡ true = sym (ap (has_out j) (put_same r.trace k tr')) ∙ subst (λ (z : ℕ). has_out j (put r.trace k tr' z) ≡ true) mine_too (subst (λ (z : ℕ). has_out z (put r.trace k tr' q) ≡ true) is e) in
+      let out : has_out j tr' ≡ true = sym (ap (has_out j) (put_same r.trace k tr'))
+      ∙ subst (λ (z : ℕ). has_out j (put r.trace k tr' z) ≡ true) mine_too (subst (λ (z : ℕ). has_out z (put r.trace k tr' q) ≡ true) is e) in
       let no : false ≡ true = sym back ∙ out in absurd (let never : ⊥ = cc in never))
       (λ other. let old = r.slots j q near (subst (λ (z : ℕ). has_out z (r.trace q) ≡ true) is (ap (has_out o) (sym (put_other r.trace k tr' q other)) ∙ e)) in
       absurd (other (sym old.kept ∙ (r.slots j k me.near had').kept))))

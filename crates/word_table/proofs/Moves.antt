@@ -192,16 +192,24 @@ module _ {B : Type 0} (lasting : B → List ℕ) (ended_of : B → Bool) (key : 
       let there = home_there sort key.shape (words_of s.words) homes r.trace n r.inv lt free in let v : Val = there.0 in
       let lies = value_there sort s.homes r.ended n v there.1 in
       let tells : (u : ℕ) → n ≡ u → TakeTold known.shape k tr sort u v =
-      λ u e. subst (λ (z : Known × List Rec × ℕ). TakeTold z.0.shape k z.1 sort z.2 v) (λ h. (sym m.known_is h, sym m.trace_is h, e h)) (take_told key.shape (words_of s.words) homes r.trace k r.inv sort n v there.1) in (
+      λ u e. subst (λ (z : Known × List Rec × ℕ). TakeTold z.0.shape k z.1 sort z.2 v)
+      (λ h. (sym m.known_is h, sym m.trace_is h, e h)) (take_told key.shape (words_of s.words) homes r.trace k r.inv sort n v there.1) in (
         one known (part k (Took n v ∷ tr)),
         takes j (Held v),
         lies,
         ups lasting ended_of key s r id k known tr (Took n v ∷ tr) j i (suc k) at room (before_room n (slot_of sort) row (low_slot sort)) (took_else sort n v there.2 tr)
             (λ q near out. at_home s r j q (Held v) lies near out) (tells_more (Took n v) tr)
             (subst (λ (z : (ℕ → ℕ → ℕ) × Homes × List Rec). WordsHold key.shape z.0 z.1 (put r.trace k (Took n v ∷ z.2)))
-            (λ h. (sym (words_of-set s.words n (lock_of sort) (suc k) (lock_low sort) (in_words s r n (lock_of sort) row (lock_low sort))) h, sym (without_shown s.homes r.ended sort n room) h, sym m.trace_is h))
+            (λ h. (
+              sym (words_of-set s.words n (lock_of sort) (suc k) (lock_low sort) (in_words s r n (lock_of sort) row (lock_low sort))) h,
+              sym (without_shown s.homes r.ended sort n room) h,
+              sym m.trace_is h,
+            ))
             (take_law sort key.shape (words_of s.words) homes r.trace k n v r.inv m.near lt free there.1)),
-        λ u same. let e : n ≡ u = omega (arith, same) in ((λ _. (v, there.2, tells u e, ap (λ (z : ℕ). lift (slot_at z (slot_of sort)) (Held v) (push (Took z v) (sat known k tr))) e)), λ miss. absurd (miss hit)),
+        λ u same. let e : n ≡ u = omega (arith, same) in (
+          (λ _. (v, there.2, tells u e, ap (λ (z : ℕ). lift (slot_at z (slot_of sort)) (Held v) (push (Took z v) (sat known k tr))) e)),
+          λ miss. absurd (miss hit),
+        ),
       ))
       (λ miss. stands s r i id (sat known k tr) says at (λ u same. ((λ hit. absurd (miss hit)), λ _. refl)))
 
@@ -215,7 +223,8 @@ module _ {B : Type 0} (lasting : B → List ℕ) (ended_of : B → Bool) (key : 
       let room : j < length s.homes = in_homes s r n (slot_of sort) row (low_slot sort) in
       let is = sort_is sort w (given_is k tr key.shape sort n w may) in let of = held_is sort tr n v has in
       let shown : homes_of (set s.homes j (some (Held w))) r.ended ≡ with_home n w homes =
-      ap (λ (z : Sort). homes_of (set s.homes (slot_at n (slot_of z)) (some (Held w))) r.ended) is ∙ home_shown s.homes r.ended n w (subst (λ (z : Sort). slot_at n (slot_of z) < length s.homes) is room) in (
+      ap (λ (z : Sort). homes_of (set s.homes (slot_at n (slot_of z)) (some (Held w))) r.ended) is
+      ∙ home_shown s.homes r.ended n w (subst (λ (z : Sort). slot_at n (slot_of z) < length s.homes) is room) in (
         one known (part k (Gave n v w ∷ tr)),
         gives,
         tt,
@@ -224,7 +233,8 @@ module _ {B : Type 0} (lasting : B → List ℕ) (ended_of : B → Bool) (key : 
             (λ l u es e d has. let x : Slot B = Held w in let y : Slot B = Held (val.Wait es) in let f : x ≡ y = d in let w' : w ≡ val.Wait es = cc in given_told n v w tr sort l u es e w' has)
             (subst (λ (z : (ℕ → ℕ → ℕ) × Homes × List Rec). WordsHold key.shape z.0 z.1 (put r.trace k (Gave n v w ∷ z.2)))
             (λ h. (sym (words_of-set s.words n (lock_of sort) 0 (lock_low sort) (in_words s r n (lock_of sort) row (lock_low sort))) h, sym shown h, sym m.trace_is h))
-            (give_law sort key.shape (words_of s.words) homes r.trace k n v w r.inv m.near lt (ap (λ (z : List Rec). held_of sort z n) (sym m.trace_is) ∙ has) (subst (λ (z : List Rec). MayGive k z key.shape sort n w) m.trace_is may))),
+            (give_law sort key.shape (words_of s.words) homes r.trace k n v w r.inv m.near lt (ap (λ (z : List Rec). held_of sort z n) (sym m.trace_is)
+            ∙ has) (subst (λ (z : List Rec). MayGive k z key.shape sort n w) m.trace_is may))),
         λ u v' w' same has' holds. let e : n ≡ u = omega (arith, same) in
             let a : Some v ≡ Some v' = sym has ∙ (ap (λ (z : ℕ). held_of sort tr z) e ∙ has') in let b : v ≡ v' = cc in
             let x : Slot B = Held w in let y : Slot B = Held w' in let c : x ≡ y = ap (λ (z : List (ℕ × Slot B)). slot_in z) holds in
@@ -270,9 +280,13 @@ module _ {B : Type 0} (lasting : B → List ℕ) (ended_of : B → Bool) (key : 
         one known (part k (HomeBody t (ended_of b) ∷ tr)),
         gives,
         tt,
-        downs lasting ended_of key s r id k known tr (HomeBody t (ended_of b) ∷ tr) j i (get_or s.words i 0) (Body b) ended' at room (before_room t BODY_SLOT row (omega arith)) (came_else t (ended_of b) tr may.out)
+        downs lasting ended_of key s r id k known tr (HomeBody t (ended_of b) ∷ tr) j i (get_or s.words i 0) (Body b) ended' at room (before_room t BODY_SLOT row (omega arith))
+            (came_else t (ended_of b) tr may.out)
             (body_out tr t may.out) (came_back t (ended_of b) tr)
-            (λ u c e d. let e' : t ≡ u = omega (arith, e) in let d' : b ≡ c = cc in subst (λ (z : ℕ × B). IsBody lasting key ended_of ended' z.0 z.1) (λ h. (e' h, d' h)) record { lasts = lasts; ends = sym (put_there r.ended t (ended_of b) t refl) })
+            (λ u c e d. let e' : t ≡ u = omega (arith, e) in let d' : b ≡ c = cc in subst (λ (z : ℕ × B). IsBody lasting key ended_of ended' z.0 z.1) (λ h. (e' h, d' h)) record {
+              lasts = lasts;
+              ends = sym (put_there r.ended t (ended_of b) t refl);
+            })
             (λ u ne. sym (put_other r.ended t (ended_of b) u (λ e. ne (omega (arith, e)))))
             (tells_more (HomeBody t (ended_of b)) tr) (λ l u es e d has. let no : Body b ≡ Held (val.Wait es) = d in cc)
             (subst (λ (z : List ℕ × Homes × List Rec). WordsHold key.shape (words_of z.0) z.1 (put r.trace k (HomeBody t (ended_of b) ∷ z.2)))

@@ -81,7 +81,8 @@ column_same l a a' b b' c c' d d' e e' f g h i j =
 
 pub quiet_out : (r : Rec) (trace : List Rec) → IsQuiet r trace → (o : ℕ) → has_out o (r ∷ trace) ≡ has_out o trace
 quiet_out r trace q o =
-    λ j. by_column (o % 6) (is_some (some_of val.Task (q.task j (o / 6)))) (is_some_of (q.body j) (o / 6)) (is_some (some_of val.Queue (q.queue j (o / 6)))) (is_some (some_of val.Works (q.works j (o / 6)))) (is_some (some_of val.Wait (q.wait j (o / 6))))
+    λ j. by_column (o % 6) (is_some (some_of val.Task (q.task j (o / 6)))) (is_some_of (q.body j) (o / 6)) (is_some (some_of val.Queue (q.queue j (o / 6))))
+    (is_some (some_of val.Works (q.works j (o / 6)))) (is_some (some_of val.Wait (q.wait j (o / 6))))
 
 -- a slot that is put as taken or as given, elsewhere
 put_else : {A : Type 0} (f : A → Val) (h : ℕ → Option A) (n m l k : ℕ) (o : Option A) → (m ≢ n) ⊎ (l ≢ k) → l ≡ k
@@ -171,11 +172,15 @@ left_out t b trace = body_out (OutBody t b ∷ trace) t refl
 
 pub left_else : (t : ℕ) (b : Bool) (trace : List Rec) → body_held trace ≡ None → (o : ℕ) → o ≢ slot_at t BODY_SLOT
     → has_out o (OutBody t b ∷ trace) ≡ has_out o trace
-left_else t b trace none = body_else (OutBody t b) t trace (λ l m ne. column_same l _ _ _ _ _ _ _ _ _ _ (λ e. refl) (λ e. ⊎_elim (λ apart. names_else t m apart ∙ sym (ap (λ (o : Option ℕ). is_some_of o m) none)) (λ no. absurd (no e)) ne) (λ e. refl) (λ e. refl) (λ e. refl))
+left_else t b trace none = body_else (OutBody t b) t trace
+    (λ l m ne. column_same l _ _ _ _ _ _ _ _ _ _ (λ e. refl) (λ e. ⊎_elim (λ apart. names_else t m apart ∙ sym (ap (λ (o : Option ℕ). is_some_of o m) none)) (λ no. absurd (no e)) ne) (λ e. refl)
+    (λ e. refl) (λ e. refl))
 
 pub came_back : (t : ℕ) (b : Bool) (trace : List Rec) → has_out (slot_at t BODY_SLOT) (HomeBody t b ∷ trace) ≡ false
 came_back t b trace = at_out t 1 (HomeBody t b ∷ trace) (omega arith)
 
 pub came_else : (t : ℕ) (b : Bool) (trace : List Rec) → body_held trace ≡ Some t → (o : ℕ) → o ≢ slot_at t BODY_SLOT
     → has_out o (HomeBody t b ∷ trace) ≡ has_out o trace
-came_else t b trace has = body_else (HomeBody t b) t trace (λ l m ne. column_same l _ _ _ _ _ _ _ _ _ _ (λ e. refl) (λ e. ⊎_elim (λ apart. sym (ap (λ (o : Option ℕ). is_some_of o m) has ∙ names_else t m apart)) (λ no. absurd (no e)) ne) (λ e. refl) (λ e. refl) (λ e. refl))
+came_else t b trace has = body_else (HomeBody t b) t trace
+    (λ l m ne. column_same l _ _ _ _ _ _ _ _ _ _ (λ e. refl) (λ e. ⊎_elim (λ apart. sym (ap (λ (o : Option ℕ). is_some_of o m) has ∙ names_else t m apart)) (λ no. absurd (no e)) ne) (λ e. refl)
+    (λ e. refl) (λ e. refl))

@@ -29,10 +29,12 @@ module _ {B : Type 0} (lasting : B → List ℕ) (ended_of : B → Bool) (key : 
 
   pub store_may : (y : ℕ) → ((x : ℕ) → may shape s trace n x y) → ((x : ℕ) → note s trace n y x ≡ note s trace n y y)
       → Allows (Ruled lasting ended_of key) slots id m i (λ _. y) (λ _. stored col note told (step slots i y 0 none) m y)
-  store_may y ok plain = subst (λ (z : ℕ × Sat B). Allows (Ruled lasting ended_of key) slots id z.1 z.0 (λ _. y) (λ _. stored col note told (step slots z.0 y 0 none) z.1 y)) (λ h. (sym at h, sym is h))
+  store_may y ok plain = subst (λ (z : ℕ × Sat B). Allows (Ruled lasting ended_of key) slots id z.1 z.0 (λ _. y) (λ _. stored col note told (step slots z.0 y 0 none) z.1 y))
+      (λ h. (sym at h, sym is h))
       (may_store lasting ended_of key col bound note may told low rows quiet keep slots id s n y known trace near (λ x. subst (λ (z : Shape). may z s trace n x y) (sym same) (ok x)) plain)
 
   pub try_may : (old new : ℕ) → may shape s trace n old new
       → Allows (Ruled lasting ended_of key) slots id m i (λ x. either (eqb x old) new x) (tried col note told (step slots i old new none) m)
-  try_may old new ok = subst (λ (z : ℕ × Sat B). Allows (Ruled lasting ended_of key) slots id z.1 z.0 (λ x. either (eqb x old) new x) (tried col note told (step slots z.0 old new none) z.1)) (λ h. (sym at h, sym is h))
+  try_may old new ok = subst (λ (z : ℕ × Sat B). Allows (Ruled lasting ended_of key) slots id z.1 z.0 (λ x. either (eqb x old) new x) (tried col note told (step slots z.0 old new none) z.1))
+      (λ h. (sym at h, sym is h))
       (may_try lasting ended_of key col bound note may told low rows quiet keep slots id s n old new known trace near (subst (λ (z : Shape). may z s trace n old new) (sym same) ok))

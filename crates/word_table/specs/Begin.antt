@@ -21,7 +21,8 @@ use Rattle.word_table.specs.declared.slot.Slot.TheVariants.{Empty, Held, Body}
 -- some tasks are TASK_NEW, some processors active in epoch 0; every other word is 0
 abbrev pub words_with : (tasks cpus : ℕ) → ℕ → ℕ → ℕ
 words_with tasks cpus n c =
-    if c == STATE then (if nat_lt n tasks then fresh.0 else 0) else if c == ACTIVE then (if nat_lt n cpus then 1 else 0) else 0
+    if c == STATE then (if nat_lt n tasks then fresh.0 else 0) else if c == ACTIVE then (if nat_lt n cpus then 1 else 0)
+    else 0
 
 module _ {B : Type 0} where
   abbrev pub body_slot : maybe.Option B → Slot B
@@ -44,12 +45,14 @@ module _ {B : Type 0} where
   module _ (shape : Shape) (mask : CpuMask) where
     -- the slots of n, where this lies in its body's
     abbrev pub row : ℕ → Slot B → List (Slot B)
-    row n body = task_slot shape mask n ∷ body ∷ queue_slot shape n ∷ works_slot shape n ∷ Empty ∷ wait_slot shape n ∷ []
+    row n body = task_slot shape mask n ∷ body ∷ queue_slot shape n ∷ works_slot shape n ∷ Empty ∷ wait_slot shape n
+        ∷ []
 
     -- the slots of the numbers below m are laid, with the bodies from the first on
     abbrev pub AreRows : ℕ → List B → List (Slot B) → Type 0
     AreRows m bodies slots =
-        (n k : ℕ) → n < m → k < SLOTS → get_elem? slots (slot_at n k) ≡ get_elem? (row n (body_slot (get_elem? bodies n))) k
+        (n k : ℕ) → n < m → k < SLOTS
+        → get_elem? slots (slot_at n k) ≡ get_elem? (row n (body_slot (get_elem? bodies n))) k
 
     -- all slots are laid, with the room in the last
     pub record IsLaid (bodies : List B) (slots : List (Slot B)) : Type 0 where

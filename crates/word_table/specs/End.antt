@@ -1,5 +1,6 @@
 -- How a table ends.
-use Rattle.std.specs.Prelude.{◌≡◌, ◌<◌, ◌≤◌, ℕ, Vec, ◌==◌, ◌*◌, ◌%◌, ◌/◌, ◌&&◌, nat_lt, Bool, List, [], ◌∷◌, Some, None, if◌then◌else◌, slice_index_or}
+use Rattle.std.specs.Prelude.{◌≡◌, ◌<◌, ◌≤◌, ℕ, Vec, ◌==◌, ◌*◌, ◌%◌, ◌/◌, ◌&&◌, nat_lt, Bool, List, [], ◌∷◌, Some, None}
+use Rattle.std.specs.Prelude.{if◌then◌else◌, slice_index_or}
 use Rattle.std.specs.List.{Contains, slice_get}
 use Rattle.std.specs.Global.{Global}
 use Rattle.std.specs.Vec.{vec_capacity}
@@ -66,10 +67,12 @@ pub record IsLeft
   pub homes : Homes
   pub kept : WordsHold key.shape (words_of words) homes (traces_of tokens)
   pub exclusives : ExclusivesTold (traces_of tokens) homes.wait
-  pub room : (v : Vec B Global) × (get_elem? slots (SLOTS * rows_of key.shape) ≡ some (Room v)) × HasRoom key.shape.tasks v
+  pub room : (v : Vec B Global) × (get_elem? slots (SLOTS * rows_of key.shape) ≡ some (Room v))
+      × HasRoom key.shape.tasks v
   pub bodies :
       (t : ℕ) → t < key.shape.tasks
-      → (b : B) × (get_elem? slots (slot_at t BODY_SLOT) ≡ some (Body b)) × (lasting b ≡ slice_index_or (lastings lasting key) t []) × (ended_of b ≡ homes.ended t)
+      → (b : B) × (get_elem? slots (slot_at t BODY_SLOT) ≡ some (Body b))
+      × (lasting b ≡ slice_index_or (lastings lasting key) t []) × (ended_of b ≡ homes.ended t)
 
 -- what is left: the last words and values keep the rule with all traces, each state and condition is the last word, and
 -- each body has ended or not as the rule has it

@@ -24,10 +24,21 @@ pub record IsGatheredOf (words : WordsView) (gathered : GatheredView) : Type 0 w
 
 -- the token that a part was
 abbrev pub token_in : TableId → Known → Part → TokenView
-token_in name known p = record { of = name; shape = known.shape; lasting = known.lasting; seat = p.number; trace = p.trace }
+token_in name known p = record {
+  of = name;
+  shape = known.shape;
+  lasting = known.lasting;
+  seat = p.number;
+  trace = p.trace;
+}
 
 abbrev pub gathered_view : TableId → View → GatheredView
-gathered_view name v = record { of = name; shape = v.known.shape; lasting = v.known.lasting; tokens = map (token_in name v.known) v.parts }
+gathered_view name v = record {
+  of = name;
+  shape = v.known.shape;
+  lasting = v.known.lasting;
+  tokens = map (token_in name v.known) v.parts;
+}
 
 -- a seat that has no slot in its hand
 abbrev pub IsGathered : {B : Type 0} → TableId → Sat B → Type 0

@@ -38,5 +38,7 @@ MakesEvents col bound note may =
 abbrev pub KeepsRule : ℕ → (Shape → ℕ) → Note → May → Told → Type 0
 KeepsRule col bound note may told =
     (shape : Shape) (words : ℕ → ℕ → ℕ) (homes : Homes) (traces : ℕ → List Rec) (s n y : ℕ)
-    → WordsHold shape words homes traces → s < shape.cpus + shape.agents → n < bound shape → may shape s (traces s) n (words n col) y
-    → WordsHold shape (put_at words n col y) homes (put traces s (note s (traces s) n y (words n col) ∷ traces s)) × told shape s (traces s) n (words n col)
+    → WordsHold shape words homes traces → s < shape.cpus + shape.agents → n < bound shape
+    → may shape s (traces s) n (words n col) y
+    → WordsHold shape (put_at words n col y) homes (put traces s (note s (traces s) n y (words n col) ∷ traces s))
+    × told shape s (traces s) n (words n col)

@@ -17,12 +17,14 @@ pub record IsQuiet (r : Rec) (trace : List Rec) : Type 0 where
 -- one of five, by the column of the slot
 abbrev pub by_column : ℕ → Bool → Bool → Bool → Bool → Bool → Bool
 by_column k task body queue works wait =
-    if k == 0 then task else if k == 1 then body else if k == 2 then queue else if k == 3 then works else if k == 5 then wait else false
+    if k == 0 then task else if k == 1 then body else if k == 2 then queue else if k == 3 then works else if k == 5
+    then wait else false
 
 -- the slot of n in the column k is out
 abbrev pub is_out : ℕ → ℕ → List Rec → Bool
 is_out k n trace =
-    by_column k (is_some (held_of OfTask trace n)) (is_some_of (body_held trace) n) (is_some (held_of OfQueue trace n)) (is_some (held_of OfWorks trace n)) (is_some (held_of OfWait trace n))
+    by_column k (is_some (held_of OfTask trace n)) (is_some_of (body_held trace) n) (is_some (held_of OfQueue trace n))
+    (is_some (held_of OfWorks trace n)) (is_some (held_of OfWait trace n))
 
 -- .. of the slot i
 abbrev pub has_out : ℕ → List Rec → Bool

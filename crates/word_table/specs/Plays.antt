@@ -86,7 +86,8 @@ module _ {B : Type 0} where
 
     abbrev pub tried : Step (Slot B) → Sat B → ℕ → Sat B → Type 0
     tried st m x m' =
-        (n : ℕ) → st.word ≡ word_at n col → (x ≡ st.first → Tells m n x × (m' ≡ noted m n st.second x)) × (x ≢ st.first → m' ≡ m)
+        (n : ℕ) → st.word ≡ word_at n col → (x ≡ st.first → Tells m n x × (m' ≡ noted m n st.second x))
+        × (x ≢ st.first → m' ≡ m)
 
   -- the seat has the value of n in its hand, of which this is told
   abbrev pub Takes : Sort → ℕ → Sat B → Sat B → Type 0
@@ -106,12 +107,14 @@ module _ {B : Type 0} where
   abbrev pub left : (B → List ℕ) → (B → Bool) → Step (Slot B) → Sat B → ℕ → Sat B → Type 0
   left lasting ended st m x m' =
       (t : ℕ) → st.word ≡ word_at t BODY
-      → (b : B) × (m' ≡ lift (slot_at t BODY_SLOT) (Body b) (push (OutBody t (ended b)) m)) × (lasting b ≡ slice_index_or m.0.known.lasting t [])
+      → (b : B) × (m' ≡ lift (slot_at t BODY_SLOT) (Body b) (push (OutBody t (ended b)) m))
+      × (lasting b ≡ slice_index_or m.0.known.lasting t [])
 
   -- a body came home
   abbrev pub came : (B → Bool) → Step (Slot B) → Sat B → ℕ → Sat B → Type 0
   came ended st m x m' =
-      (t : ℕ) (b : B) → st.word ≡ word_at t BODY → m.1 ≡ (slot_at t BODY_SLOT, Body b) ∷ rest m.1 → m' ≡ lay (push (HomeBody t (ended b)) m)
+      (t : ℕ) (b : B) → st.word ≡ word_at t BODY → m.1 ≡ (slot_at t BODY_SLOT, Body b) ∷ rest m.1
+      → m' ≡ lay (push (HomeBody t (ended b)) m)
 
 -- the seat is at rest, and has this number
 abbrev pub IsRest : {B : Type 0} → Sat B → ℕ → Type 0

@@ -1,5 +1,6 @@
 -- The rule of the table: what its words, values at home and views show is kept (`word_rule`).
-use Rattle.std.specs.Prelude.{◌≤◌, ◌≡◌, ◌⊎◌, ℕ, zero, suc, ◌+◌, ◌*◌, ◌<◌, Bool, true, false, Option, Some, None, List, [], ◌∷◌, ◌++◌, map, length, take, drop, slice_index_or}
+use Rattle.std.specs.Prelude.{◌≤◌, ◌≡◌, ◌⊎◌, ℕ, zero, suc, ◌+◌, ◌*◌, ◌<◌, Bool, true, false, Option, Some, None, List}
+use Rattle.std.specs.Prelude.{[], ◌∷◌, ◌++◌, map, length, take, drop, slice_index_or}
 use Rattle.std.specs.Vec.{vec_capacity}
 use mathlib.Core.Option.{none, some}
 use mathlib.Core.Option as maybe
@@ -124,10 +125,13 @@ module _ {B : Type 0} (lasting : B → List ℕ) where
       pub deep : length s.homes ≡ SLOTS * rows_of key.shape + 1
       pub room : IsRoomed key.shape.tasks (get_elem? s.homes (SLOTS * rows_of key.shape))
       pub parts :
-          (j : ℕ) (v : View) → get_elem? s.views j ≡ some v → Each (Fits (key.shape.cpus + key.shape.agents) trace owner j) v.parts
+          (j : ℕ) (v : View) → get_elem? s.views j ≡ some v
+          → Each (Fits (key.shape.cpus + key.shape.agents) trace owner j) v.parts
           × ((v.known ≡ known_of key) ⊎ (v.parts ≡ []))
-      pub slots : (i q : ℕ) → q < key.shape.cpus + key.shape.agents → has_out i (trace q) ≡ true → SlotOut s.homes keeper i q
-      pub bodies : (t : ℕ) (b : B) → get_elem? s.homes (slot_at t BODY_SLOT) ≡ some (some (Body b)) → IsBody key ended_of ended t b
+      pub slots : (i q : ℕ) → q < key.shape.cpus + key.shape.agents → has_out i (trace q) ≡ true
+          → SlotOut s.homes keeper i q
+      pub bodies : (t : ℕ) (b : B) → get_elem? s.homes (slot_at t BODY_SLOT) ≡ some (some (Body b))
+          → IsBody key ended_of ended t b
       pub inv : WordsHold key.shape (words_of s.words) (homes_of s.homes ended) trace
       pub exclusives : ExclusivesTold trace (homes_of s.homes ended).wait
 

@@ -54,7 +54,8 @@ pub fn give<B: Kept, L: Lock>(words: &Words<B>, token: &mut Token, n: u32, taken
     requires held { IsSome (held_of L.sort token.old.trace n) }
     requires may { MayGive token.old.seat token.old.trace words.now.shape L.sort n taken.val }
     ensures same { IsSame token.old token.new }
-    ensures trace { token.new.trace ≡ Gave n (unwrap_or (held_of L.sort token.old.trace n) taken.val) taken.val ∷ token.old.trace }
+    ensures trace { token.new.trace ≡ Gave n (unwrap_or (held_of L.sort token.old.trace n) taken.val) taken.val
+        ∷ token.old.trace }
 {
     let Taken { mut seat, slot: _ } = taken;
     let own: Seat<Slot<B>, View> = mem::replace(&mut token.badge, Badge::blank()).into_seat();

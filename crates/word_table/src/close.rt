@@ -1,5 +1,6 @@
 //! How a table ends.
-ghost use Rattle.std.specs.Prelude.{◌≡◌, ℕ, ◌+◌, ◌*◌, ◌^◌, ◌<◌, ◌≤◌, Some, [], true, false, map, length, slice_index_or, slice_set, if◌then◌else◌};
+ghost use Rattle.std.specs.Prelude.{◌≡◌, ℕ, ◌+◌, ◌*◌, ◌^◌, ◌<◌, ◌≤◌, Some, [], true, false, map, length};
+ghost use Rattle.std.specs.Prelude.{slice_index_or, slice_set, if◌then◌else◌};
 ghost use Rattle.std.specs.List.{All, range_with_len, slice_get};
 ghost use Rattle.std.specs.Slots.{slots_items, slots_filled, slots_len, IsFull};
 ghost use mathlib.Core.Bool.{not};
@@ -33,13 +34,20 @@ type Left<B> = atomic_table::Closed<Slot<B>, Global>;
 
 // The words and slots of a table whose tokens are all there.
 fn end_of<B: Kept>(board: Board<B>, gathered: Gathered<B>) -> Left<B>
-    requires of { IsGatheredOf (record { name = board.shared.table_id; shape = board.shared.key.shape; lasting = lastings B.lasting board.shared.key }) gathered }
-    requires all { HasEachSeat (board.shared.key.shape.cpus + board.shared.key.shape.agents) (map (λ t. t.seat) gathered.tokens) }
+    requires of { IsGatheredOf (record {
+      name = board.shared.table_id;
+      shape = board.shared.key.shape;
+      lasting = lastings B.lasting board.shared.key;
+    }) gathered }
+    requires all { HasEachSeat (board.shared.key.shape.cpus + board.shared.key.shape.agents)
+        (map (λ t. t.seat) gathered.tokens) }
     requires idle { All IsIdle gathered.tokens }
-    ensures counts { (slots_len result.words ≡ board.shared.table_id.words) × (slots_len result.slots ≡ board.shared.table_id.slots) }
+    ensures counts { (slots_len result.words ≡ board.shared.table_id.words)
+        × (slots_len result.slots ≡ board.shared.table_id.slots) }
     ensures words { IsFull result.words }
     ensures slots { IsFull result.slots }
-    ensures left { IsLeft B.lasting B.ended board.shared.key gathered.tokens (slots_items result.words) (slots_items result.slots) }
+    ensures left { IsLeft B.lasting B.ended board.shared.key gathered.tokens (slots_items result.words)
+        (slots_items result.slots) }
 {
     let Gathered { seat } = gathered;
     board.close_with(seat)
@@ -49,7 +57,8 @@ fn end_of<B: Kept>(board: Board<B>, gathered: Gathered<B>) -> Left<B>
 fn take_room<B: Kept>(left: &mut Left<B>, rows: u32, tasks: u32) -> Vec<B>
     requires places { slots_len left.old.slots ≡ SLOTS * rows + 1 }
     requires full { IsFull left.old.slots }
-    requires room { (v : _) × (get_elem? (slots_items left.old.slots) (SLOTS * rows) ≡ some (Room v)) × HasRoom tasks v }
+    requires room { (v : _) × (get_elem? (slots_items left.old.slots) (SLOTS * rows) ≡ some (Room v))
+        × HasRoom tasks v }
     ensures room { HasRoom tasks result }
     ensures items { slots_items left.new.slots ≡ slots_items left.old.slots }
     ensures len { slots_len left.new.slots ≡ slots_len left.old.slots }
@@ -83,12 +92,15 @@ fn take_body<B: Kept>(left: &mut Left<B>, t: u32) -> B
 fn take_bodies<B: Kept>(left: &mut Left<B>, tasks: u32, room: Vec<B>) -> Vec<B>
     requires places { SLOTS * tasks < slots_len left.old.slots }
     requires filled { (k : ℕ) → k < SLOTS * tasks → slice_index_or (slots_filled left.old.slots) k false ≡ true }
-    requires bodies { (t : ℕ) → t < tasks → (b : B) × (get_elem? (slots_items left.old.slots) (slot_at t BODY_SLOT) ≡ some (Body b)) }
+    requires bodies { (t : ℕ) → t < tasks
+        → (b : B) × (get_elem? (slots_items left.old.slots) (slot_at t BODY_SLOT) ≡ some (Body b)) }
     requires room { HasRoom tasks room }
-    ensures bodies { map (λ b. some (Body b)) result.items ≡ map (λ t. get_elem? (slots_items left.old.slots) (slot_at t BODY_SLOT)) (range_with_len 0 tasks) }
+    ensures bodies { map (λ b. some (Body b)) result.items ≡ map
+        (λ t. get_elem? (slots_items left.old.slots) (slot_at t BODY_SLOT)) (range_with_len 0 tasks) }
     ensures len { slots_len left.new.slots ≡ slots_len left.old.slots }
     ensures words { left.new.words ≡ left.old.words }
-    ensures filled { (k : ℕ) → slice_index_or (slots_filled left.new.slots) k false ≡ (if is_body tasks k then false else slice_index_or (slots_filled left.old.slots) k false) }
+    ensures filled { (k : ℕ) → slice_index_or (slots_filled left.new.slots) k false ≡ (if is_body tasks k then false
+        else slice_index_or (slots_filled left.old.slots) k false) }
 {
     let mut bodies = room;
     for t in 0..tasks {
@@ -103,7 +115,8 @@ fn read_states<B: Kept>(left: &Left<B>, tasks: u32, room: Vec<State>) -> Vec<Sta
     requires places { STRIDE * tasks ≤ slots_len left.now.words }
     requires fit { (t : ℕ) → words_of (slots_items left.now.words) t STATE < 2 ^ 16 }
     requires room { HasRoom tasks room }
-    ensures { result.items ≡ map (λ t. record { 0 = words_of (slots_items left.now.words) t STATE }) (range_with_len 0 tasks) }
+    ensures { result.items ≡ map (λ t. record { 0 = words_of (slots_items left.now.words) t STATE })
+        (range_with_len 0 tasks) }
 {
     let mut states = room;
     for t in 0..tasks as usize {
@@ -135,7 +148,8 @@ fn is_body(slot: usize, tasks: u32) -> bool
 // Lets the values of the locks go, and then the memory of the table. Bodies and room are taken.
 fn drop_rest<B: Kept>(mut left: Left<B>, rows: u32, tasks: u32)
     requires places { slots_len left.slots ≡ SLOTS * rows + 1 }
-    requires filled { (k : ℕ) → k < SLOTS * rows → slice_index_or (slots_filled left.slots) k false ≡ not (is_body tasks k) }
+    requires filled { (k : ℕ) → k < SLOTS * rows
+        → slice_index_or (slots_filled left.slots) k false ≡ not (is_body tasks k) }
     requires room { slice_index_or (slots_filled left.slots) (SLOTS * rows) false ≡ false }
 {
     for slot in 0..SLOTS * rows as usize {
@@ -155,8 +169,10 @@ impl<B: Kept> Words<B> {
         requires all { HasEachSeat (self.shape.cpus + self.shape.agents) (map (λ t. t.seat) gathered.tokens) }
         requires idle { All IsIdle gathered.tokens }
         ensures lasting { map B.lasting result.bodies.items ≡ self.lasting }
-        ensures sizes { (length result.bodies.items ≡ self.shape.tasks) × (length result.states.items ≡ self.shape.tasks) × (length result.conds.items ≡ self.shape.conds) }
-        ensures end { IsEnd B.ended self.shape gathered.tokens result.bodies.items result.states.items result.conds.items }
+        ensures sizes { (length result.bodies.items ≡ self.shape.tasks)
+            × (length result.states.items ≡ self.shape.tasks) × (length result.conds.items ≡ self.shape.conds) }
+        ensures end { IsEnd B.ended self.shape gathered.tokens result.bodies.items result.states.items
+            result.conds.items }
     {
         let Words {
             table,

@@ -6,7 +6,8 @@ ghost use Rattle.handoff_data.specs.Mask.{HasCpu};
 ghost use Rattle.handoff_data.specs.Shape.{IsShape};
 ghost use Rattle.word_steps.specs.Opening.{first_words};
 ghost use Rattle.word_steps.specs.Words.{STRIDE, words_of};
-ghost use Rattle.word_table.specs.Begin.{task_slot, queue_slot, works_slot, wait_slot, row, IsLaid, new_token, first_tokens};
+ghost use Rattle.word_table.specs.Begin.{task_slot, queue_slot, works_slot, wait_slot, row, IsLaid, new_token};
+ghost use Rattle.word_table.specs.Begin.{first_tokens};
 ghost use Rattle.word_table.specs.End.{HasEachSeat};
 ghost use Rattle.word_table.specs.Layout.{SLOTS, rows_of};
 ghost use Rattle.word_table.specs.Plays.{sat};
@@ -173,7 +174,9 @@ fn deal<B: Kept>(
     requires words { 0 < board.now.shared.table_id.words }
     requires seats { 0 < seats }
     requires first { seat.me ≡ (record { parts = fresh 0 seats; known = known_of B.lasting board.now.shared.key }, []) }
-    ensures { IfOk result (λ v. v.items ≡ first_tokens board.now.shared.table_id board.now.shared.key.shape (lastings B.lasting board.now.shared.key) seats) }
+    ensures { IfOk result
+        (λ v. v.items ≡ first_tokens board.now.shared.table_id board.now.shared.key.shape
+        (lastings B.lasting board.now.shared.key) seats) }
 {
     let mut seat = seat;
     let mut tokens = Vec::with_capacity(alloc, seats as usize)?;
@@ -198,9 +201,11 @@ impl<B: Kept> Words<B> {
         requires tasks { length bodies.items ≡ shape.now.tasks }
         ensures shape { IfOk result (λ r. r.0.shape ≡ shape.now) }
         ensures lasting { IfOk result (λ r. r.0.lasting ≡ map B.lasting bodies.items) }
-        ensures tokens { IfOk result (λ r. r.1.items ≡ first_tokens r.0.name r.0.shape r.0.lasting (shape.now.cpus + shape.now.agents)) }
+        ensures tokens { IfOk result
+            (λ r. r.1.items ≡ first_tokens r.0.name r.0.shape r.0.lasting (shape.now.cpus + shape.now.agents)) }
         ensures of { IfOk result (λ r. All (IsOf r.0) r.1.items) }
-        ensures each { IfOk result (λ r. HasEachSeat (shape.now.cpus + shape.now.agents) (map (λ t. t.seat) r.1.items)) }
+        ensures each { IfOk result
+            (λ r. HasEachSeat (shape.now.cpus + shape.now.agents) (map (λ t. t.seat) r.1.items)) }
     {
         let rows = rows_of(shape);
         let mask = CpuMask::all(shape.cpus);

@@ -46,7 +46,8 @@ pub fn store<B: Kept, K: Kind>(words: &Words<B>, token: &mut Token, n: u32, new:
     requires of { IsOf words.now token.old }
     requires row { n < K.bound words.now.shape }
     requires may { (x : ℕ) → K.may words.now.shape token.old.seat token.old.trace n x new }
-    requires plain { (x : ℕ) → K.note token.old.seat token.old.trace n new x ≡ K.note token.old.seat token.old.trace n new new }
+    requires plain { (x : ℕ)
+        → K.note token.old.seat token.old.trace n new x ≡ K.note token.old.seat token.old.trace n new new }
     ensures same { IsSame token.old token.new }
     ensures trace { token.new.trace ≡ K.note token.old.seat token.old.trace n new new ∷ token.old.trace }
 {
@@ -89,7 +90,8 @@ pub fn fetch_add<B: Kept, K: Kind>(words: &Words<B>, token: &mut Token, n: u32) 
     requires row { n < K.bound words.now.shape }
     requires may { (x : ℕ) → K.may words.now.shape token.old.seat token.old.trace n x ((x + 1) % 2 ^ 64) }
     ensures same { IsSame token.old token.new }
-    ensures trace { token.new.trace ≡ K.note token.old.seat token.old.trace n ((result + 1) % 2 ^ 64) result ∷ token.old.trace }
+    ensures trace { token.new.trace ≡ K.note token.old.seat token.old.trace n ((result + 1) % 2 ^ 64) result
+        ∷ token.old.trace }
     ensures told { K.told words.now.shape token.old.seat token.old.trace n result }
 {
     let mut seat: Seat<Slot<B>, View> = mem::replace(&mut token.badge, Badge::blank()).into_seat();

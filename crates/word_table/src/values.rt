@@ -49,7 +49,9 @@ fn attempt<B: Kept, L: Lock>(
     requires row { n < count_of L.sort words.now.shape }
     requires rest { IsRest seat.old.me number }
     ensures id { seat.new.table_id ≡ seat.old.table_id }
-    ensures took { result ≡ 0 → (v : Val) × IsOf L.sort v × TakeTold seat.old.me.0.known.shape number (trace_in seat.old.me.0.parts) L.sort n v × (seat.new.me ≡ lift (slot_at n (slot_of L.sort)) (Held v) (push (Took n v) seat.old.me)) }
+    ensures took { result ≡ 0 → (v : Val) × IsOf L.sort v
+        × TakeTold seat.old.me.0.known.shape number (trace_in seat.old.me.0.parts) L.sort n v
+        × (seat.new.me ≡ lift (slot_at n (slot_of L.sort)) (Held v) (push (Took n v) seat.old.me)) }
     ensures missed { result ≢ 0 → seat.new.me ≡ seat.old.me }
 {
     words
@@ -72,7 +74,9 @@ fn contend<B: Kept, L: Lock, R: Wait>(
     requires row { n < count_of L.sort words.now.shape }
     requires rest { IsRest seat.old.me number }
     ensures id { seat.new.table_id ≡ seat.old.table_id }
-    ensures took { (v : Val) × IsOf L.sort v × TakeTold seat.old.me.0.known.shape number (trace_in seat.old.me.0.parts) L.sort n v × (seat.new.me ≡ lift (slot_at n (slot_of L.sort)) (Held v) (push (Took n v) seat.old.me)) }
+    ensures took { (v : Val) × IsOf L.sort v
+        × TakeTold seat.old.me.0.known.shape number (trace_in seat.old.me.0.parts) L.sort n v
+        × (seat.new.me ≡ lift (slot_at n (slot_of L.sort)) (Held v) (push (Took n v) seat.old.me)) }
 {
     let backoff = Backoff::new();
     let mut found = found;
@@ -101,7 +105,9 @@ pub(crate) fn acquire<B: Kept, L: Lock, R: Wait>(
     requires row { n < count_of L.sort words.now.shape }
     requires rest { IsRest seat.old.me number }
     ensures id { seat.new.table_id ≡ seat.old.table_id }
-    ensures took { (v : Val) × IsOf L.sort v × TakeTold seat.old.me.0.known.shape number (trace_in seat.old.me.0.parts) L.sort n v × (seat.new.me ≡ lift (slot_at n (slot_of L.sort)) (Held v) (push (Took n v) seat.old.me)) }
+    ensures took { (v : Val) × IsOf L.sort v
+        × TakeTold seat.old.me.0.known.shape number (trace_in seat.old.me.0.parts) L.sort n v
+        × (seat.new.me ≡ lift (slot_at n (slot_of L.sort)) (Held v) (push (Took n v) seat.old.me)) }
 {
     let found = attempt::<B, L>(words, seat, number, n);
     if found != 0 {
@@ -122,7 +128,10 @@ pub(crate) fn release<B: Kept, L: Lock>(
     requires held { IsSome (held_of L.sort (trace_in seat.old.me.0.parts) n) }
     requires may { MayGive number (trace_in seat.old.me.0.parts) words.now.shape L.sort n (val_in_hand seat.old.me.1) }
     ensures id { seat.new.table_id ≡ seat.old.table_id }
-    ensures seat { seat.new.me ≡ lay (push (Gave n (unwrap_or (held_of L.sort (trace_in seat.old.me.0.parts) n) (val_in_hand seat.old.me.1)) (val_in_hand seat.old.me.1)) seat.old.me) }
+    ensures seat { seat.new.me
+        ≡ lay
+        (push (Gave n (unwrap_or (held_of L.sort (trace_in seat.old.me.0.parts) n) (val_in_hand seat.old.me.1))
+        (val_in_hand seat.old.me.1)) seat.old.me) }
 {
     words
         .table

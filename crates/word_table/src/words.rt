@@ -28,9 +28,16 @@ impl<B: Kept> Model for Words<B> {
     ghost use Rattle.word_table.specs.End.{HasRoom};
     ghost use Rattle.word_table.specs.Ruled.{lastings};
 
-    ghost view = { λ w. record { name = w.table.shared.table_id; shape = w.shape; lasting = lastings B.lasting w.table.shared.key } };
+    ghost view = { λ w. record {
+      name = w.table.shared.table_id;
+      shape = w.shape;
+      lasting = lastings B.lasting w.table.shared.key;
+    } };
 
-    ghost invariant = { λ w. (w.table.shared.table_id.words ≡ STRIDE * rows_of w.shape) × (w.table.shared.table_id.slots ≡ SLOTS * rows_of w.shape + 1) × (length w.table.shared.key.bodies.value.items ≡ w.shape.tasks) × (w.table.shared.key.shape ≡ w.shape) × IsShape w.shape × HasRoom w.shape.tasks w.states × HasRoom w.shape.conds w.conds };
+    ghost invariant = { λ w. (w.table.shared.table_id.words ≡ STRIDE * rows_of w.shape)
+        × (w.table.shared.table_id.slots ≡ SLOTS * rows_of w.shape + 1)
+        × (length w.table.shared.key.bodies.value.items ≡ w.shape.tasks) × (w.table.shared.key.shape ≡ w.shape)
+        × IsShape w.shape × HasRoom w.shape.tasks w.states × HasRoom w.shape.conds w.conds };
 }
 
 impl<B: Kept> Words<B> {

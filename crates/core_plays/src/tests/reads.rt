@@ -3,7 +3,8 @@
 use super::play::plays;
 use std::test::Fail;
 
-// A state, then the queue word, then the busy word; a store of a word of the task, or a new take of its lock, ends them.
+// A state, then the queue word, then the busy word; a store of a word of the task, or a new take of its lock, ends
+// them.
 #[test]
 fn a_seat_keeps_what_it_read_until_it_stores(rt: HostRuntime) -> Result<(), Fail> {
     plays(

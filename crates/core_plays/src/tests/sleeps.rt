@@ -88,8 +88,8 @@ fn a_mask_matches_by_its_bits(rt: HostRuntime) -> Result<(), Fail> {
     Ok(())
 }
 
-// The waker has loaded `on_rq` as queued, and the sleeper has gone on to another wait. The sleeper finds itself runnable,
-// so it doesn't leave its queue, and tests again.
+// The waker has loaded `on_rq` as queued, and the sleeper has gone on to another wait. The sleeper finds itself
+// runnable, so it doesn't leave its queue, and tests again.
 #[test]
 fn a_sleeper_that_was_woken_for_another_wait_tests_again(rt: HostRuntime) -> Result<(), Fail> {
     plays(

@@ -15,7 +15,8 @@ returns-in-QueueTask c =
 
 pub returns-in-DequeueTask : goal.returns-in-DequeueTask
 returns-in-DequeueTask c =
-    subst (λ (step : StepKind). OnOk c.dequeue_task.result (columns c.dequeue_task.new.core ≡ after (columns c.args.core.now) c.args.event.now.seat step)) (sym c.in-DequeueTask.is) c.dequeue_task.ensures
+    subst (λ (step : StepKind). OnOk c.dequeue_task.result (columns c.dequeue_task.new.core ≡ after (columns c.args.core.now) c.args.event.now.seat step))
+    (sym c.in-DequeueTask.is) c.dequeue_task.ensures
 
 pub returns-in-MoveTask : goal.returns-in-MoveTask
 returns-in-MoveTask c =
@@ -39,7 +40,8 @@ returns-in-ClaimTask c =
 
 pub returns-in-MakeRunnable : goal.returns-in-MakeRunnable
 returns-in-MakeRunnable c =
-    subst (λ (step : StepKind). OnOk c.make_runnable.result (columns c.make_runnable.new.core ≡ after (columns c.args.core.now) c.args.event.now.seat step)) (sym c.in-MakeRunnable.is) c.make_runnable.ensures
+    subst (λ (step : StepKind). OnOk c.make_runnable.result (columns c.make_runnable.new.core ≡ after (columns c.args.core.now) c.args.event.now.seat step))
+    (sym c.in-MakeRunnable.is) c.make_runnable.ensures
 
 pub returns-in-StoreCpu : goal.returns-in-StoreCpu
 returns-in-StoreCpu c =

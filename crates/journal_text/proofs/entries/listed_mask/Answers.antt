@@ -33,5 +33,6 @@ words-preserved c =
     let front = c.split_at.ensures.front ∙ ap (λ n. take n rest) c.find_byte.ensures.value in
     let back = c.split_at.ensures.back ∙ ap (λ n. drop n rest) c.find_byte.ensures.value in
     ap (λ m. mask_from m (slice_split is_comma c.in-Some-split_first.more.now)) c.with-mask.ensures.exact
-    ∙ sym (mask_more c.words.mask rest c.split_at.result.0.now c.split_at.result.1.now c.in-Some.c c.in-Some-split_first._comma.now c.in-Some-split_first.more.now within front back c.in-Some-split_first.ensures.cases.0 (sym c.cpu.ensures.value ∙ c.in-Some.is))
+    ∙ sym (mask_more c.words.mask rest c.split_at.result.0.now c.split_at.result.1.now c.in-Some.c c.in-Some-split_first._comma.now c.in-Some-split_first.more.now within front back
+    c.in-Some-split_first.ensures.cases.0 (sym c.cpu.ensures.value ∙ c.in-Some.is))
     ∙ c.words.invariant

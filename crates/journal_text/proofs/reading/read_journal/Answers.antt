@@ -17,7 +17,8 @@ returns-in_default c =
     let within : position_or_len is_feed rest ≤ length rest = omega (arith, c.find_byte.ensures.value, c.find_byte.ensures.within) in
     let front = c.split_at.ensures.front ∙ ap (λ n. take n rest) c.find_byte.ensures.value in
     let back = c.split_at.ensures.back ∙ ap (λ n. drop n rest) c.find_byte.ensures.value in
-    let said = sym (parts_last c.lines.line c.lines.room (progress c.lines.draft) rest c.split_at.result.0.now c.split_at.result.1.now within front back c.in_default.ensures.cases) ∙ c.lines.invariant.0 in
+    let said = sym (parts_last c.lines.line c.lines.room (progress c.lines.draft) rest c.split_at.result.0.now c.split_at.result.1.now within front back c.in_default.ensures.cases)
+    ∙ c.lines.invariant.0 in
     subst (λ (r : Result History ℕ). MatchResult c.finish_with.result (λ j. r ≡ Ok j) (λ e. IsFault e r)) said c.finish_with.ensures
 
 pub returns-then-text-room : goal.returns-then-text-room

@@ -8,30 +8,39 @@ use Rattle.pipe_bodies.proofs.ForestScripts.{forest_joined}
 use Rattle.pipe_bodies.proofs.building.build_courses.Goals as goal
 
 pub loop-task-init : goal.loop-task-init
-loop-task-init g c = (rw (c.into_iter-courses.ensures.rest, c.new-bodies.ensures.items) (building-starts c.args.tasks.now c.args.courses.items (forest_joined c.args.tasks.now c.requires.forest) c.requires.courses), refl, rw c.new-bodies.ensures.items (All-nil (IsBegun c.args.room)))
+loop-task-init g c = (
+  rw (c.into_iter-courses.ensures.rest, c.new-bodies.ensures.items) (building-starts c.args.tasks.now c.args.courses.items (forest_joined c.args.tasks.now c.requires.forest) c.requires.courses),
+  refl,
+  rw c.new-bodies.ensures.items (All-nil (IsBegun c.args.room)),
+)
 
 pub unreachable-requires : goal.unreachable-requires
-unreachable-requires g c = building-none c.args.tasks.now c.loop-task.bodies.items c.loop-task.task-index c.task-item.result (into_iter_items c.loop-task.courses) c.loop-task-test.true c.task-item.is c.loop-task.invariant.0
+unreachable-requires g c = building-none c.args.tasks.now c.loop-task.bodies.items c.loop-task.task-index c.task-item.result (into_iter_items c.loop-task.courses) c.loop-task-test.true c.task-item.is
+    c.loop-task.invariant.0
     (omega (arith, c.in_default.ensures.cases, c.loop-task.courses.rest.ok))
 
 pub build_one-requires-clause-plan : goal.build_one-requires-clause-plan
 build_one-requires-clause-plan g c = λ _ _. (
-  building-plan c.args.tasks.now c.loop-task.bodies.items c.loop-task.task-index c.task-item.result (into_iter_items c.loop-task.courses) c.loop-task-test.true c.task-item.is c.loop-task.invariant.0 c.in-Some.course
+  building-plan c.args.tasks.now c.loop-task.bodies.items c.loop-task.task-index c.task-item.result (into_iter_items c.loop-task.courses) c.loop-task-test.true c.task-item.is c.loop-task.invariant.0
+      c.in-Some.course
       (into_iter_items c.next.new.self) c.in-Some.ensures.items,
   building-sides c.args.tasks.now c.loop-task.bodies.items c.loop-task.task-index c.task-item.result (into_iter_items c.loop-task.courses) c.loop-task-test.true c.task-item.is c.loop-task.invariant.0,
 )
 
 pub build_one-requires-clause-number : goal.build_one-requires-clause-number
-build_one-requires-clause-number g c = λ _ _. c.loop-task.invariant.1 ∙ sym (building-number c.args.tasks.now c.loop-task.bodies.items c.loop-task.task-index c.task-item.result (into_iter_items c.loop-task.courses)
+build_one-requires-clause-number g c = λ _ _. c.loop-task.invariant.1
+    ∙ sym (building-number c.args.tasks.now c.loop-task.bodies.items c.loop-task.task-index c.task-item.result (into_iter_items c.loop-task.courses)
     c.loop-task-test.true c.task-item.is c.loop-task.invariant.0)
 
 pub build_one-requires-clause-built : goal.build_one-requires-clause-built
-build_one-requires-clause-built g c = λ _ _. building-reads c.args.tasks.now c.loop-task.bodies.items c.loop-task.task-index c.task-item.result (into_iter_items c.loop-task.courses) c.loop-task-test.true c.task-item.is
+build_one-requires-clause-built g c =
+    λ _ _. building-reads c.args.tasks.now c.loop-task.bodies.items c.loop-task.task-index c.task-item.result (into_iter_items c.loop-task.courses) c.loop-task-test.true c.task-item.is
     c.loop-task.invariant.0
 
 pub loop-task-preserved : goal.loop-task-preserved
 loop-task-preserved g c = (
-  building-step c.args.tasks.now c.loop-task.bodies.items c.loop-task.task-index c.task-item.result (into_iter_items c.loop-task.courses) c.loop-task-test.true c.task-item.is c.loop-task.invariant.0 c.in-Some.course
+  building-step c.args.tasks.now c.loop-task.bodies.items c.loop-task.task-index c.task-item.result (into_iter_items c.loop-task.courses) c.loop-task-test.true c.task-item.is c.loop-task.invariant.0
+      c.in-Some.course
       (into_iter_items c.next.new.self) c.in-Some.ensures.items
       c.build_one.new.bodies.items c.in_ok-build_one.ensures.count c.in_ok-build_one.ensures.built,
   ap (λ z. z + 1) c.loop-task.invariant.1,

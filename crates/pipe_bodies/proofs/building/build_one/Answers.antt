@@ -18,4 +18,5 @@ returns-clause-built g c = λ ds reads k b.
 
 pub returns-clause-begun : goal.returns-clause-begun
 returns-clause-begun g c = rw c.in_ok-push.ensures.items
-    (begun-push c.args.room c.link-2.new.bodies.items c.new.result c.args.number _ _ _ c.in_ok-right.ensures.begun c.new.ensures.lasting c.in_ok-left.ensures.rooms c.in_ok-right.ensures.rooms c.new.ensures.fresh)
+    (begun-push c.args.room c.link-2.new.bodies.items c.new.result c.args.number _ _ _ c.in_ok-right.ensures.begun c.new.ensures.lasting c.in_ok-left.ensures.rooms c.in_ok-right.ensures.rooms
+    c.new.ensures.fresh)

@@ -10,7 +10,8 @@ returns-in_err-_verdict-clause-lasting g c = map-set_same lasting_of _ _ _ c.ind
 
 pub returns-in_err-_verdict-clause-ended : goal.returns-in_err-_verdict-clause-ended
 returns-in_err-_verdict-clause-ended g c = λ all.
-    let over = c.in_err-_verdict.ensures.over (ended-at c.args.bodies.now.items (c.args.place % c.len-count.result) c.index_mut.result.now all (let count = c.len-count.ensures in let some = c.if-count-gt0.true in let below = mod_below c.args.place c.len-count.result some in omega arith)
+    let over = c.in_err-_verdict.ensures.over (ended-at c.args.bodies.now.items (c.args.place % c.len-count.result) c.index_mut.result.now all (let count = c.len-count.ensures in
+    let some = c.if-count-gt0.true in let below = mod_below c.args.place c.len-count.result some in omega arith)
     c.index_mut.ensures.value) in
     absurd (never over.0)
 
@@ -20,6 +21,7 @@ returns-in_ok-_verdict-clause-lasting g c = map-set_same lasting_of _ _ _ c.inde
 pub returns-in_ok-_verdict-clause-ended : goal.returns-in_ok-_verdict-clause-ended
 returns-in_ok-_verdict-clause-ended g c = λ all. (
   refl,
-  ended-set c.args.bodies.now.items (c.args.place % c.len-count.result) c.index_mut.result.now all (let count = c.len-count.ensures in let some = c.if-count-gt0.true in let below = mod_below c.args.place c.len-count.result some in omega arith)
+  ended-set c.args.bodies.now.items (c.args.place % c.len-count.result) c.index_mut.result.now all (let count = c.len-count.ensures in let some = c.if-count-gt0.true in
+      let below = mod_below c.args.place c.len-count.result some in omega arith)
       c.index_mut.ensures.value c.turn.new.self c.in_ok-_verdict.ensures.ended,
 )

@@ -26,6 +26,7 @@ loop-x-preserved c =
 pub returns : goal.returns
 returns c =
     let end : length c.args.taken.now ≤ c.loop-x.x-index = omega arith in (
-      λ h. each-entry c.args.taken.now (λ x. (has_entry c.args.given.now x ≡ false → IsTakenOut (columns c.args.core.now) c.args.s c.args.k x)) (λ i x lt at. c.loop-x.invariant i x (omega (arith, lt, end)) at),
+      λ h. each-entry c.args.taken.now (λ x. (has_entry c.args.given.now x ≡ false → IsTakenOut (columns c.args.core.now) c.args.s c.args.k x))
+          (λ i x lt at. c.loop-x.invariant i x (omega (arith, lt, end)) at),
       λ h. grind arith,
     )

@@ -12,4 +12,9 @@ returns c =
     let t = c.args.t in
     c.in_ok-renew.ensures
     ∙ ap (λ (x : Columns). stored_word x s t) (c.in_ok-finish.ensures
-    ∙ ap (λ (w : TaskWords). record core { on_cpu = put core.on_cpu t false; runs = put core.runs t (w.runs + 1); task_to_clear = put core.task_to_clear s None; journal = put core.journal s (core.journal s ++ Finish t (w.runs + 1) s ∷ []) }) c.task_words-n.ensures)
+    ∙ ap (λ (w : TaskWords). record core {
+      on_cpu = put core.on_cpu t false;
+      runs = put core.runs t (w.runs + 1);
+      task_to_clear = put core.task_to_clear s None;
+      journal = put core.journal s (core.journal s ++ Finish t (w.runs + 1) s ∷ []);
+    }) c.task_words-n.ensures)

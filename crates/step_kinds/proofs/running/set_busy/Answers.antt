@@ -13,7 +13,16 @@ returns c =
     let core = columns c.args.core.now in
     let s = c.args.s in
     let t = c.args.t in
-    let picked = λ (n : ℕ). record core { on_cpu = put core.on_cpu t true; runs = put core.runs t n; current_task = put core.current_task s (Some t); seen_state = put core.seen_state s None; level_known = put core.level_known s None; tested = put core.tested s (λ u l. if u == t then None else core.tested s u l); is_asleep = put core.is_asleep s (λ u l. if u == t then false else core.is_asleep s u l); journal = put core.journal s (core.journal s ++ Pick t n c.args.c ∷ []) } in
+    let picked = λ (n : ℕ). record core {
+      on_cpu = put core.on_cpu t true;
+      runs = put core.runs t n;
+      current_task = put core.current_task s (Some t);
+      seen_state = put core.seen_state s None;
+      level_known = put core.level_known s None;
+      tested = put core.tested s (λ u l. if u == t then None else core.tested s u l);
+      is_asleep = put core.is_asleep s (λ u l. if u == t then false else core.is_asleep s u l);
+      journal = put core.journal s (core.journal s ++ Pick t n c.args.c ∷ []);
+    } in
     c.in_ok-note.ensures
     ∙ ap (λ (x : Columns). noted x s (Picked t)) (c.in_ok-renew.ensures
     ∙ ap (λ (x : Columns). stored_word x s t) (c.in_ok-pick.ensures ∙ ap (λ (w : TaskWords). picked (w.runs + 1)) c.task_words-n.ensures))

@@ -13,7 +13,13 @@ returns c =
     let s = c.args.s in
     let t = c.args.t in
     let m = c.task_words-m.result.changes + 1 in
-    let wrote = λ (n : ℕ) (r : TaskReads). noted (noted (record core { on_rq = put core.on_rq t c.args.on; changes = put core.changes t n; journal = put core.journal s (core.journal s ++ c.args.entry ∷ []); last_reads = put_at core.last_reads s t (numbered_reads t n r) }) s (Renewed t)) s (StoredWord t) in
+    let wrote =
+    λ (n : ℕ) (r : TaskReads). noted (noted (record core {
+      on_rq = put core.on_rq t c.args.on;
+      changes = put core.changes t n;
+      journal = put core.journal s (core.journal s ++ c.args.entry ∷ []);
+      last_reads = put_at core.last_reads s t (numbered_reads t n r);
+    }) s (Renewed t)) s (StoredWord t) in
     c.in_ok-note-2.ensures
     ∙ ap (λ (x : Columns). noted x s (StoredWord t)) (c.in_ok-note.ensures
     ∙ ap (λ (x : Columns). noted x s (Renewed t)) (c.in_ok-set_reads.ensures

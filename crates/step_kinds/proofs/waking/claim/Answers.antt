@@ -13,6 +13,7 @@ returns c =
     let core = columns c.args.core.now in
     let s = c.args.s in
     let t = c.args.t in
-    let stored = λ (m : ℕ). noted (noted (stored_word (record core { state = put core.state t waking; journal = put core.journal s (core.journal s ++ Wake t m ∷ []) }) s t) s (Claimed t)) s (Passed t) in
+    let stored = λ (m : ℕ). noted (noted (stored_word (record core { state = put core.state t waking; journal = put core.journal s (core.journal s ++ Wake t m ∷ []) }) s t) s (Claimed t)) s
+    (Passed t) in
     c.in_ok-note-2.ensures ∙ ap (λ (x : Columns). noted x s (Passed t)) (c.in_ok-note.ensures ∙ ap (λ (x : Columns). noted x s (Claimed t)) c.in_ok-store_claim.ensures)
     ∙ ap (λ (w : TaskWords). stored w.changes) c.task_words-m.ensures

@@ -11,7 +11,8 @@ compare_exchange-found-requires g c = let p = c.args.token.now in let s = c.into
     let row : c.args.n < rows_of w.shape = (let h = L.rows w.shape in let lt = c.requires.row in omega (arith, h, lt)) in (
       search rules,
       in_table w.shape _ _ c.args.n K.col _ c.words.invariant.0 (ap (λ z. z.shape) c.words.view_is) row L.low (ap (λ z. 64 * c.args.n + z) c.column.ensures),
-      try_may g.B.Kept.lasting g.B.Kept.ended c.words.inside.table.shared.key _ _ p.seat (known_by p) p.trace s.result.me is c.args.n K.col K.bound K.note K.may K.told L.low L.rows L.quiet L.keep w.shape (c.words.invariant.3 ∙ ap (λ w. w.shape) c.words.view_is) c.requires.row _ (ap (λ z. 64 * c.args.n + z) c.column.ensures) c.args.old c.args.new c.requires.may,
+      try_may g.B.Kept.lasting g.B.Kept.ended c.words.inside.table.shared.key _ _ p.seat (known_by p) p.trace s.result.me is c.args.n K.col K.bound K.note K.may K.told L.low L.rows L.quiet L.keep
+          w.shape (c.words.invariant.3 ∙ ap (λ w. w.shape) c.words.view_is) c.requires.row _ (ap (λ z. 64 * c.args.n + z) c.column.ensures) c.args.old c.args.new c.requires.may,
     )
 
 pub into_badge-requires : goal.into_badge-requires
@@ -28,7 +29,8 @@ invariant_of-token g c = let p = c.args.token.now in let s = c.into_seat-seat in
     let t = tried_from K.told K.note c.compare_exchange-found.result c.args.old c.args.n c.args.new s.result.me
     c.compare_exchange-found.new.seat.me (known_by p) p.seat p.trace is
     (c.compare_exchange-found.ensures.2 c.args.n (ap (λ z. 64 * c.args.n + z) c.column.ensures)) in
-    (closing c.token.inside p c.into_badge.result.views c.into_badge.result.table_id _ _ _ c.compare_exchange-found.new.seat.me t.0 c.token.view_is c.into_badge.ensures.0 c.compare_exchange-found.ensures.0 s.ensures.0 (ap (λ b. b.table_id) c.replace.ensures.value) c.into_badge.ensures.2 t.1).is
+    (closing c.token.inside p c.into_badge.result.views c.into_badge.result.table_id _ _ _ c.compare_exchange-found.new.seat.me t.0 c.token.view_is c.into_badge.ensures.0
+    c.compare_exchange-found.ensures.0 s.ensures.0 (ap (λ b. b.table_id) c.replace.ensures.value) c.into_badge.ensures.2 t.1).is
 
 pub returns-clause-same : goal.returns-clause-same
 returns-clause-same g c = let p = c.args.token.now in let s = c.into_seat-seat in let K = g.K.Kind in
@@ -36,7 +38,8 @@ returns-clause-same g c = let p = c.args.token.now in let s = c.into_seat-seat i
     let t = tried_from K.told K.note c.compare_exchange-found.result c.args.old c.args.n c.args.new s.result.me
     c.compare_exchange-found.new.seat.me (known_by p) p.seat p.trace is
     (c.compare_exchange-found.ensures.2 c.args.n (ap (λ z. 64 * c.args.n + z) c.column.ensures)) in
-    (closing c.token.inside p c.into_badge.result.views c.into_badge.result.table_id _ _ _ c.compare_exchange-found.new.seat.me t.0 c.token.view_is c.into_badge.ensures.0 c.compare_exchange-found.ensures.0 s.ensures.0 (ap (λ b. b.table_id) c.replace.ensures.value) c.into_badge.ensures.2 t.1).same
+    (closing c.token.inside p c.into_badge.result.views c.into_badge.result.table_id _ _ _ c.compare_exchange-found.new.seat.me t.0 c.token.view_is c.into_badge.ensures.0
+    c.compare_exchange-found.ensures.0 s.ensures.0 (ap (λ b. b.table_id) c.replace.ensures.value) c.into_badge.ensures.2 t.1).same
 
 pub returns-clause-hit : goal.returns-clause-hit
 returns-clause-hit g c = let p = c.args.token.now in let s = c.into_seat-seat in let K = g.K.Kind in
@@ -44,7 +47,9 @@ returns-clause-hit g c = let p = c.args.token.now in let s = c.into_seat-seat in
     let t = tried_from K.told K.note c.compare_exchange-found.result c.args.old c.args.n c.args.new s.result.me
     c.compare_exchange-found.new.seat.me (known_by p) p.seat p.trace is
     (c.compare_exchange-found.ensures.2 c.args.n (ap (λ z. 64 * c.args.n + z) c.column.ensures)) in
-    λ h. (closing c.token.inside p c.into_badge.result.views c.into_badge.result.table_id _ _ _ c.compare_exchange-found.new.seat.me t.0 c.token.view_is c.into_badge.ensures.0 c.compare_exchange-found.ensures.0 s.ensures.0 (ap (λ b. b.table_id) c.replace.ensures.value) c.into_badge.ensures.2 t.1).trace_is ∙ t.2 h
+    λ h.
+    (closing c.token.inside p c.into_badge.result.views c.into_badge.result.table_id _ _ _ c.compare_exchange-found.new.seat.me t.0 c.token.view_is c.into_badge.ensures.0
+    c.compare_exchange-found.ensures.0 s.ensures.0 (ap (λ b. b.table_id) c.replace.ensures.value) c.into_badge.ensures.2 t.1).trace_is ∙ t.2 h
 
 pub returns-clause-told : goal.returns-clause-told
 returns-clause-told g c = let p = c.args.token.now in let s = c.into_seat-seat in let K = g.K.Kind in
@@ -60,4 +65,6 @@ returns-clause-miss g c = let p = c.args.token.now in let s = c.into_seat-seat i
     let t = tried_from K.told K.note c.compare_exchange-found.result c.args.old c.args.n c.args.new s.result.me
     c.compare_exchange-found.new.seat.me (known_by p) p.seat p.trace is
     (c.compare_exchange-found.ensures.2 c.args.n (ap (λ z. 64 * c.args.n + z) c.column.ensures)) in
-    λ h. (closing c.token.inside p c.into_badge.result.views c.into_badge.result.table_id _ _ _ c.compare_exchange-found.new.seat.me t.0 c.token.view_is c.into_badge.ensures.0 c.compare_exchange-found.ensures.0 s.ensures.0 (ap (λ b. b.table_id) c.replace.ensures.value) c.into_badge.ensures.2 t.1).trace_is ∙ t.4 h
+    λ h.
+    (closing c.token.inside p c.into_badge.result.views c.into_badge.result.table_id _ _ _ c.compare_exchange-found.new.seat.me t.0 c.token.view_is c.into_badge.ensures.0
+    c.compare_exchange-found.ensures.0 s.ensures.0 (ap (λ b. b.table_id) c.replace.ensures.value) c.into_badge.ensures.2 t.1).trace_is ∙ t.4 h

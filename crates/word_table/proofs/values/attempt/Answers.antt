@@ -10,11 +10,13 @@ use Rattle.word_table.proofs.Rows.{count_rows}
 use Rattle.word_table.proofs.values.attempt.Goals as goal
 
 pub compare_exchange-requires : goal.compare_exchange-requires
-compare_exchange-requires g c = let m = c.args.seat.now.me in let known = m.0.known in let tr = trace_in m.0.parts in let k : ℕ = c.args.number in let n : ℕ = c.args.n in let w = c.args.words.now in let sort = g.L.Lock.sort in
+compare_exchange-requires g c = let m = c.args.seat.now.me in let known = m.0.known in let tr = trace_in m.0.parts in let k : ℕ = c.args.number in let n : ℕ = c.args.n in let w = c.args.words.now in
+    let sort = g.L.Lock.sort in
     let row : n < rows_of w.shape = (let h = count_rows sort w.shape in let lt = c.requires.row in omega (arith, h, lt)) in (
       search rules,
       in_table w.shape _ _ n (lock_of sort) _ c.words.invariant.0 (ap (λ z. z.shape) c.words.view_is) row (lock_low sort) (c.word_of.ensures),
-      take_may g.B.Kept.lasting g.B.Kept.ended c.words.inside.table.shared.key _ _ k known tr _ w.shape (c.words.invariant.3 ∙ ap (λ z. z.shape) c.words.view_is) sort n _ c.word_of.ensures c.requires.row _ (omega arith) c.requires.rest,
+      take_may g.B.Kept.lasting g.B.Kept.ended c.words.inside.table.shared.key _ _ k known tr _ w.shape (c.words.invariant.3 ∙ ap (λ z. z.shape) c.words.view_is) sort n _ c.word_of.ensures
+          c.requires.row _ (omega arith) c.requires.rest,
     )
 
 pub returns-clause-took : goal.returns-clause-took

@@ -11,7 +11,8 @@ use Rattle.word_table.proofs.Rows.{tasks_rows}
 use Rattle.word_table.proofs.values.put_body.Goals as goal
 
 pub exchange-slot-requires : goal.exchange-slot-requires
-exchange-slot-requires g c = let m = c.args.seat.now.me in let known = m.0.known in let tr = trace_in m.0.parts in let k : ℕ = c.args.number in let t : ℕ = c.args.t in let j : ℕ = slot_at t BODY_SLOT in
+exchange-slot-requires g c = let m = c.args.seat.now.me in let known = m.0.known in let tr = trace_in m.0.parts in let k : ℕ = c.args.number in let t : ℕ = c.args.t in
+    let j : ℕ = slot_at t BODY_SLOT in
     (search rules, (Empty, in_hand m known k j tr Empty c.requires.hand))
 
 pub unreachable-requires : goal.unreachable-requires
@@ -20,12 +21,14 @@ unreachable-requires g c = let m = c.args.seat.now.me in let known = m.0.known i
     c.in_default.not-Empty e.0
 
 pub load-requires : goal.load-requires
-load-requires g c = let m = c.args.seat.now.me in let known = m.0.known in let tr = trace_in m.0.parts in let k : ℕ = c.args.number in let t : ℕ = c.args.t in let j : ℕ = slot_at t BODY_SLOT in let w = c.args.words.now in
+load-requires g c = let m = c.args.seat.now.me in let known = m.0.known in let tr = trace_in m.0.parts in let k : ℕ = c.args.number in let t : ℕ = c.args.t in let j : ℕ = slot_at t BODY_SLOT in
+    let w = c.args.words.now in
     let row : t < rows_of w.shape = (let h = tasks_rows w.shape in let lt = c.requires.row in omega (arith, h, lt)) in
     let e = swapped m c.exchange-slot.new.seat.me known k j tr Empty c.exchange-slot.result (Body c.args.body) c.requires.hand c.exchange-slot.ensures.2 c.exchange-slot.ensures.3 in (
       search rules,
       in_table w.shape _ _ t (BODY) _ c.words.invariant.0 (ap (λ z. z.shape) c.words.view_is) row (omega arith) (refl),
-      come_may g.B.Kept.lasting g.B.Kept.ended c.words.inside.table.shared.key _ _ k known tr _ w.shape (c.words.invariant.3 ∙ ap (λ z. z.shape) c.words.view_is) _ t c.args.body refl e.1 c.requires.row c.requires.may (c.requires.lasting ∙ ap (λ z. slice_index_or z.lasting t []) (sym c.words.view_is)),
+      come_may g.B.Kept.lasting g.B.Kept.ended c.words.inside.table.shared.key _ _ k known tr _ w.shape (c.words.invariant.3 ∙ ap (λ z. z.shape) c.words.view_is) _ t c.args.body refl e.1
+          c.requires.row c.requires.may (c.requires.lasting ∙ ap (λ z. slice_index_or z.lasting t []) (sym c.words.view_is)),
     )
 
 pub returns-clause-seat : goal.returns-clause-seat

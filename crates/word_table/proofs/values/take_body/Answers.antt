@@ -15,7 +15,8 @@ load-requires g c = let m = c.args.seat.now.me in let known = m.0.known in let t
     let row : t < rows_of w.shape = (let h = tasks_rows w.shape in let lt = c.requires.row in omega (arith, h, lt)) in (
       search rules,
       in_table w.shape _ _ t (BODY) _ c.words.invariant.0 (ap (λ z. z.shape) c.words.view_is) row (omega arith) (refl),
-      leave_may g.B.Kept.lasting g.B.Kept.ended c.words.inside.table.shared.key _ _ k known tr _ w.shape (c.words.invariant.3 ∙ ap (λ z. z.shape) c.words.view_is) _ t refl c.requires.rest c.requires.row c.requires.may,
+      leave_may g.B.Kept.lasting g.B.Kept.ended c.words.inside.table.shared.key _ _ k known tr _ w.shape (c.words.invariant.3 ∙ ap (λ z. z.shape) c.words.view_is) _ t refl c.requires.rest
+          c.requires.row c.requires.may,
     )
 
 pub exchange-slot-requires : goal.exchange-slot-requires

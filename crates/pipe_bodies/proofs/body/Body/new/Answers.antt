@@ -6,7 +6,11 @@ use Rattle.pipe_bodies.proofs.BodyLaws.{Stands-fresh, plan_of-at}
 use Rattle.pipe_bodies.proofs.body.Body.new.Goals as goal
 
 pub invariant_of-result : goal.invariant_of-result
-invariant_of-result g c = (rw (c.requires.empty.0, c.requires.empty.1, c.new.ensures, c.new-3.ensures) (Stands-fresh c.of-origin.result.numbers (plan_in c.args.course) _ c.of-origin.ensures c.requires.joined), tt, c.new-2.ensures)
+invariant_of-result g c = (
+  rw (c.requires.empty.0, c.requires.empty.1, c.new.ensures, c.new-3.ensures) (Stands-fresh c.of-origin.result.numbers (plan_in c.args.course) _ c.of-origin.ensures c.requires.joined),
+  tt,
+  c.new-2.ensures,
+)
 
 pub returns-clause-lasting : goal.returns-clause-lasting
 returns-clause-lasting g c = ap (λ z. lasting_by c.args.task z (in_ring c.args.left) (in_ring c.args.right)) (plan_of-at c.of-origin.result.numbers (plan_in c.args.course) c.of-origin.ensures)

@@ -7,4 +7,5 @@ use Rattle.word_rule.specs.May.{MayGiveQueueVal}
 pub give-requires-clause-may : goal.give-requires-clause-may
 give-requires-clause-may g c κs within = let a = c.args in
     subst (λ (shape : Shape). MayGiveQueueVal a.pass.now.seat a.pass.now.trace shape a.self.cpu a.self.val) c.requires.of.same_shape
-    (subst (λ (n : ℕ). MayGiveQueueVal a.pass.now.seat a.pass.now.trace a.pass.now.shape n a.self.val) (sym c.requires.own) (back_gives a.pass.now.shape a.pass.now.seat a.pass.now.trace a.self.val c.requires.may))
+    (subst (λ (n : ℕ). MayGiveQueueVal a.pass.now.seat a.pass.now.trace a.pass.now.shape n a.self.val) (sym c.requires.own)
+    (back_gives a.pass.now.shape a.pass.now.seat a.pass.now.trace a.self.val c.requires.may))
