@@ -224,7 +224,7 @@ pub fn move_task<B: Kept, R: Wait>(
     ensures room { result < 2 ^ 60 }
 {
     // T isn't busy, as read under the queue's lock (moved under the switch), and this seat keeps T's lock until T is
-    // queued again: who reads 2 could not find T (lost on the way).
+    // queued again: no waker reads 2, which names no queue (lost on the way).
     let m = change_rq::<B, MoveTask, R>(rt, wk, &mut pass.token, t, 2) / 4;
     pass.turn.log(Entry::Out {
         t,

@@ -30,8 +30,8 @@ pub fn wake_own<B: Kept>(wk: &Wk<B>, pass: &mut Pass, mask: State) -> Wake
     let Some(t) = pass.current() else {
         unreachable!()
     };
-    // No lock: T is queued, and none but this seat takes it off or stores its state while it is the current task
-    // (two wakers).
+    // No lock: no other seat can queue T or take it off while it is the current task here, and a waker that stores its
+    // state meanwhile stores TASK_RUNNING too (two wakers).
     let seen = match_state(wk, pass, t, mask);
     if !matches(seen, mask) {
         return Wake::NoMatch { seen };

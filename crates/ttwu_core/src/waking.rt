@@ -54,8 +54,8 @@ pub fn wake<B: Kept, R: Wait>(rt: &R, wk: &Wk<B>, pass: &mut Pass, t: TaskNo, ma
     // (queued while busy).
     claim(rt, wk, pass, t, m);
     let c = choose(wk, task.val_mut(wk).get());
-    // The processor is stored after the claim: a claimed T is off every queue, and nobody looks for it by this word
-    // (moved under the switch).
+    // The processor is stored only once the busy word was read as clear: the seat of T's processor alone clears it, and
+    // that has to be the one that T left (moved under the switch).
     place(wk, pass, &task, c);
     queue_woken(rt, wk, pass, t, c, m);
     // The lock goes back last, when T stands in a queue as TASK_RUNNING (two wakers).

@@ -53,8 +53,8 @@ pub fn prepare<B: Kept, R: Wait>(
     let Some(t) = pass.current() else {
         unreachable!()
     };
-    // The entry goes in and the state is stored under one hold of the lock: a walk that comes between them would meet
-    // the entry of a running task, and be over before it sleeps (the entry behind the walk).
+    // Entry and state under one hold of the lock, and both before the test: an entry that came in later would stand
+    // behind a walk that has gone by, and T sleep on what it read before (the entry behind the walk).
     let mut wait = lock_wait(rt, wk, pass, k);
     enter_once(wk, pass, &mut wait, t, exclusive);
     // The caller tests the condition after this store: tested before it, a raise in between finds nobody asleep
