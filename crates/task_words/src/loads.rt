@@ -82,8 +82,8 @@ pub fn load_cpu<B: Kept>(wk: &Wk<B>, pass: &mut Pass, t: TaskNo) -> CpuNo
     load::<B, LoadCpu>(&wk.words, &mut pass.token, t) as CpuNo
 }
 
-/// The migrate-disable level of a task, as Linux's `p->migration_disabled` (`include/linux/sched.h`). No step stores one,
-/// so it is 0. Of its own current task the seat knows it until it picks another.
+/// The migrate-disable level of a task, as Linux's `p->migration_disabled` (`include/linux/sched.h`). No step stores
+/// one, so it is 0. Of its own current task the seat knows it until it picks another.
 pub fn load_count<B: Kept>(wk: &Wk<B>, pass: &mut Pass, t: TaskNo) -> u32
     requires of { IsOf wk.now pass.old }
     requires task { t < wk.now.shape.tasks }

@@ -17,7 +17,7 @@ use task_words::{
 };
 
 /// Moves a task that waits in its processor's queue, and runs nowhere, to the back of the queue of `to`, as Linux's
-/// `move_queued_task`; whether it did.
+/// `move_queued_task` (`kernel/sched/core.c`); whether it did.
 pub fn move_to<B: Kept, R: Wait>(rt: &R, wk: &Wk<B>, pass: &mut Pass, t: TaskNo, to: CpuNo) -> bool
     requires of { IsOf wk.now pass.old }
     requires task { t < wk.now.shape.tasks }

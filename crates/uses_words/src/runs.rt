@@ -13,7 +13,8 @@ use task_words::{
     lock_queue, lock_task, queue_task,
 };
 
-/// Puts a new task at the back of its processor's queue, as Linux's `wake_up_new_task`; whether it was new.
+/// Puts a new task at the back of its processor's queue, as Linux's `wake_up_new_task` (`kernel/sched/core.c`); whether
+/// it was new.
 pub fn start<B: Kept, R: Wait>(rt: &R, wk: &Wk<B>, pass: &mut Pass, t: TaskNo) -> bool
     requires of { IsOf wk.now pass.old }
     requires task { t < wk.now.shape.tasks }
@@ -71,7 +72,7 @@ pub fn start_new<B: Kept, R: Wait>(rt: &R, wk: &Wk<B>, pass: &mut Pass, t: TaskN
 }
 
 /// Picks the task that stands as the next of the seat's own queue, else the first that waits there, as Linux's
-/// `pick_next_task`; none where there is neither.
+/// `pick_next_task` (`kernel/sched/core.c`); none where there is neither.
 pub fn pick<B: Kept, R: Wait>(rt: &R, wk: &Wk<B>, pass: &mut Pass) -> Option<TaskNo>
     requires of { IsOf wk.now pass.old }
     requires processor { pass.old.seat < wk.now.shape.cpus }
@@ -118,8 +119,8 @@ pub fn run<B: Kept>(wk: &Wk<B>, pass: &mut Pass, t: TaskNo)
     body_home(wk, pass, out);
 }
 
-/// Puts the current task, while it runs or is still TASK_NEW, at the back of its queue, as Linux's `schedule` of a
-/// preempted task; whether it did.
+/// Puts the current task, while it runs or is still TASK_NEW, at the back of its queue, as Linux's `schedule`
+/// (`kernel/sched/core.c`) of a preempted task; whether it did.
 pub fn put_back<B: Kept, R: Wait>(rt: &R, wk: &Wk<B>, pass: &mut Pass, t: TaskNo) -> bool
     requires of { IsOf wk.now pass.old }
     requires processor { pass.old.seat < wk.now.shape.cpus }

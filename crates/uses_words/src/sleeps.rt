@@ -15,9 +15,9 @@ use task_words::{
     lock_queue, lock_wait, set_running, set_state,
 };
 
-/// Puts the current task to sleep until a condition has another value than `seen`, as Linux's `prepare_to_wait` and
-/// `schedule`; whether it sleeps. It doesn't where the condition has changed, or a wake has come first, or the task has
-/// an entry there already.
+/// Puts the current task to sleep until a condition has another value than `seen`, as Linux's `prepare_to_wait`
+/// (`kernel/sched/wait.c`) and `schedule`; whether it sleeps. It doesn't where the condition has changed, or a wake has
+/// come first, or the task has an entry there already.
 pub fn sleep<B: Kept, R: Wait>(
     rt: &R,
     wk: &Wk<B>,
@@ -90,7 +90,8 @@ fn give_as_taken<B: Kept>(wk: &Wk<B>, pass: &mut Pass, wait: WaitGuard<B>)
     wait.give(wk, pass);
 }
 
-/// Takes the current task off its queue where its state says that it sleeps, as Linux's `schedule`; whether it did.
+/// Takes the current task off its queue where its state says that it sleeps, as Linux's `schedule`
+/// (`kernel/sched/core.c`); whether it did.
 pub fn switch_out<B: Kept, R: Wait>(rt: &R, wk: &Wk<B>, pass: &mut Pass, t: TaskNo) -> bool
     requires of { IsOf wk.now pass.old }
     requires processor { pass.old.seat < wk.now.shape.cpus }

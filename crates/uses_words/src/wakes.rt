@@ -17,7 +17,8 @@ use task_words::{
     match_state, queue_task, store_cpu, wait_clear,
 };
 
-/// Wakes a task that sleeps as TASK_NORMAL says, as Linux's `try_to_wake_up`, on the processor `to`; whether it did.
+/// Wakes a task that sleeps as TASK_NORMAL says, as Linux's `try_to_wake_up` (`kernel/sched/core.c`), on the processor
+/// `to`; whether it did.
 pub fn wake<B: Kept, R: Wait>(rt: &R, wk: &Wk<B>, pass: &mut Pass, t: TaskNo, to: CpuNo) -> bool
     requires of { IsOf wk.now pass.old }
     requires task { t < wk.now.shape.tasks }
