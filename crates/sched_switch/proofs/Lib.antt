@@ -1,0 +1,4 @@
+pub mod Reading
+pub mod SleepLaws
+pub mod SleptAs
+pub mod SwitchLaws

@@ -1,0 +1,5 @@
+pub mod Currents
+pub mod Laws
+pub mod Sleeps
+pub mod Standing
+pub mod Switches
