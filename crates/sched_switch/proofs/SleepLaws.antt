@@ -19,14 +19,14 @@ use Rattle.task_words.specs.Gives.{entered}
 use Rattle.task_words.specs.Views.{PassView}
 use Rattle.wait_queue.specs.Entering.{with_entry}
 use Rattle.word_steps.specs.Folds.{current_task, is_asleep, tested, has_slept, has_slept_in, put_test, put_test_if}
-use Rattle.word_steps.specs.Records.{Rec, Took, Gave, Dequeued, StateSet, ClearedBusy, LoadedState, LoadedCond}
+use Rattle.word_steps.specs.Records.{Rec, Took, Gave, Dequeued, StateSet, ClearedBusy, LoadedState, LoadedCount, LoadedCond}
 use Rattle.word_steps.specs.declared.val.Val.TheVariants as val
 
 -- The trace after a sleep
 
 abbrev slept_trace : ℕ → ℕ → ℕ → ℕ → ℕ → ℕ → Queue → List WaitEntry → List WaitEntry → List Rec → List Rec
 slept_trace s t k v n b q w given old =
-    ClearedBusy t n ∷ Gave s (val.Queue q) (val.Queue (left_by t q)) ∷ Dequeued t s b ∷ LoadedState t None interruptible
+    ClearedBusy t n ∷ Gave s (val.Queue q) (val.Queue (left_by t q)) ∷ Dequeued t s b ∷ LoadedCount t 0 ∷ LoadedState t None interruptible
     ∷ Took s (val.Queue q) ∷ LoadedCond k v ∷ Gave k (val.Wait w) (val.Wait given) ∷ StateSet t interruptible
     ∷ Took k (val.Wait w) ∷ old
 
@@ -110,11 +110,11 @@ module _ (k v m : ℕ) (old new : PassView) (slept : HasSlept k v m old new) whe
       slept.gone.did
       ∙ ap (λ (z : ℕ × List Rec). ClearedBusy slept.t slept.gone.n
       ∷ Gave z.0 (val.Queue slept.gone.queue) (val.Queue (left_by slept.t slept.gone.queue))
-      ∷ Dequeued slept.t z.0 slept.gone.before ∷ LoadedState slept.t None interruptible ∷ Took z.0 (val.Queue slept.gone.queue) ∷ z.1)
+      ∷ Dequeued slept.t z.0 slept.gone.before ∷ LoadedCount slept.t 0 ∷ LoadedState slept.t None interruptible ∷ Took z.0 (val.Queue slept.gone.queue) ∷ z.1)
       (λ i. (slept.tested.same_seat i, between_trace i))
       ∙ ap (λ (u : ℕ). ClearedBusy slept.t slept.gone.n
       ∷ Gave old.seat (val.Queue slept.gone.queue) (val.Queue (left_by slept.t slept.gone.queue))
-      ∷ Dequeued slept.t old.seat slept.gone.before ∷ LoadedState slept.t None interruptible ∷ Took old.seat (val.Queue slept.gone.queue)
+      ∷ Dequeued slept.t old.seat slept.gone.before ∷ LoadedCount slept.t 0 ∷ LoadedState slept.t None interruptible ∷ Took old.seat (val.Queue slept.gone.queue)
       ∷ LoadedCond k v ∷ Gave k (val.Wait slept.tested.entered.v) (val.Wait given) ∷ StateSet u interruptible
       ∷ Took k (val.Wait slept.tested.entered.v) ∷ old.trace) same_task
 
@@ -124,7 +124,7 @@ module _ (k v m : ℕ) (old new : PassView) (slept : HasSlept k v m old new) whe
     before = slept.gone.before;
     first = Took k (val.Wait slept.tested.entered.v) ∷ [];
     second = Gave k (val.Wait slept.tested.entered.v) (val.Wait given) ∷ [];
-    third = LoadedState slept.t None interruptible ∷ Took old.seat (val.Queue slept.gone.queue) ∷ [];
+    third = LoadedCount slept.t 0 ∷ LoadedState slept.t None interruptible ∷ Took old.seat (val.Queue slept.gone.queue) ∷ [];
     last = ClearedBusy slept.t slept.gone.n
         ∷ Gave old.seat (val.Queue slept.gone.queue) (val.Queue (left_by slept.t slept.gone.queue)) ∷ [];
     current = current_there;

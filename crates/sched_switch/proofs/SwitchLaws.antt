@@ -19,7 +19,7 @@ use Rattle.ttwu_core.specs.Orders.{IsSince}
 use Rattle.word_rule.specs.Own.{IsStill, last_own}
 use Rattle.word_rule.specs.Standing.{is_runnable}
 use Rattle.word_steps.specs.Folds.{current_task}
-use Rattle.word_steps.specs.Records.{Took, Gave, Dequeued, SetBusy, ClearedBusy, LoadedState}
+use Rattle.word_steps.specs.Records.{Took, Gave, Dequeued, SetBusy, ClearedBusy, LoadedState, LoadedCount}
 use Rattle.word_steps.specs.declared.val.Val.TheVariants as val
 
 pub left_then : (next : Next) (old mid new : PassView) (answer : Switch) → HasLeft next old mid → DidPick next mid new answer
@@ -47,12 +47,12 @@ left_since next old mid (inl left) = record { added = []; did = ap (λ (p : Pass
 left_since next old mid (inr (inl left)) = record {
   added = ClearedBusy left.0 left.2.n
       ∷ Gave old.seat (val.Queue left.2.queue) (val.Queue (left_by left.0 (pushed left.0 left.2.queue)))
-      ∷ LoadedState left.0 None left.1 ∷ Took old.seat (val.Queue left.2.queue) ∷ [];
+      ∷ LoadedCount left.0 0 ∷ LoadedState left.0 None left.1 ∷ Took old.seat (val.Queue left.2.queue) ∷ [];
   did = left.2.did;
 }
 left_since next old mid (inr (inr left)) = record {
   added = ClearedBusy left.0 left.3.n ∷ Gave old.seat (val.Queue left.3.queue) (val.Queue (left_by left.0 left.3.queue))
-      ∷ Dequeued left.0 old.seat left.3.before ∷ LoadedState left.0 None left.1 ∷ Took old.seat (val.Queue left.3.queue)
+      ∷ Dequeued left.0 old.seat left.3.before ∷ LoadedCount left.0 0 ∷ LoadedState left.0 None left.1 ∷ Took old.seat (val.Queue left.3.queue)
       ∷ [];
   did = left.3.did;
 }
@@ -69,7 +69,7 @@ picked_front t old new (inl kept) = record {
   stood = left_by t (pushed t kept.queue);
   start = record { added = []; did = refl };
   taken = record {
-    added = Gave old.seat (val.Queue kept.queue) (val.Queue kept.queue) ∷ LoadedState t None kept.state ∷ [];
+    added = Gave old.seat (val.Queue kept.queue) (val.Queue kept.queue) ∷ LoadedCount t 0 ∷ LoadedState t None kept.state ∷ [];
     did = kept.did;
   };
   put_back = inr (kept.read.current, refl);

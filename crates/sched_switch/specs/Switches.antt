@@ -17,16 +17,16 @@ use Rattle.task_words.specs.Views.{PassView, logged}
 use Rattle.word_rule.specs.Own.{IsStill, last_own}
 use Rattle.word_rule.specs.Standing.{is_runnable}
 use Rattle.word_steps.specs.Folds.{current_task}
-use Rattle.word_steps.specs.Records.{Rec, Took, Gave, Dequeued, SetBusy, ClearedBusy, LoadedState}
+use Rattle.word_steps.specs.Records.{Rec, Took, Gave, Dequeued, SetBusy, ClearedBusy, LoadedState, LoadedCount}
 use Rattle.word_steps.specs.declared.val.Val.TheVariants as val
 
 -- the queue of a processor once its task t has left the processor
 abbrev pub left_by : ℕ → Queue → Queue
 left_by t queue = record queue { cur = None; left = Some t }
 
--- under the lock of the own queue the state of the current task was read
+-- under the lock of the own queue the state of the current task was read, and its migrate-disable level, as 0
 abbrev pub looked : ℕ → ℕ → State → Queue → List Rec → List Rec
-looked s t state queue trace = LoadedState t None state ∷ Took s (val.Queue queue) ∷ trace
+looked s t state queue trace = LoadedCount t 0 ∷ LoadedState t None state ∷ Took s (val.Queue queue) ∷ trace
 
 -- The current task t was read as in this state: the one that its seat has stored last since it picked it, if it has
 -- stored any, unless it was woken since; nobody wakes the dead.

@@ -16,7 +16,7 @@ use crate::picking::pick;
 use core_data::QueueVal;
 use handoff_data::{State, TaskNo};
 use std::sync::Wait;
-use task_words::{Kept, Pass, Wk, clear_busy, dequeue_task, load_state, lock_queue};
+use task_words::{Kept, Pass, Wk, clear_busy, dequeue_task, load_count, load_state, lock_queue};
 
 // Whether a task in this state goes on running.
 fn goes_on(state: State) -> bool
@@ -61,6 +61,8 @@ pub fn switch_out<B: Kept, R: Wait>(
     // read, and the task goes on, or the waker finds it off its queue. (Bars: the state before the lock.)
     let mut queue = lock_queue(rt, wk, pass, c);
     let state = load_state(wk, pass, t);
+    // Who gives its task up has to know its level: at 0 any seat may move it from then on, and it may die.
+    load_count(wk, pass, t);
     if goes_on(state) {
         if stays_alone(next, queue.val_mut(wk).get()) {
             queue.give_as_taken(wk, pass);
