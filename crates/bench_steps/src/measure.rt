@@ -6,18 +6,16 @@ ghost use Rattle.task_words.specs.Views.{IsOf};
 
 use crate::own::{Body, Match, OwnStep, SetRunning, SetState, Turn, begin_own, repeat_own};
 use crate::placing::{Placing, Run, SetCpu, place_often};
-use crate::plain::{
-    OneAdd, OneBody, OneLoad, OneLock, OneRound, OneStart, OneStore, OneTurn, Plain, PlainWords,
-    repeat_plain,
-};
+use crate::plain::{OneAdd, OneBody, OneLoad, OneLock, OneRound, OneStart, OneStore, OneTurn};
 use crate::starts::{Round, Start, Started, TASKS, start_all};
 use crate::step::{Step, repeat};
 use crate::steps::{Bump, Busy, Cond, Cpu, Level, Queue, Rq, State, Task, WaitQueue, Works};
 use crate::table::{small_seat, small_table};
 use std::rt::Runtime;
 use std::sync::Wait;
-use std::time::{Duration, Instant};
+use std::time::Instant;
 use task_words::{Pass, Wk};
+use uses_words::plain::{Plain, each, time_plain};
 
 /// Nanoseconds of one step, and of the plain operations beside it.
 #[derive(Clone, Copy, Drop)]
@@ -83,18 +81,6 @@ pub fn pick<R: Runtime + AllocGlobal + Wait>(rt: &R, name: &str, count: u32) -> 
         "round" => time_starts::<Round, OneRound, R>(rt, count),
         _ => None,
     }
-}
-
-// Nanoseconds of one of so many.
-fn each(took: Duration, count: u32) -> f64 {
-    took.as_secs_f64() * 1e9 / f64::from(count)
-}
-
-fn time_plain<P: Plain, R: Runtime>(rt: &R, count: u32) -> Option<f64> {
-    let words = PlainWords::new();
-    let begun = Instant::now(rt).ok()?;
-    repeat_plain::<P>(&words, count);
-    Some(each(begun.elapsed(rt).ok()?, count))
 }
 
 // A step of a seat that holds nothing.

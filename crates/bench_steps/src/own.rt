@@ -5,6 +5,7 @@ ghost use Rattle.task_words.specs.Seats.{IsBetween, IsRunning};
 ghost use Rattle.task_words.specs.Views.{IsOf, IsSame, IsOneSeat};
 
 use handoff_data::State;
+use run_queue::Start;
 use std::sync::Wait;
 use task_words::{Pass, Wk, match_state, set_running, set_state};
 use uses_words::{pick, put_back, run, start};
@@ -48,9 +49,9 @@ pub fn begin_own<R: Wait>(rt: &R, wk: &Wk<()>, pass: &mut Pass, dozes: bool) -> 
     ensures running { result ≡ true → IsRunning 0 pass.new }
 {
     pass.clear_turn();
-    if !start(rt, wk, pass, 0) {
+    let Start::Started { .. } = start(rt, wk, pass, 0, 0) else {
         return false;
-    }
+    };
     pass.clear_turn();
     match pick(rt, wk, pass) {
         Some(0) if dozes => {

@@ -1,48 +1,7 @@
-//! The plain atomic operations that steps stand beside, on words of their own.
+//! The plain atomic operations that steps stand beside.
 use std::sync::atomic::AtomicU64;
 use std::sync::atomic::Ordering::SeqCst;
-
-/// Words like those of one task and of the processor that it is on.
-#[derive(Drop)]
-pub struct PlainWords {
-    task_lock: AtomicU64,
-    body: AtomicU64,
-    state: AtomicU64,
-    rq: AtomicU64,
-    busy: AtomicU64,
-    cpu: AtomicU64,
-    level: AtomicU64,
-    queue_lock: AtomicU64,
-}
-
-impl PlainWords {
-    pub fn new() -> PlainWords {
-        PlainWords {
-            task_lock: AtomicU64::new(0),
-            body: AtomicU64::new(0),
-            state: AtomicU64::new(0),
-            rq: AtomicU64::new(0),
-            busy: AtomicU64::new(0),
-            cpu: AtomicU64::new(0),
-            level: AtomicU64::new(0),
-            queue_lock: AtomicU64::new(0),
-        }
-    }
-}
-
-/// One operation, or those of one step in their order.
-pub trait Plain {
-    fn once(words: &PlainWords);
-}
-
-/// Makes it so many times. A call that stands alone: else the compiler sees that no other thread has the words, and
-/// leaves stores and loads out.
-#[inline(never)]
-pub fn repeat_plain<P: Plain>(words: &PlainWords, count: u32) {
-    for _ in 0..count {
-        P::once(words);
-    }
-}
+use uses_words::plain::{Plain, PlainWords, give, lock};
 
 pub struct OneLoad;
 
@@ -120,15 +79,6 @@ impl Plain for OneRound {
     }
 }
 
-// Takes a lock, that is free.
-fn lock(word: &AtomicU64) {
-    let _ = word.compare_exchange(0, 1, SeqCst, SeqCst);
-}
-
-fn give(word: &AtomicU64) {
-    word.store(0, SeqCst);
-}
-
 // The next number of a word.
 fn change(word: &AtomicU64) {
     let found = word.load(SeqCst);
@@ -137,10 +87,11 @@ fn change(word: &AtomicU64) {
 
 fn start(words: &PlainWords) {
     lock(&words.task_lock);
+    words.state.load(SeqCst);
     words.cpu.load(SeqCst);
+    words.state.store(0, SeqCst);
     lock(&words.queue_lock);
     change(&words.rq);
-    words.state.store(0, SeqCst);
     give(&words.queue_lock);
     give(&words.task_lock);
 }

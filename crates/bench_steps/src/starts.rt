@@ -39,13 +39,28 @@ pub fn start_all<S: Start, R: Wait>(rt: &R, wk: &Wk<()>, pass: &mut Pass) -> boo
     true
 }
 
+// Starts a task on the processor 0; whether it was new.
+fn start_one<R: Wait>(rt: &R, wk: &Wk<()>, pass: &mut Pass, t: TaskNo) -> bool
+    requires of { IsOf wk.now pass.old }
+    requires task { t < wk.now.shape.tasks }
+    requires processor { pass.old.seat < wk.now.shape.cpus }
+    requires between { IsBetween pass.old }
+    ensures same { IsOneSeat pass.old pass.new }
+    ensures between { IsBetween pass.new }
+{
+    pass.clear_turn();
+    match start(rt, wk, pass, t, 0) {
+        run_queue::Start::Started { .. } => true,
+        run_queue::Start::NotNew { .. } => false,
+    }
+}
+
 /// It is started.
 pub struct Started;
 
 impl Start for Started {
     fn once<R: Wait>(rt: &R, wk: &Wk<()>, pass: &mut Pass, t: TaskNo) -> bool {
-        pass.clear_turn();
-        start(rt, wk, pass, t)
+        start_one(rt, wk, pass, t)
     }
 }
 
@@ -54,8 +69,7 @@ pub struct Round;
 
 impl Start for Round {
     fn once<R: Wait>(rt: &R, wk: &Wk<()>, pass: &mut Pass, t: TaskNo) -> bool {
-        pass.clear_turn();
-        if !start(rt, wk, pass, t) {
+        if !start_one(rt, wk, pass, t) {
             return false;
         }
         pass.clear_turn();

@@ -5,13 +5,13 @@ ghost use Rattle.bench_steps.specs.Small.{IsSmall};
 ghost use Rattle.task_words.specs.Seats.{IsBetween};
 ghost use Rattle.task_words.specs.Views.{IsOf};
 
-use handoff_data::{NoMemory, Shape};
+use handoff_data::NoMemory;
 use std::alloc::Global;
 use task_words::{Pass, Wk};
+use uses_words::{begin, one_seat};
 
 /// A table of so many processors and tasks, and of one condition, with the passes of its seats. Answers `NoMemory`
 /// where memory runs out.
-#[tactic(auto, using(uses_words::proofs::Begin::firsts_between))]
 pub fn small_table(alloc: Global, cpus: u32, tasks: u32) -> Result<(Wk<()>, Vec<Pass>), NoMemory>
     requires cpus { (0 < cpus) × (cpus ≤ 16) }
     requires tasks { (0 < tasks) × (tasks ≤ 200) }
@@ -21,15 +21,7 @@ pub fn small_table(alloc: Global, cpus: u32, tasks: u32) -> Result<(Wk<()>, Vec<
     ensures tasks { IfOk result (λ r. r.0.shape.tasks ≡ tasks) }
     ensures cpus { IfOk result (λ r. r.0.shape.cpus ≡ cpus) }
 {
-    let shape = Shape {
-        cpus,
-        caches: 1,
-        tasks,
-        conds: 1,
-        agents: 0,
-    };
-    let bodies = Vec::from_elem(alloc, (), tasks as usize)?;
-    Wk::new(alloc, &shape, bodies)
+    begin(alloc, cpus, tasks, 1, ())
 }
 
 /// A table of one processor, one task and one condition, with the pass of its seat.
@@ -38,9 +30,5 @@ pub fn small_seat(alloc: Global) -> Option<(Wk<()>, Pass)>
     ensures between { IfSome result (λ r. IsBetween r.1) }
     ensures small { IfSome result (λ r. IsSmall r.0.shape) }
 {
-    let Ok((wk, mut passes)) = small_table(alloc, 1, 1) else {
-        return None;
-    };
-    let pass = passes.pop()?;
-    Some((wk, pass))
+    one_seat(alloc, 1, 1, ())
 }

@@ -1,48 +1,8 @@
-//! The plain atomic operations of each kind of wake-up and walk, in their order, on words of their own. A lock taken is
-//! one compare-exchange, and a lock given one store.
+//! The plain atomic operations of each kind of wake-up and walk, in their order. A lock taken is one compare-exchange,
+//! and a lock given one store.
 use handoff_data::State;
-use std::sync::atomic::AtomicU64;
 use std::sync::atomic::Ordering::SeqCst;
-
-/// Words like those of one task, of the processor that it is on, and of one condition.
-#[derive(Drop)]
-pub struct PlainWords {
-    task_lock: AtomicU64,
-    state: AtomicU64,
-    rq: AtomicU64,
-    busy: AtomicU64,
-    cpu: AtomicU64,
-    queue_lock: AtomicU64,
-    wait_lock: AtomicU64,
-}
-
-impl PlainWords {
-    pub fn new() -> PlainWords {
-        PlainWords {
-            task_lock: AtomicU64::new(0),
-            state: AtomicU64::new(0),
-            rq: AtomicU64::new(0),
-            busy: AtomicU64::new(0),
-            cpu: AtomicU64::new(0),
-            queue_lock: AtomicU64::new(0),
-            wait_lock: AtomicU64::new(0),
-        }
-    }
-}
-
-/// The operations of one wake-up, or of one walk.
-pub trait Plain {
-    fn once(words: &PlainWords);
-}
-
-/// Makes them so many times. A call that stands alone: else the compiler sees that no other thread has the words, and
-/// leaves stores and loads out.
-#[inline(never)]
-pub fn repeat_plain<P: Plain>(words: &PlainWords, count: u32) {
-    for _ in 0..count {
-        P::once(words);
-    }
-}
+use uses_words::plain::{Plain, PlainWords, give, lock};
 
 /// Of a task that is off every queue: four loads, three compare-exchanges and four stores.
 pub struct Queued;
@@ -130,13 +90,4 @@ fn queue(words: &PlainWords) {
     words.state.store(0, SeqCst);
     give(&words.queue_lock);
     give(&words.task_lock);
-}
-
-// Takes a lock, that is free.
-fn lock(word: &AtomicU64) {
-    let _ = word.compare_exchange(0, 1, SeqCst, SeqCst);
-}
-
-fn give(word: &AtomicU64) {
-    word.store(0, SeqCst);
 }

@@ -7,12 +7,13 @@ ghost use Rattle.task_words.specs.Views.{IsOf, IsOneSeat};
 use crate::calls::wake_one;
 use crate::plain;
 use crate::table::lone_table;
-use crate::took::{Took, each, time_plain};
+use crate::took::Took;
 use std::rt::Runtime;
 use std::sync::Wait;
 use std::time::Instant;
 use task_words::{Pass, Wk};
 use ttwu_core::Wake;
+use uses_words::plain::{each, time_plain};
 
 /// A new task is woken so many times.
 pub fn refused<R: Runtime + AllocGlobal + Wait>(rt: &R, count: u32) -> Option<Took> {

@@ -5,13 +5,13 @@ ghost use Rattle.task_words.specs.Seats.{IsBetween};
 ghost use Rattle.task_words.specs.Views.{IsOf, IsOneSeat};
 
 use crate::calls::start_one;
-use crate::plain::Plain;
 use crate::table::lone_table;
-use crate::took::{Took, each, time_clock, time_plain};
+use crate::took::{Took, time_clock};
 use std::rt::Runtime;
 use std::sync::Wait;
 use std::time::Instant;
 use task_words::{Pass, Wk};
+use uses_words::plain::{Plain, each, time_plain};
 
 /// How many tasks the table has. Their words and slots stay in the first cache, and a round with all is long beside a
 /// look at the clock.

@@ -5,25 +5,21 @@ ghost use Rattle.task_words.specs.Views.{IsOf};
 
 use crate::calls::{start_one, wake_one};
 use crate::plain;
-use crate::table::new_table;
-use crate::took::{Took, each, time_plain};
+use crate::took::Took;
 use handoff_data::State;
 use std::rt::Runtime;
 use std::sync::Wait;
 use std::time::Instant;
 use task_words::{Pass, Wk, set_state};
 use ttwu_core::{How, Wake};
-use uses_words::pick;
+use uses_words::plain::{each, time_plain};
+use uses_words::{pick, two_seats};
 
 /// A task that another seat runs is woken so many times, each time after it has stored TASK_INTERRUPTIBLE as its own
 /// state. The time of as many of these stores alone is taken off.
 pub fn runnable<R: Runtime + AllocGlobal + Wait>(rt: &R, count: u32) -> Option<Took> {
-    let Ok((wk, mut passes)) = new_table(rt.alloc(), 2, 1, 0) else {
-        return None;
-    };
-    let mut sleeper = passes.pop()?;
-    let mut waker = passes.pop()?;
-    if sleeper.seat() > 1 || !begin(rt, &wk, &mut waker, &mut sleeper) {
+    let (wk, mut waker, mut sleeper) = two_seats(rt.alloc(), 1, 0, ())?;
+    if !begin(rt, &wk, &mut waker, &mut sleeper) {
         return None;
     }
     let begun = Instant::now(rt).ok()?;

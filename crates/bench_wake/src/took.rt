@@ -1,28 +1,15 @@
 //! Times.
 ghost use Rattle.std.specs.Prelude.{◌≡◌};
 
-use crate::plain::{Plain, PlainWords, repeat_plain};
 use std::rt::Runtime;
-use std::time::{Duration, Instant};
+use std::time::Instant;
+use uses_words::plain::each;
 
 /// Nanoseconds of one wake-up, and of its plain operations.
 #[derive(Clone, Copy, Drop)]
 pub struct Took {
     pub wake: f64,
     pub plain: f64,
-}
-
-/// Nanoseconds of one of so many.
-pub fn each(took: Duration, count: u32) -> f64 {
-    took.as_secs_f64() * 1e9 / f64::from(count)
-}
-
-/// Nanoseconds of the plain operations of one wake-up.
-pub fn time_plain<P: Plain, R: Runtime>(rt: &R, count: u32) -> Option<f64> {
-    let words = PlainWords::new();
-    let begun = Instant::now(rt).ok()?;
-    repeat_plain::<P>(&words, count);
-    Some(each(begun.elapsed(rt).ok()?, count))
 }
 
 /// Nanoseconds between two looks at the clock, one after the other: the least of a hundred.

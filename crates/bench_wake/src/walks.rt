@@ -1,15 +1,16 @@
 //! Walks along wait queues, each of whose entries is of a task that sleeps.
 ghost use Rattle.std.specs.Prelude.{◌≡◌, ◌<◌, true};
 ghost use Rattle.bench_wake.specs.Ready.{IsReady, IsRoom};
-ghost use Rattle.task_words.specs.Seats.{IsBetween};
-ghost use Rattle.task_words.specs.Views.{IsOf, IsOneSeat};
+ghost use Rattle.task_words.specs.Seats.{IsBetween, IsRunning};
+ghost use Rattle.task_words.specs.Views.{IsOf, IsSame, IsOneSeat};
 
 use crate::calls::walk_one;
 use crate::rounds::{CONDS, Round};
-use handoff_data::CondNo;
+use handoff_data::{CondNo, State, TaskNo};
 use std::sync::Wait;
 use task_words::{Pass, Wk, load_cond};
-use uses_words::{pick, sleep};
+use uses_words::{pick, switch_out};
+use wait_queue::prepare;
 
 /// No task sleeps at any condition.
 pub struct Empty;
@@ -86,11 +87,22 @@ fn sleep_at<R: Wait>(rt: &R, wk: &Wk<()>, pass: &mut Pass, k: CondNo) -> bool
     let Some(t) = pick(rt, wk, pass) else {
         return false;
     };
-    let seen = load_cond(wk, pass, k);
-    if pass.spare() < 12 {
+    enter(rt, wk, pass, t, k);
+    if load_cond(wk, pass, k) != 0 || pass.spare() < 12 {
         return false;
     }
-    sleep(rt, wk, pass, t, k, seen)
+    switch_out(rt, wk, pass, t)
+}
+
+// Puts an entry of the current task into the wait queue, and stores that it sleeps.
+fn enter<R: Wait>(rt: &R, wk: &Wk<()>, pass: &mut Pass, t: TaskNo, k: CondNo)
+    requires of { IsOf wk.now pass.old }
+    requires condition { k < wk.now.shape.conds }
+    requires running { IsRunning t pass.old }
+    ensures same { IsSame pass.old pass.new }
+    ensures running { IsRunning t pass.new }
+{
+    prepare(rt, wk, pass, k, false, State::TASK_INTERRUPTIBLE);
 }
 
 // Whether a walk at each condition woke so many tasks.

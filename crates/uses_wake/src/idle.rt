@@ -1,28 +1,16 @@
 //! Calls of a seat with no current task.
 ghost use Rattle.std.specs.Prelude.{◌<◌, ◌≤◌};
-ghost use Rattle.task_words.specs.Needs.{need_call, need_wake, need_walk};
+ghost use Rattle.task_words.specs.Needs.{need_wake, need_walk};
 ghost use Rattle.task_words.specs.Seats.{IsBetween};
 ghost use Rattle.task_words.specs.States.{IsWakeMask};
+ghost use Rattle.task_words.specs.Steps.{normal};
 ghost use Rattle.task_words.specs.Views.{IsOf, IsSameSeat};
+ghost use Rattle.ttwu_core.specs.Wakes.{DidWake};
 
-use handoff_data::{CondNo, CpuNo, State, TaskNo};
-use run_queue::Start;
+use handoff_data::{CondNo, State, TaskNo};
 use std::sync::Wait;
 use task_words::{Kept, Pass, Wk};
 use ttwu_core::Wake;
-
-/// Starts a new task on a processor.
-pub fn start<B: Kept, R: Wait>(rt: &R, wk: &Wk<B>, pass: &mut Pass, t: TaskNo, c: CpuNo) -> Start
-    requires of { IsOf wk.now pass.old }
-    requires task { t < wk.now.shape.tasks }
-    requires processor { c < wk.now.shape.cpus }
-    requires between { IsBetween pass.old }
-    requires spare { need_call ≤ pass.old.turn.spare }
-    ensures same { IsSameSeat pass.old pass.new }
-    ensures between { IsBetween pass.new }
-{
-    run_queue::start(rt, wk, pass, t, c)
-}
 
 /// Wakes a task that sleeps as TASK_NORMAL says.
 pub fn wake<B: Kept, R: Wait>(rt: &R, wk: &Wk<B>, pass: &mut Pass, t: TaskNo) -> Wake
@@ -31,6 +19,7 @@ pub fn wake<B: Kept, R: Wait>(rt: &R, wk: &Wk<B>, pass: &mut Pass, t: TaskNo) ->
     requires between { IsBetween pass.old }
     requires spare { need_wake ≤ pass.old.turn.spare }
     ensures same { IsSameSeat pass.old pass.new }
+    ensures did { DidWake t normal wk.now.shape pass.old pass.new result }
     ensures between { IsBetween pass.new }
 {
     wake_by(rt, wk, pass, t, State::TASK_NORMAL)
@@ -50,6 +39,7 @@ pub fn wake_by<B: Kept, R: Wait>(
     requires between { IsBetween pass.old }
     requires spare { need_wake ≤ pass.old.turn.spare }
     ensures same { IsSameSeat pass.old pass.new }
+    ensures did { DidWake t mask wk.now.shape pass.old pass.new result }
     ensures between { IsBetween pass.new }
 {
     ttwu_core::wake(rt, wk, pass, t, mask)

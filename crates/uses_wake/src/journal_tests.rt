@@ -4,13 +4,12 @@ ghost use Rattle.task_words.specs.Folds.{journal};
 ghost use Rattle.task_words.specs.Seats.{IsBetween};
 ghost use Rattle.task_words.specs.Views.{IsOf, IsOneSeat};
 
-use crate::seats::one_seat;
-use crate::start;
 use handoff_data::Entry;
 use std::process::Abort;
 use std::sync::Wait;
 use std::test::Fail;
 use task_words::{Kept, Pass, Wk};
+use uses_words::{one_seat, start};
 
 // Starts the task 0 with an empty turn, whose entries are then all that the journal gained; the first of them.
 fn told_by_start<B: Kept, R: Wait>(rt: &R, wk: &Wk<B>, pass: &mut Pass) -> Option<Entry>
@@ -45,7 +44,9 @@ fn adds<B: Kept, R: Wait + Abort>(rt: &R, wk: &Wk<B>, pass: &mut Pass)
 
 #[test]
 fn a_start_adds_its_turn_to_the_journal(rt: HostRuntime) -> Result<(), Fail> {
-    let (wk, mut pass) = one_seat(rt.alloc(), 1, 0)?;
+    let Some((wk, mut pass)) = one_seat(rt.alloc(), 1, 0, ()) else {
+        return Err(Fail::from("no table"));
+    };
     adds(&rt, &wk, &mut pass);
     Ok(())
 }

@@ -5,7 +5,6 @@ ghost use Rattle.task_words.specs.Seats.{IsBetween, IsRunning};
 ghost use Rattle.task_words.specs.States.{IsWakeMask};
 ghost use Rattle.task_words.specs.Views.{IsOf, IsSame, IsOneSeat};
 
-use crate::seats::two_seats;
 use crate::wait_tests::run_new;
 use crate::wake_by;
 use handoff_data::{State, TaskNo};
@@ -14,7 +13,7 @@ use std::sync::Wait;
 use std::test::Fail;
 use task_words::{Kept, Pass, Wk, body_home, body_out, set_state};
 use ttwu_core::{How, Wake};
-use uses_words::{die, switch_out};
+use uses_words::{die, switch_out, two_seats};
 
 // Takes the body of the current task out and home, which has ended from the start.
 fn end_body(wk: &Wk<()>, pass: &mut Pass, t: TaskNo)
@@ -99,14 +98,18 @@ fn dead<R: Wait + Abort>(rt: &R, wk: &Wk<()>, own: &mut Pass, other: &mut Pass)
 
 #[test]
 fn a_mask_wakes_the_states_that_it_has_a_bit_of(rt: HostRuntime) -> Result<(), Fail> {
-    let (wk, mut own, mut other) = two_seats(rt.alloc(), 1, 0)?;
+    let Some((wk, mut own, mut other)) = two_seats(rt.alloc(), 1, 0, ()) else {
+        return Err(Fail::from("no table"));
+    };
     masks(&rt, &wk, &mut own, &mut other);
     Ok(())
 }
 
 #[test]
 fn nothing_wakes_a_dead_task(rt: HostRuntime) -> Result<(), Fail> {
-    let (wk, mut own, mut other) = two_seats(rt.alloc(), 1, 0)?;
+    let Some((wk, mut own, mut other)) = two_seats(rt.alloc(), 1, 0, ()) else {
+        return Err(Fail::from("no table"));
+    };
     dead(&rt, &wk, &mut own, &mut other);
     Ok(())
 }

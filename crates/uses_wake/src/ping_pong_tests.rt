@@ -5,7 +5,6 @@ ghost use Rattle.task_words.specs.Seats.{IsBetween, IsRunning};
 ghost use Rattle.task_words.specs.Views.{IsOf, IsOneSeat};
 
 use crate::running::{bump_and_wake, finish, prepare};
-use crate::{begin, start};
 use crossbeam_utils::Backoff;
 use handoff_data::{CondNo, TaskNo};
 use std::alloc::AllocError;
@@ -13,7 +12,7 @@ use std::sync::Wait;
 use std::test::Fail;
 use std::thread::{Threads, map_vec};
 use task_words::{Kept, Pass, Wk, load_cond, load_rq};
-use uses_words::{pick, switch_out};
+use uses_words::{begin, pick, start, switch_out};
 
 const ROUNDS: u64 = 1_000_000;
 
@@ -210,7 +209,7 @@ fn play_both<R: Threads + Wait + Sync>(
 
 #[test]
 fn two_tasks_wake_each_other_a_million_times(rt: HostRuntime) -> Result<(), Fail> {
-    let (wk, passes) = begin(rt.alloc(), 2, 2, 2)?;
+    let (wk, passes) = begin(rt.alloc(), 2, 2, 2, ())?;
     let counts = play_both(&rt, &wk, passes)?;
     assert_eq!(rt; counts.len(), 2);
     assert_eq!(rt; counts[0], ROUNDS);

@@ -4,15 +4,14 @@ ghost use Rattle.task_words.specs.Seats.{IsBetween, IsRunning};
 ghost use Rattle.task_words.specs.Views.{IsOf, IsOneSeat};
 
 use crate::running::{self, finish, prepare};
-use crate::seats::{one_seat, two_seats};
-use crate::{bump_and_wake, start, wake_all, wake_some};
+use crate::{bump_and_wake, wake_all, wake_some};
 use handoff_data::{CondNo, State, TaskNo};
 use run_queue::Start;
 use std::process::Abort;
 use std::sync::Wait;
 use std::test::Fail;
 use task_words::{Kept, Pass, Wk, bump_cond, load_cond, load_state};
-use uses_words::{pick, switch_out};
+use uses_words::{one_seat, pick, start, switch_out, two_seats};
 
 /// Starts a task on the processor 0, which picks it; whether it then runs.
 pub fn run_new<B: Kept, R: Wait>(rt: &R, wk: &Wk<B>, pass: &mut Pass, t: TaskNo) -> bool
@@ -147,7 +146,9 @@ fn wakes_itself<B: Kept, R: Wait + Abort>(rt: &R, wk: &Wk<B>, pass: &mut Pass)
 
 #[test]
 fn a_walk_wakes_as_many_exclusive_entries_as_it_is_asked(rt: HostRuntime) -> Result<(), Fail> {
-    let (wk, mut pass) = one_seat(rt.alloc(), 3, 1)?;
+    let Some((wk, mut pass)) = one_seat(rt.alloc(), 3, 1, ()) else {
+        return Err(Fail::from("no table"));
+    };
     walks(&rt, &wk, &mut pass);
     Ok(())
 }
@@ -156,14 +157,18 @@ fn a_walk_wakes_as_many_exclusive_entries_as_it_is_asked(rt: HostRuntime) -> Res
 fn a_task_that_finds_its_condition_raised_leaves_its_wait_queue(
     rt: HostRuntime,
 ) -> Result<(), Fail> {
-    let (wk, mut pass, mut other) = two_seats(rt.alloc(), 1, 1)?;
+    let Some((wk, mut pass, mut other)) = two_seats(rt.alloc(), 1, 1, ()) else {
+        return Err(Fail::from("no table"));
+    };
     finishes(&rt, &wk, &mut pass, &mut other);
     Ok(())
 }
 
 #[test]
 fn a_walk_wakes_the_task_that_makes_it(rt: HostRuntime) -> Result<(), Fail> {
-    let (wk, mut pass) = one_seat(rt.alloc(), 1, 1)?;
+    let Some((wk, mut pass)) = one_seat(rt.alloc(), 1, 1, ()) else {
+        return Err(Fail::from("no table"));
+    };
     wakes_itself(&rt, &wk, &mut pass);
     Ok(())
 }

@@ -4,8 +4,7 @@ ghost use Rattle.task_words.specs.Seats.{IsBetween};
 ghost use Rattle.task_words.specs.Views.{IsOf};
 
 use crate::running::wake_own;
-use crate::seats::{one_seat, two_seats};
-use crate::{start, wake};
+use crate::wake;
 use handoff_data::State;
 use run_queue::Start;
 use std::process::Abort;
@@ -13,7 +12,7 @@ use std::sync::Wait;
 use std::test::Fail;
 use task_words::{Kept, Pass, Wk, set_state};
 use ttwu_core::{How, Wake};
-use uses_words::{pick, switch_out};
+use uses_words::{one_seat, pick, start, switch_out, two_seats};
 
 // Starts the task 0 on the processor 0, which then runs it. It is woken by its own seat, by another while it is still
 // queued, and by another once it has left its queue.
@@ -70,14 +69,18 @@ fn starts<B: Kept, R: Wait + Abort>(rt: &R, wk: &Wk<B>, pass: &mut Pass)
 
 #[test]
 fn a_new_task_is_started_once_and_not_woken_before(rt: HostRuntime) -> Result<(), Fail> {
-    let (wk, mut pass) = one_seat(rt.alloc(), 1, 0)?;
+    let Some((wk, mut pass)) = one_seat(rt.alloc(), 1, 0, ()) else {
+        return Err(Fail::from("no table"));
+    };
     starts(&rt, &wk, &mut pass);
     Ok(())
 }
 
 #[test]
 fn a_wake_tells_how_it_found_the_task(rt: HostRuntime) -> Result<(), Fail> {
-    let (wk, mut own, mut other) = two_seats(rt.alloc(), 1, 0)?;
+    let Some((wk, mut own, mut other)) = two_seats(rt.alloc(), 1, 0, ()) else {
+        return Err(Fail::from("no table"));
+    };
     wakes(&rt, &wk, &mut own, &mut other);
     Ok(())
 }

@@ -1,3 +1,3 @@
-pub mod Begin
 pub mod Closes
+pub mod FirstPasses
 pub mod Shapes

@@ -1,13 +1,12 @@
 //! Each task of a table dies: the journals are one legal history.
-ghost use Rattle.std.specs.Prelude.{◌≡◌, ◌<◌, ◌∷◌, [], true, map, IfOk, IfSome, MatchOption};
-ghost use Rattle.std.specs.List.{All};
+ghost use Rattle.std.specs.Prelude.{◌≡◌, ◌<◌, true, IfOk, IfSome, MatchOption};
 ghost use Rattle.task_words.specs.Seats.{IsBetween, IsRunning};
 ghost use Rattle.task_words.specs.Views.{IsOf, IsOneSeat};
 
-use crate::telling::tell;
-use crate::{Turns, die, move_to, pick, put_back, run_turn, start};
-use handoff_data::{Journal, Journals, NoMemory, Shape, State, TaskNo};
+use crate::{Turns, close_both, die, move_to, pick, put_back, run_turn, start, tell, two_seats};
+use handoff_data::{Journal, Journals, NoMemory, State, TaskNo};
 use journal_legal::{Verdict, legal};
+use run_queue::Start;
 use std::alloc::Global;
 use std::sync::Wait;
 use std::test::Fail;
@@ -24,7 +23,7 @@ fn begin<R: Wait>(rt: &R, wk: &Wk<Turns>, pass: &mut Pass, t: TaskNo) -> bool
     ensures same { IsOneSeat pass.old pass.new }
     ensures between { IsBetween pass.new }
 {
-    if pass.spare() < 8 || !start(rt, wk, pass, t) {
+    if pass.spare() < 8 || start(rt, wk, pass, t, 0) != (Start::Started { m: 1 }) {
         return false;
     }
     t % 2 == 0 || pass.spare() >= 12 && move_to(rt, wk, pass, t, 1)
@@ -118,28 +117,6 @@ fn run_all<R: Wait>(
     Ok(false)
 }
 
-/// A table of two processors and one condition, whose four tasks have two turns to run, and its passes.
-#[tactic(auto, using(crate::proofs::Begin::firsts_between))]
-pub(crate) fn two_seats(alloc: Global) -> Result<(Wk<Turns>, Vec<Pass>), NoMemory>
-    ensures of { IfOk result (λ r. All (IsOf r.0) r.1.items) }
-    ensures between { IfOk result (λ r. All IsBetween r.1.items) }
-    ensures seats { IfOk result (λ r. map (λ p. p.seat) r.1.items ≡ 0 ∷ 1 ∷ []) }
-    ensures cpus { IfOk result (λ r. r.0.shape.cpus ≡ 2) }
-    ensures agents { IfOk result (λ r. r.0.shape.agents ≡ 0) }
-    ensures tasks { IfOk result (λ r. r.0.shape.tasks ≡ 4) }
-    ensures conditions { IfOk result (λ r. r.0.shape.conds ≡ 1) }
-{
-    let shape = Shape {
-        cpus: 2,
-        caches: 1,
-        tasks: TASKS,
-        conds: 1,
-        agents: 0,
-    };
-    let bodies = Vec::from_elem(alloc, Turns { left: 2 }, TASKS as usize)?;
-    Wk::new(alloc, &shape, bodies)
-}
-
 // The verdict on the journals of both seats.
 fn judge(alloc: Global, first: Journal, second: Journal) -> Result<Verdict, NoMemory> {
     let mut seats = Vec::with_capacity(alloc, 2)?;
@@ -181,36 +158,10 @@ fn run_both<R: Wait>(
     Ok(Some(judge(alloc, of_first, of_second)?))
 }
 
-fn pair(alloc: Global, first: Pass, second: Pass) -> Result<Vec<Pass>, NoMemory>
-    ensures { IfOk result (λ v. v.items ≡ first ∷ second ∷ []) }
-{
-    let mut passes = Vec::with_capacity(alloc, 2)?;
-    passes.push_reserved(first);
-    passes.push_reserved(second);
-    Ok(passes)
-}
-
-/// What is left of a table of two seats.
-pub(crate) fn close_both(
-    alloc: Global,
-    wk: Wk<Turns>,
-    first: Pass,
-    second: Pass,
-) -> Result<Closed<Turns>, NoMemory>
-    requires of { IsOf wk first × IsOf wk second }
-    requires seats { (first.seat ≡ 0) × (second.seat ≡ 1) }
-    requires cpus { wk.shape.cpus ≡ 2 }
-    requires agents { wk.shape.agents ≡ 0 }
-    requires between { IsBetween first × IsBetween second }
-{
-    let passes = pair(alloc, first, second)?;
-    Ok(wk.close(passes))
-}
-
 // What is left of the table, and the verdict on its journals.
 fn outcome<R: Wait>(rt: &R, alloc: Global) -> Result<Option<(Closed<Turns>, Verdict)>, NoMemory> {
-    let (wk, mut passes) = two_seats(alloc)?;
-    let (Some(mut second), Some(mut first)) = (passes.pop(), passes.pop()) else {
+    let body = Turns { left: 2 };
+    let Some((wk, mut first, mut second)) = two_seats(alloc, TASKS, 1, body) else {
         return Ok(None);
     };
     let Some(verdict) = run_both(rt, alloc, &wk, &mut first, &mut second)? else {

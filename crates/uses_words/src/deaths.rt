@@ -30,7 +30,7 @@ pub fn die<B: Kept, R: Wait>(rt: &R, wk: &Wk<B>, pass: &mut Pass, t: TaskNo)
     let c = pass.seat();
     let mut queue = lock_queue(rt, wk, pass, c);
     load_state(wk, pass, t);
-    // a task that dies with migration disabled would be counted on its processor for good
+    // A task that dies with migration disabled would be counted on its processor for good.
     load_count(wk, pass, t);
     dequeue_task(rt, wk, pass, t, true);
     queue.val_mut(wk).set_cur(None);

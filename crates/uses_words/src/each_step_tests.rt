@@ -3,12 +3,13 @@ ghost use Rattle.std.specs.Prelude.{◌≡◌, ◌<◌, true};
 ghost use Rattle.task_words.specs.Seats.{IsBetween, IsRunning};
 ghost use Rattle.task_words.specs.Views.{IsOf, IsOneSeat};
 
-use crate::death_tests::{close_both, two_seats};
+use crate::single_steps::{sleep, wake};
 use crate::{
-    Turns, copy_wake_cpu, count_works, die, move_to, pick, put_back, run_turn, sleep, start,
-    start_new, swap_wake_cpus, switch_out, wake,
+    Turns, close_both, copy_wake_cpu, count_works, die, move_to, pick, put_back, run_turn, start,
+    start_new, swap_wake_cpus, switch_out, two_seats,
 };
 use handoff_data::{Entry, NoMemory, State};
+use run_queue::Start;
 use std::alloc::Global;
 use std::sync::Wait;
 use std::test::Fail;
@@ -23,7 +24,7 @@ fn begin<R: Wait>(rt: &R, wk: &Wk<Turns>, pass: &mut Pass) -> bool
     ensures same { IsOneSeat pass.old pass.new }
     ensures between { IsBetween pass.new }
 {
-    if pass.spare() < 8 || !start(rt, wk, pass, 0) {
+    if pass.spare() < 8 || start(rt, wk, pass, 0, 0) != (Start::Started { m: 1 }) {
         return false;
     }
     if pass.spare() < 8 || !start_new(rt, wk, pass, 1) {
@@ -42,7 +43,7 @@ fn hint<R: Wait>(rt: &R, wk: &Wk<Turns>, pass: &mut Pass) -> bool
     ensures between { IsBetween pass.new }
 {
     copy_wake_cpu(rt, wk, pass, 0, 1);
-    swap_wake_cpus(rt, wk, pass, 0, 1);
+    swap_wake_cpus(rt, wk, pass, 1, 0);
     count_works(rt, wk, pass, 1) == 0
 }
 
@@ -239,8 +240,8 @@ fn tells_second(turn: &Turn) -> bool {
 
 // What is left of the table; None where a step or an entry is another one.
 fn outcome<R: Wait>(rt: &R, alloc: Global) -> Result<Option<Closed<Turns>>, NoMemory> {
-    let (wk, mut passes) = two_seats(alloc)?;
-    let (Some(mut second), Some(mut first)) = (passes.pop(), passes.pop()) else {
+    let body = Turns { left: 2 };
+    let Some((wk, mut first, mut second)) = two_seats(alloc, 4, 1, body) else {
         return Ok(None);
     };
     if !live(rt, &wk, &mut first, &mut second) {

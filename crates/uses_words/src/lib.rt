@@ -2,6 +2,7 @@
 #![tactic(auto)]
 
 mod bodies;
+mod closing;
 #[cfg(test)]
 mod death_tests;
 mod deaths;
@@ -9,24 +10,24 @@ mod deaths;
 mod each_step_tests;
 mod locks;
 mod moves;
-#[cfg(test)]
-mod random_tests;
+mod opening;
+pub mod plain;
 #[cfg(test)]
 mod run_tests;
 mod runs;
-mod sleeps;
 #[cfg(test)]
-mod step_tests;
-#[cfg(test)]
+mod single_steps;
+mod switching;
 mod telling;
 mod threads;
-mod wakes;
 
 pub use bodies::{Turns, run_turn};
+pub use closing::{close_both, close_one};
 pub use deaths::die;
 pub use locks::{copy_wake_cpu, count_works, swap_wake_cpus};
 pub use moves::move_to;
+pub use opening::{begin, one_seat, two_seats};
 pub use runs::{pick, put_back, run, start, start_new};
-pub use sleeps::{sleep, switch_out};
+pub use switching::switch_out;
+pub use telling::tell;
 pub use threads::both;
-pub use wakes::wake;

@@ -51,12 +51,35 @@ pub fn copy_wake_cpu<B: Kept, R: Wait>(
     ensures free { (task_held pass.new.trace from ≡ None) × (task_held pass.new.trace to ≡ None) }
     ensures between { IsBetween pass.old → IsBetween pass.new }
 {
-    let mut source = lock_task(rt, wk, pass, from);
-    let mut target = lock_task(rt, wk, pass, to);
-    let hint = hint_of(wk, &mut source);
-    set_hint(wk, &mut target, hint);
-    source.give(wk, pass);
-    target.give(wk, pass);
+    // The lower number first, as every caller that takes two tasks' locks: else one copy each way at once would wait
+    // for each other for good.
+    if from < to {
+        let mut source = lock_task(rt, wk, pass, from);
+        let mut target = lock_task(rt, wk, pass, to);
+        copy_hint(wk, &mut source, &mut target);
+        source.give(wk, pass);
+        target.give(wk, pass);
+    } else {
+        let mut target = lock_task(rt, wk, pass, to);
+        let mut source = lock_task(rt, wk, pass, from);
+        copy_hint(wk, &mut source, &mut target);
+        target.give(wk, pass);
+        source.give(wk, pass);
+    }
+}
+
+// Copies the hint of one task to another, both of whose locks are held.
+fn copy_hint<B: Kept>(wk: &Wk<B>, source: &mut TaskGuard<B>, target: &mut TaskGuard<B>)
+    requires tables { (source.old.of ≡ wk.now.name) × (target.old.of ≡ wk.now.name) }
+    ensures tables { (source.new.of ≡ source.old.of) × (target.new.of ≡ target.old.of) }
+    ensures tasks { (source.new.task ≡ source.old.task) × (target.new.task ≡ target.old.task) }
+    ensures kept { IsKept source.old.val source.new.val × IsKept target.old.val target.new.val }
+    ensures dests { (source.new.val.dest ≡ source.old.val.dest) × (target.new.val.dest ≡ target.old.val.dest) }
+    ensures hint { target.new.val.wake_cpu ≡ source.old.val.wake_cpu }
+    ensures same { source.new.val.wake_cpu ≡ source.old.val.wake_cpu }
+{
+    let hint = hint_of(wk, source);
+    set_hint(wk, target, hint);
 }
 
 /// Swaps the hints on where two tasks were woken last, under both locks, and gives the lock last that it took first.
@@ -70,6 +93,22 @@ pub fn swap_wake_cpus<B: Kept, R: Wait>(
     requires of { IsOf wk.now pass.old }
     requires tasks { (one < wk.now.shape.tasks) × (other < wk.now.shape.tasks) }
     requires apart { one ≢ other }
+    requires free { (task_held pass.old.trace one ≡ None) × (task_held pass.old.trace other ≡ None) }
+    ensures same { IsSame pass.old pass.new }
+    ensures free { (task_held pass.new.trace one ≡ None) × (task_held pass.new.trace other ≡ None) }
+    ensures between { IsBetween pass.old → IsBetween pass.new }
+{
+    if one < other {
+        swap_upwards(rt, wk, pass, one, other);
+    } else {
+        swap_upwards(rt, wk, pass, other, one);
+    }
+}
+
+// .. of which `one` has the lower number, so that its lock is taken first.
+fn swap_upwards<B: Kept, R: Wait>(rt: &R, wk: &Wk<B>, pass: &mut Pass, one: TaskNo, other: TaskNo)
+    requires of { IsOf wk.now pass.old }
+    requires tasks { (one < other) × (other < wk.now.shape.tasks) }
     requires free { (task_held pass.old.trace one ≡ None) × (task_held pass.old.trace other ≡ None) }
     ensures same { IsSame pass.old pass.new }
     ensures free { (task_held pass.new.trace one ≡ None) × (task_held pass.new.trace other ≡ None) }

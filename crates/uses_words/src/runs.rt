@@ -6,44 +6,28 @@ ghost use Rattle.task_words.specs.Seats.{IsBetween, IsRunning, HoldsNothing};
 ghost use Rattle.task_words.specs.Views.{IsOf, IsSame, IsSameSeat};
 
 use core_data::Rq;
-use handoff_data::{State, TaskNo};
+use handoff_data::{CpuNo, State, TaskNo};
+use run_queue::Start;
 use std::sync::Wait;
 use task_words::{
     Kept, Pass, Wk, body_home, body_out, clear_busy, load_count, load_cpu, load_rq, load_state,
     lock_queue, lock_task, queue_task,
 };
 
-/// Puts a new task at the back of its processor's queue, as Linux's `wake_up_new_task` (`kernel/sched/core.c`); whether
-/// it was new.
-pub fn start<B: Kept, R: Wait>(rt: &R, wk: &Wk<B>, pass: &mut Pass, t: TaskNo) -> bool
+/// Starts a new task on a processor, as Linux's `wake_up_new_task` (`kernel/sched/core.c`).
+pub fn start<B: Kept, R: Wait>(rt: &R, wk: &Wk<B>, pass: &mut Pass, t: TaskNo, c: CpuNo) -> Start
     requires of { IsOf wk.now pass.old }
     requires task { t < wk.now.shape.tasks }
-    requires nothing { HoldsNothing pass.old.trace }
-    requires other { current_task pass.old.seat pass.old.trace ≢ Some t }
+    requires processor { c < wk.now.shape.cpus }
+    requires between { IsBetween pass.old }
     requires spare { need_call ≤ pass.old.turn.spare }
     ensures same { IsSameSeat pass.old pass.new }
-    ensures nothing { HoldsNothing pass.new.trace }
-    ensures current { current_task pass.new.seat pass.new.trace ≡ current_task pass.old.seat pass.old.trace }
-    ensures clear { task_to_clear pass.new.seat pass.new.trace ≡ task_to_clear pass.old.seat pass.old.trace }
-    ensures between { IsBetween pass.old → IsBetween pass.new }
+    ensures between { IsBetween pass.new }
 {
-    let task = lock_task(rt, wk, pass, t);
-    let seen = load_rq(wk, pass, t);
-    if seen.m != 0 {
-        task.give(wk, pass);
-        return false;
-    }
-    let c = load_cpu(wk, pass, t);
-    let mut queue = lock_queue(rt, wk, pass, c);
-    queue_task(rt, wk, pass, &queue, t, Rq { on: 0, m: 0 });
-    queue.push(wk, pass, t);
-    queue.make_runnable(wk, pass, t);
-    queue.give_woken(wk, pass);
-    task.give_queued(wk, pass);
-    true
+    run_queue::start(rt, wk, pass, t, c)
 }
 
-/// Puts a new task at the back of its processor's queue, as `start`, but leaves it TASK_NEW; whether it was new.
+/// Puts a new task at the back of its processor's queue, step by step, but leaves it TASK_NEW; whether it was new.
 pub fn start_new<B: Kept, R: Wait>(rt: &R, wk: &Wk<B>, pass: &mut Pass, t: TaskNo) -> bool
     requires of { IsOf wk.now pass.old }
     requires task { t < wk.now.shape.tasks }
@@ -142,7 +126,7 @@ pub fn put_back<B: Kept, R: Wait>(rt: &R, wk: &Wk<B>, pass: &mut Pass, t: TaskNo
         queue.give_as_taken(wk, pass);
         return false;
     }
-    // read while the task is still the seat's own: once it is given up another seat may move it
+    // Read while the task is still the seat's own: once it is given up another seat may move it.
     load_count(wk, pass, t);
     queue.push(wk, pass, t);
     queue.val_mut(wk).set_cur(None);

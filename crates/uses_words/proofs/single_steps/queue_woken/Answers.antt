@@ -2,7 +2,7 @@ use Rattle.std.proofs.Common.{◌≡◌, ◌∙◌, ℕ, ◌∷◌, List, sym, s
 use Rattle.std.proofs.lemmas.Grind.{common_steps}
 use Rattle.handoff_data.specs.declared.shape.Shape.{Shape}
 use Rattle.uses_words.proofs.Shapes.{queued_here, woken_here}
-use Rattle.uses_words.proofs.wakes.queue_woken.Goals as goal
+use Rattle.uses_words.proofs.single_steps.queue_woken.Goals as goal
 use Rattle.word_rule.specs.Told.{TakenQueue, IsOff}
 use Rattle.word_steps.specs.Folds.{number_read}
 use Rattle.word_steps.specs.Records.{Rec, Took, Queued, MadeRunnable}

@@ -1,25 +1,37 @@
-//! A wake-up, step by step.
-ghost use Rattle.std.specs.Prelude.{◌≡◌, ◌≢◌, ℕ, ◌<◌, ◌≤◌, ◌-◌, true, false, Some, None, IsSome};
+//! A wake-up and a sleep by single steps: what `ttwu_core` and `wait_queue` do, without the waits of a wake-up for a
+//! task that leaves its queue.
+ghost use Rattle.std.specs.Prelude.{◌≡◌, ◌≢◌, ℕ, ◌<◌, ◌≤◌, ◌-◌, ◌∷◌, true, false, Some, None, IsSome};
 ghost use Rattle.core_data.specs.Columns.{put};
-ghost use Rattle.task_words.specs.Folds.{body_held, current_task, is_claimed, has_matched};
-ghost use Rattle.task_words.specs.Folds.{is_moving, last_reads, number_read, queue_held, saw_clear, saw_off};
-ghost use Rattle.task_words.specs.Folds.{task_held, task_to_clear, wait_held, works_held};
+ghost use Rattle.task_words.specs.Folds.{body_held, current_task, is_claimed, has_matched, is_moving, last_reads};
+ghost use Rattle.task_words.specs.Folds.{number_read, queue_held, saw_clear, saw_off, stays_queued, task_held};
+ghost use Rattle.task_words.specs.Folds.{task_to_clear, wait_held, works_held};
 ghost use Rattle.task_words.specs.May.{number_of};
-ghost use Rattle.task_words.specs.Needs.{need_step, need_wake};
-ghost use Rattle.task_words.specs.Seats.{IsBetween};
+ghost use Rattle.task_words.specs.Needs.{need_call, need_step, need_wake};
+ghost use Rattle.task_words.specs.Records.{Gave};
+ghost use Rattle.task_words.specs.Seats.{IsBetween, IsRunning};
+ghost use Rattle.task_words.specs.Told.{TakenWait};
+ghost use Rattle.task_words.specs.Val.TheVariants as val;
 ghost use Rattle.task_words.specs.Views.{IsOf, IsSame, IsSameSeat};
 
+use crate::switch_out;
 use core_data::Rq;
-use handoff_data::{CpuNo, State, TaskNo, matches};
+use handoff_data::{CondNo, CpuNo, State, TaskNo, matches};
 use std::sync::Wait;
 use task_words::{
-    Kept, Pass, TaskGuard, Wk, claim_task, load_cpu, load_rq, lock_queue, lock_task, make_runnable,
-    match_state, queue_task, store_cpu, wait_clear,
+    Kept, Pass, TaskGuard, WaitGuard, Wk, claim_task, load_cond, load_cpu, load_rq, lock_queue,
+    lock_task, lock_wait, make_runnable, match_state, queue_task, set_running, set_state,
+    store_cpu, wait_clear,
 };
 
 /// Wakes a task that sleeps as TASK_NORMAL says, as Linux's `try_to_wake_up` (`kernel/sched/core.c`), on the processor
 /// `to`; whether it did.
-pub fn wake<B: Kept, R: Wait>(rt: &R, wk: &Wk<B>, pass: &mut Pass, t: TaskNo, to: CpuNo) -> bool
+pub(crate) fn wake<B: Kept, R: Wait>(
+    rt: &R,
+    wk: &Wk<B>,
+    pass: &mut Pass,
+    t: TaskNo,
+    to: CpuNo,
+) -> bool
     requires of { IsOf wk.now pass.old }
     requires task { t < wk.now.shape.tasks }
     requires processor { to < wk.now.shape.cpus }
@@ -178,4 +190,79 @@ fn place<B: Kept>(wk: &Wk<B>, pass: &mut Pass, task: &TaskGuard<B>, to: CpuNo)
         return;
     }
     store_cpu(wk, pass, task, to);
+}
+
+/// Puts the current task to sleep until a condition has another value than `seen`, as Linux's `prepare_to_wait`
+/// (`kernel/sched/wait.c`) and `schedule`; whether it sleeps. It doesn't where the condition has changed, or a wake has
+/// come first, or the task has an entry there already.
+pub(crate) fn sleep<B: Kept, R: Wait>(
+    rt: &R,
+    wk: &Wk<B>,
+    pass: &mut Pass,
+    t: TaskNo,
+    k: CondNo,
+    seen: u64,
+) -> bool
+    requires of { IsOf wk.now pass.old }
+    requires processor { pass.old.seat < wk.now.shape.cpus }
+    requires task { t < wk.now.shape.tasks }
+    requires condition { k < wk.now.shape.conds }
+    requires free { wait_held pass.old.trace k ≡ None }
+    requires free_queue { queue_held pass.old.trace pass.old.seat ≡ None }
+    requires current { current_task pass.old.seat pass.old.trace ≡ Some t }
+    requires stays { stays_queued pass.old.trace ≡ true }
+    requires home { body_held pass.old.trace ≡ None }
+    requires spare { need_call ≤ pass.old.turn.spare }
+    ensures same { IsSameSeat pass.old pass.new }
+    ensures slept { result ≡ true → IsRunning t pass.old → IsBetween pass.new }
+    ensures woken { result ≡ false → IsRunning t pass.old → IsRunning t pass.new }
+{
+    if !prepare(rt, wk, pass, t, k) {
+        return false;
+    }
+    if load_cond(wk, pass, k) != seen {
+        set_running(wk, pass);
+        return false;
+    }
+    switch_out(rt, wk, pass, t)
+}
+
+// Puts an entry of the current task in at a condition, and stores that it sleeps, as Linux's
+// `prepare_to_wait`; whether it had none there.
+fn prepare<B: Kept, R: Wait>(rt: &R, wk: &Wk<B>, pass: &mut Pass, t: TaskNo, k: CondNo) -> bool
+    requires of { IsOf wk.now pass.old }
+    requires task { t < wk.now.shape.tasks }
+    requires condition { k < wk.now.shape.conds }
+    requires free { wait_held pass.old.trace k ≡ None }
+    requires current { current_task pass.old.seat pass.old.trace ≡ Some t }
+    requires stays { stays_queued pass.old.trace ≡ true }
+    ensures same { IsSame pass.old pass.new }
+    ensures queues { queue_held pass.new.trace ≡ queue_held pass.old.trace }
+    ensures current { current_task pass.new.seat pass.new.trace ≡ current_task pass.old.seat pass.old.trace }
+    ensures stays { stays_queued pass.new.trace ≡ true }
+    ensures body { body_held pass.new.trace ≡ body_held pass.old.trace }
+    ensures running { IsRunning t pass.old → IsRunning t pass.new }
+{
+    let mut wait = lock_wait(rt, wk, pass, k);
+    if wait.val_mut(wk).has_task(t) {
+        give_as_taken(wk, pass, wait);
+        return false;
+    }
+    wait.enter(wk, pass, t, false);
+    set_state(wk, pass, State::TASK_INTERRUPTIBLE);
+    wait.give_entered(wk, pass);
+    true
+}
+
+// Gives the lock of a wait queue with the entries as they were taken.
+fn give_as_taken<B: Kept>(wk: &Wk<B>, pass: &mut Pass, wait: WaitGuard<B>)
+    requires of { IsOf wk.now pass.old }
+    requires table { wait.of ≡ wk.now.name }
+    requires condition { wait.cond < wk.now.shape.conds }
+    requires held { wait_held pass.old.trace wait.cond ≡ Some wait.val }
+    requires told { TakenWait pass.old.shape wait.val }
+    ensures same { IsSame pass.old pass.new }
+    ensures trace { pass.new.trace ≡ Gave wait.cond (val.Wait wait.val) (val.Wait wait.val) ∷ pass.old.trace }
+{
+    wait.give(wk, pass);
 }

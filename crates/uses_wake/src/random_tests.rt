@@ -1,23 +1,28 @@
-//! Threads, one for each processor, that choose at random among scenarios: their journals keep each rule of a history.
+//! Threads, one for each processor, that choose at random among starts, wake-ups, walks, moves, sleeps and deaths:
+//! their journals keep each rule of a history, and agree with the states that are left.
 ghost use Rattle.std.specs.Prelude.{◌≡◌, ℕ, ◌<◌, ◌≤◌, ◌+◌, true, length, map, slice_index_or, IfOk, IfSome};
 ghost use Rattle.std.specs.List.{All};
 ghost use Rattle.task_words.specs.End.{HasEachSeat};
 ghost use Rattle.task_words.specs.Seats.{IsBetween, IsRunning};
 ghost use Rattle.task_words.specs.Views.{IsOf, IsOneSeat};
 
-use crate::telling::tell;
-use crate::{Turns, die, move_to, pick, put_back, run_turn, sleep, start, switch_out, wake};
-use handoff_data::{Journal, Journals, NoMemory, Shape, State, TaskNo};
+use crate::running::{self, finish, prepare};
+use crate::{bump_and_wake, wake, wake_all, wake_some};
+use handoff_data::{CondNo, Journal, Journals, NoMemory, State, TaskNo};
 use journal_legal::{Verdict, legal};
 use std::alloc::{AllocError, Global};
 use std::sync::Wait;
 use std::test::Fail;
 use std::thread::{Threads, map_vec};
-use task_words::{Closed, Kept, Pass, Wk, bump_cond, load_cond, set_state};
+use task_words::{Closed, Kept, Pass, Wk, load_cond, set_state};
+use uses_words::{Turns, begin, die, move_to, pick, put_back, run_turn, start, switch_out, tell};
 
 const TASKS: u32 = 6;
 
 const CONDS: u32 = 2;
+
+// How many turns each task lives.
+const LIFE: u32 = 4000;
 
 // A number below n, by Marsaglia's xorshift.
 fn below(random: &mut u64, n: u32) -> u32
@@ -49,8 +54,30 @@ fn doze<B: Kept, R: Wait>(rt: &R, wk: &Wk<B>, pass: &mut Pass, t: TaskNo) -> boo
     pass.spare() >= 8 && put_back(rt, wk, pass, t)
 }
 
-// The current task sleeps at a condition, or is put back; whether it left.
-fn rest<B: Kept, R: Wait>(rt: &R, wk: &Wk<B>, pass: &mut Pass, t: TaskNo, k: u32) -> bool
+// The current task leaves its wait queue and is put back; whether it was.
+fn give_up<B: Kept, R: Wait>(rt: &R, wk: &Wk<B>, pass: &mut Pass, t: TaskNo, k: CondNo) -> bool
+    requires of { IsOf wk.now pass.old }
+    requires processor { pass.old.seat < wk.now.shape.cpus }
+    requires task { t < wk.now.shape.tasks }
+    requires condition { k < wk.now.shape.conds }
+    requires running { IsRunning t pass.old }
+    ensures same { IsOneSeat pass.old pass.new }
+    ensures left { result ≡ true → IsBetween pass.new }
+{
+    finish(rt, wk, pass, t, k);
+    pass.spare() >= 8 && put_back(rt, wk, pass, t)
+}
+
+// The current task sleeps at a condition until that is raised, unless it is or the task is woken first; whether it
+// left.
+fn sleep<B: Kept, R: Wait>(
+    rt: &R,
+    wk: &Wk<B>,
+    pass: &mut Pass,
+    t: TaskNo,
+    k: CondNo,
+    exclusive: bool,
+) -> bool
     requires of { IsOf wk.now pass.old }
     requires processor { pass.old.seat < wk.now.shape.cpus }
     requires task { t < wk.now.shape.tasks }
@@ -60,33 +87,84 @@ fn rest<B: Kept, R: Wait>(rt: &R, wk: &Wk<B>, pass: &mut Pass, t: TaskNo, k: u32
     ensures left { result ≡ true → IsBetween pass.new }
 {
     let seen = load_cond(wk, pass, k);
-    if pass.spare() < 12 {
-        return false;
+    prepare(rt, wk, pass, t, k, exclusive);
+    if load_cond(wk, pass, k) != seen || pass.spare() < 12 {
+        return give_up(rt, wk, pass, t, k);
     }
-    sleep(rt, wk, pass, t, k, seen) || pass.spare() >= 8 && put_back(rt, wk, pass, t)
+    if switch_out(rt, wk, pass, t) {
+        return true;
+    }
+    give_up(rt, wk, pass, t, k)
 }
 
-// The current task, which has run, sleeps, or is put back; whether it left.
+// The current task walks along a wait queue in which it stands itself, and is put back; whether it was.
+fn wake_among<B: Kept, R: Wait>(rt: &R, wk: &Wk<B>, pass: &mut Pass, t: TaskNo, k: CondNo) -> bool
+    requires of { IsOf wk.now pass.old }
+    requires processor { pass.old.seat < wk.now.shape.cpus }
+    requires task { t < wk.now.shape.tasks }
+    requires tasks { wk.now.shape.tasks ≡ 6 }
+    requires condition { k < wk.now.shape.conds }
+    requires running { IsRunning t pass.old }
+    ensures same { IsOneSeat pass.old pass.new }
+    ensures left { result ≡ true → IsBetween pass.new }
+{
+    prepare(rt, wk, pass, t, k, true);
+    // A walk asks for a whole turn. What was done before it has been told, and `prepare` makes no entry.
+    pass.clear_turn();
+    running::wake_all(rt, wk, pass, t, k);
+    give_up(rt, wk, pass, t, k)
+}
+
+// The current task raises a condition and wakes who sleeps there, and is put back; whether it was.
+fn raise<B: Kept, R: Wait>(rt: &R, wk: &Wk<B>, pass: &mut Pass, t: TaskNo, k: CondNo) -> bool
+    requires of { IsOf wk.now pass.old }
+    requires processor { pass.old.seat < wk.now.shape.cpus }
+    requires task { t < wk.now.shape.tasks }
+    requires tasks { wk.now.shape.tasks ≡ 6 }
+    requires condition { k < wk.now.shape.conds }
+    requires running { IsRunning t pass.old }
+    ensures same { IsOneSeat pass.old pass.new }
+    ensures left { result ≡ true → IsBetween pass.new }
+{
+    // A walk asks for a whole turn. What was done before it has been told.
+    pass.clear_turn();
+    running::bump_and_wake(rt, wk, pass, t, k);
+    pass.spare() >= 8 && put_back(rt, wk, pass, t)
+}
+
+// The current task, whose entries have been told, leaves in one of the ways; whether it left.
 fn leave<B: Kept, R: Wait>(rt: &R, wk: &Wk<B>, pass: &mut Pass, t: TaskNo, random: &mut u64) -> bool
     requires of { IsOf wk.now pass.old }
     requires processor { pass.old.seat < wk.now.shape.cpus }
     requires task { t < wk.now.shape.tasks }
+    requires tasks { wk.now.shape.tasks ≡ 6 }
     requires conditions { wk.now.shape.conds ≡ 2 }
     requires running { IsRunning t pass.old }
     ensures same { IsOneSeat pass.old pass.new }
     ensures left { result ≡ true → IsBetween pass.new }
 {
-    match below(random, 4) {
-        0 => doze(rt, wk, pass, t),
-        1 => rest(rt, wk, pass, t, below(random, CONDS)),
+    let k = below(random, CONDS);
+    match below(random, 9) {
+        0 | 1 | 2 => sleep(rt, wk, pass, t, k, false),
+        3 | 4 => sleep(rt, wk, pass, t, k, true),
+        5 => wake_among(rt, wk, pass, t, k),
+        6 => raise(rt, wk, pass, t, k),
+        7 => doze(rt, wk, pass, t),
         _ => pass.spare() >= 8 && put_back(rt, wk, pass, t),
     }
 }
 
 // Picks a task, if one waits, and runs it for a turn; it dies where its body has ended then. Whether it left.
-fn cycle<R: Wait>(rt: &R, wk: &Wk<Turns>, pass: &mut Pass, random: &mut u64) -> bool
+fn cycle<R: Wait>(
+    rt: &R,
+    wk: &Wk<Turns>,
+    pass: &mut Pass,
+    random: &mut u64,
+    journal: &mut Journal,
+) -> bool
     requires of { IsOf wk.now pass.old }
     requires processor { pass.old.seat < wk.now.shape.cpus }
+    requires tasks { wk.now.shape.tasks ≡ 6 }
     requires conditions { wk.now.shape.conds ≡ 2 }
     requires between { IsBetween pass.old }
     ensures same { IsOneSeat pass.old pass.new }
@@ -105,11 +183,57 @@ fn cycle<R: Wait>(rt: &R, wk: &Wk<Turns>, pass: &mut Pass, random: &mut u64) -> 
         die(rt, wk, pass, t);
         return true;
     }
+    if tell(pass.turn(), journal).is_err() {
+        return false;
+    }
+    pass.clear_turn();
     leave(rt, wk, pass, t, random)
 }
 
+// Walks along a wait queue with no current task, or wakes, starts or moves one task.
+fn call<B: Kept, R: Wait>(rt: &R, wk: &Wk<B>, pass: &mut Pass, cpus: u32, random: &mut u64)
+    requires of { IsOf wk.now pass.old }
+    requires cpus { (0 < cpus) × (cpus ≡ wk.now.shape.cpus) }
+    requires tasks { wk.now.shape.tasks ≡ 6 }
+    requires conditions { wk.now.shape.conds ≡ 2 }
+    requires between { IsBetween pass.old }
+    ensures same { IsOneSeat pass.old pass.new }
+    ensures between { IsBetween pass.new }
+{
+    pass.clear_turn();
+    let t = below(random, TASKS);
+    let k = below(random, CONDS);
+    match below(random, 10) {
+        0 => {
+            start(rt, wk, pass, t, below(random, cpus));
+        }
+        1 => {
+            wake_all(rt, wk, pass, k);
+        }
+        2 | 3 => {
+            wake_some(rt, wk, pass, k, 1);
+        }
+        4 => {
+            bump_and_wake(rt, wk, pass, k);
+        }
+        5 | 6 => {
+            move_to(rt, wk, pass, t, below(random, cpus));
+        }
+        _ => {
+            wake(rt, wk, pass, t);
+        }
+    }
+}
+
 // One turn of a seat; whether each of its calls ended as it has to.
-fn turn<R: Wait>(rt: &R, wk: &Wk<Turns>, pass: &mut Pass, cpus: u32, random: &mut u64) -> bool
+fn turn<R: Wait>(
+    rt: &R,
+    wk: &Wk<Turns>,
+    pass: &mut Pass,
+    cpus: u32,
+    random: &mut u64,
+    journal: &mut Journal,
+) -> bool
     requires of { IsOf wk.now pass.old }
     requires cpus { cpus ≡ wk.now.shape.cpus }
     requires processor { pass.old.seat < wk.now.shape.cpus }
@@ -119,27 +243,12 @@ fn turn<R: Wait>(rt: &R, wk: &Wk<Turns>, pass: &mut Pass, cpus: u32, random: &mu
     ensures same { IsOneSeat pass.old pass.new }
     ensures between { result ≡ true → IsBetween pass.new }
 {
-    pass.clear_turn();
-    let t = below(random, TASKS);
-    match below(random, 9) {
-        0 => {
-            start(rt, wk, pass, t);
-            true
-        }
-        1 => {
-            bump_cond(wk, pass, below(random, CONDS));
-            true
-        }
-        2 | 3 | 4 => {
-            wake(rt, wk, pass, t, below(random, cpus));
-            true
-        }
-        5 => {
-            move_to(rt, wk, pass, t, below(random, cpus));
-            true
-        }
-        _ => cycle(rt, wk, pass, random),
+    if below(random, 2) == 0 {
+        call(rt, wk, pass, cpus, random);
+        return true;
     }
+    pass.clear_turn();
+    cycle(rt, wk, pass, random, journal)
 }
 
 // What a seat leaves.
@@ -173,7 +282,7 @@ fn play<R: Wait>(
     }
     let mut random = pass.seat() as u64 + 1;
     for _ in 0..turns {
-        if !turn(rt, wk, pass, cpus, &mut random) || tell(pass.turn(), journal).is_err() {
+        if !turn(rt, wk, pass, cpus, &mut random, journal) || tell(pass.turn(), journal).is_err() {
             return false;
         }
     }
@@ -203,28 +312,6 @@ fn work<R: Wait>(
         journal,
         fine,
     }
-}
-
-// A table of so many processors, and the passes of its seats.
-#[tactic(auto, using(crate::proofs::Begin::firsts_between))]
-fn begin(alloc: Global, cpus: u32) -> Result<(Wk<Turns>, Vec<Pass>), NoMemory>
-    requires cpus { (0 < cpus) × (cpus ≤ 16) }
-    ensures of { IfOk result (λ r. All (IsOf r.0) r.1.items) }
-    ensures each { IfOk result (λ r. HasEachSeat (r.0.shape.cpus + r.0.shape.agents) (map (λ p. p.seat) r.1.items)) }
-    ensures between { IfOk result (λ r. All IsBetween r.1.items) }
-    ensures cpus { IfOk result (λ r. r.0.shape.cpus ≡ cpus) }
-    ensures tasks { IfOk result (λ r. r.0.shape.tasks ≡ 6) }
-    ensures conditions { IfOk result (λ r. r.0.shape.conds ≡ 2) }
-{
-    let shape = Shape {
-        cpus,
-        caches: cpus,
-        tasks: TASKS,
-        conds: CONDS,
-        agents: 0,
-    };
-    let bodies = Vec::from_elem(alloc, Turns { left: 2000 }, TASKS as usize)?;
-    Wk::new(alloc, &shape, bodies)
 }
 
 // What each seat leaves, each in a thread, in the order of the seats.
@@ -318,7 +405,8 @@ fn outcome<R: Threads + Wait + Sync>(
 ) -> Result<Option<(Closed<Turns>, Verdict)>, NoMemory>
     requires cpus { (0 < cpus) × (cpus ≤ 16) }
 {
-    let (wk, passes) = begin(alloc, cpus)?;
+    let body = Turns { left: LIFE };
+    let (wk, passes) = begin(alloc, cpus, TASKS, CONDS, body)?;
     let Some((closed, seats)) = run_threads(rt, alloc, wk, passes, cpus, turns)? else {
         return Ok(None);
     };
@@ -355,8 +443,8 @@ fn is_history(outcome: Result<Option<(Closed<Turns>, Verdict)>, NoMemory>) -> bo
 
 #[test]
 fn random_scenarios_make_one_history(rt: HostRuntime) -> Result<(), Fail> {
-    assert!(rt; is_history(outcome(&rt, rt.alloc(), 2, 50000)));
-    assert!(rt; is_history(outcome(&rt, rt.alloc(), 4, 25000)));
-    assert!(rt; is_history(outcome(&rt, rt.alloc(), 8, 12500)));
+    assert!(rt; is_history(outcome(&rt, rt.alloc(), 2, 60000)));
+    assert!(rt; is_history(outcome(&rt, rt.alloc(), 4, 30000)));
+    assert!(rt; is_history(outcome(&rt, rt.alloc(), 8, 20000)));
     Ok(())
 }

@@ -4,8 +4,8 @@ use Rattle.std.specs.List.{All}
 use Rattle.task_words.specs.Closing.{IsDone}
 use Rattle.task_words.specs.Views.{PassView, IsOf}
 use Rattle.uses_words.proofs.Closes.{all_map, seats_kept, same_of, done_between}
-use Rattle.uses_words.specs.declared.random_tests.Worked.{Worked}
-use Rattle.uses_words.proofs.random_tests.run_threads.Goals as goal
+use Rattle.uses_wake.specs.declared.random_tests.Worked.{Worked}
+use Rattle.uses_wake.proofs.random_tests.run_threads.Goals as goal
 use Rattle.word_table.specs.End.{HasEachSeat}
 
 abbrev pass_of : Worked → PassView

@@ -1,7 +1,7 @@
 use Rattle.std.proofs.Common.{◌≡◌, ◌++◌, map, true}
-use Rattle.uses_words.specs.declared.random_tests.Worked.{Worked}
+use Rattle.uses_wake.specs.declared.random_tests.Worked.{Worked}
 use Rattle.word_table.specs.Ruled.{Each}
-use Rattle.uses_words.proofs.random_tests.split.Given as goal
+use Rattle.uses_wake.proofs.random_tests.split.Given as goal
 
 abbrev pub invariant-loop-worked : goal.invariant-loop-worked
 invariant-loop-worked l = record {
