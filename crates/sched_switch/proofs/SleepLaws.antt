@@ -164,7 +164,7 @@ sleeper_awake state sleeps (inr (inr e)) =
 pub not_missed : (k v m : ℕ) (old new : PassView) → (slept : HasSlept k v m old new) → IsNotMissed k v slept.t new
 not_missed k v m old new slept core law cpu same sleeps waits other =
     law k slept.t v waits (sleeper_awake (core.state slept.t) sleeps)
-    (ap (λ (c : ℕ). core.test c slept.t k) cpu ∙ same ∙ (slept_asleep k v m old new slept).test) other
+    (ap (λ (c : ℕ). core.tested c slept.t k) cpu ∙ same ∙ (slept_asleep k v m old new slept).test) other
 
 pub not_missed_at_end : (k v m : ℕ) (old new : PassView) → (slept : HasSlept k v m old new) → IsNotMissedAtEnd k v slept.t new
 not_missed_at_end k v m old new slept shape passes states conds state count law same last is_state is_count =

@@ -109,5 +109,5 @@ IsNotMissedAtEnd k v t pass =
 abbrev pub IsNotMissed : ℕ → ℕ → ℕ → PassView → Type 0
 IsNotMissed k v t pass =
     (core : Columns) → NoLostWake core → core.cpu t ≡ pass.seat
-    → core.test pass.seat t k ≡ tested pass.seat pass.trace t k
+    → core.tested pass.seat t k ≡ tested pass.seat pass.trace t k
     → is_sleep (core.state t) ≡ true → Waits core k t → v ≢ core.cond k → IsOwedByASeat core k t

@@ -63,6 +63,7 @@ pub fn switch_out<B: Kept, R: Wait>(
     let state = load_state(wk, pass, t);
     // Who gives its task up has to know its level: at 0 any seat may move it from then on, and it may die.
     load_count(wk, pass, t);
+    // Who doesn't go on isn't put back: a task that waits is picked in the state that it has. (Bars: put back asleep.)
     if goes_on(state) {
         if stays_alone(next, queue.val_mut(wk).get()) {
             queue.give_as_taken(wk, pass);
@@ -77,12 +78,14 @@ pub fn switch_out<B: Kept, R: Wait>(
         clear_busy(wk, pass, t);
         return Out::Back;
     }
+    // Off its queue by word before the give, after which it stands in none: who found it queued then would make it
+    // runnable, and nobody would pick it. (Bars: given up on its queue.)
     let before = dequeue_task(rt, wk, pass, t, state == State::TASK_DEAD);
     queue.val_mut(wk).set_cur(None);
     queue.val_mut(wk).set_left(Some(t));
     queue.give_asleep(wk, pass);
     // Cleared last, and before the next pick: a waker that found the task off its queue waits for it before it queues
-    // it on any processor. (Bars: queued while busy, the forgotten busy word.)
+    // it on any processor. (Bars: queued while busy, the forgotten busy word, a death without its end.)
     clear_busy(wk, pass, t);
     Out::Gone { m: before + 1 }
 }

@@ -63,8 +63,8 @@ pub fn sleep_new<B: Kept, R: Wait>(
     }
 }
 
-/// Ends the current task, whose body has ended, as Linux's `do_task_dead`: it is TASK_DEAD, which no other seat
-/// changes, and leaves its queue for good.
+/// Ends the current task, whose body has ended, as Linux's `do_task_dead` (`kernel/sched/core.c`): it is TASK_DEAD,
+/// which no other seat changes, and leaves its queue for good.
 pub fn die<B: Kept, R: Wait>(rt: &R, wk: &Wk<B>, pass: &mut Pass, t: TaskNo)
     requires of { IsOf wk.now pass.old }
     requires processor { pass.old.seat < wk.now.shape.cpus }

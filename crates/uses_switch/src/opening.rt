@@ -10,7 +10,7 @@ use std::alloc::Global;
 use task_words::{Pass, Wk};
 
 /// A table of so many processors, tasks and conditions, each body with so many turns to run, and the passes of its
-/// processors in their order.
+/// processors in their order. `NoMemory` comes where memory is refused.
 #[tactic(auto, using(crate::proofs::Begin::firsts_idle))]
 pub fn begin(
     alloc: Global,
