@@ -7,6 +7,7 @@ use std::sync::atomic::Ordering::SeqCst;
 #[derive(Drop)]
 pub struct PlainWords {
     state: AtomicU64,
+    level: AtomicU64,
     rq: AtomicU64,
     busy: AtomicU64,
     queue_lock: AtomicU64,
@@ -18,6 +19,7 @@ impl PlainWords {
     pub fn new() -> PlainWords {
         PlainWords {
             state: AtomicU64::new(0),
+            level: AtomicU64::new(0),
             rq: AtomicU64::new(0),
             busy: AtomicU64::new(0),
             queue_lock: AtomicU64::new(0),
@@ -48,6 +50,7 @@ impl Plain for Another {
     fn once(words: &PlainWords) {
         lock(&words.queue_lock);
         words.state.load(SeqCst);
+        words.level.load(SeqCst);
         give(&words.queue_lock);
         words.busy.fetch_add(1, SeqCst);
         pick(words);
@@ -61,6 +64,7 @@ impl Plain for Same {
     fn once(words: &PlainWords) {
         lock(&words.queue_lock);
         words.state.load(SeqCst);
+        words.level.load(SeqCst);
         give(&words.queue_lock);
     }
 }
@@ -87,6 +91,7 @@ impl Plain for Sleep {
         words.cond.load(SeqCst);
         lock(&words.queue_lock);
         words.state.load(SeqCst);
+        words.level.load(SeqCst);
         raise(&words.rq, 4);
         give(&words.queue_lock);
         words.busy.fetch_add(1, SeqCst);

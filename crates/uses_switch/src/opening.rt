@@ -11,7 +11,7 @@ use task_words::{Pass, Wk};
 
 /// A table of so many processors, tasks and conditions, each body with so many turns to run, and the passes of its
 /// processors in their order. `NoMemory` comes where memory is refused.
-#[tactic(auto, using(crate::proofs::Begin::firsts_idle))]
+#[tactic(auto, using(crate::proofs::Opened::firsts_idle))]
 pub fn begin(
     alloc: Global,
     cpus: u32,

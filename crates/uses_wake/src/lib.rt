@@ -12,10 +12,14 @@ mod mask_tests;
 mod ping_pong_tests;
 #[cfg(test)]
 mod random_tests;
+#[cfg(test)]
+mod run_tests;
 mod running;
+mod threads;
 #[cfg(test)]
 mod wait_tests;
 #[cfg(test)]
 mod wake_tests;
 
 pub use idle::{bump_and_wake, wake, wake_all, wake_by, wake_some};
+pub use threads::both;

@@ -12,14 +12,11 @@ mod locks;
 mod moves;
 mod opening;
 pub mod plain;
-#[cfg(test)]
-mod run_tests;
 mod runs;
 #[cfg(test)]
 mod single_steps;
 mod switching;
 mod telling;
-mod threads;
 
 pub use bodies::{Turns, run_turn};
 pub use closing::{close_both, close_one};
@@ -30,4 +27,3 @@ pub use opening::{begin, one_seat, two_seats};
 pub use runs::{pick, put_back, run, start, start_new};
 pub use switching::switch_out;
 pub use telling::tell;
-pub use threads::both;

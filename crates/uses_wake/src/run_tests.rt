@@ -3,13 +3,13 @@ ghost use Rattle.std.specs.Prelude.{◌≡◌, ◌<◌, true};
 ghost use Rattle.task_words.specs.Seats.{IsBetween};
 ghost use Rattle.task_words.specs.Views.{IsOf, IsOneSeat};
 
-use crate::{close_one, one_seat, pick, put_back, run, start, start_new};
 use handoff_data::{Entry, State};
 use run_queue::Start;
 use std::alloc::Global;
 use std::sync::Wait;
 use std::test::Fail;
 use task_words::{Kept, Pass, Wk};
+use uses_words::{close_one, one_seat, pick, put_back, run, start, start_new};
 
 // Queues the task 0, which is started or stays new; whether it was new.
 fn queue<B: Kept, R: Wait>(rt: &R, wk: &Wk<B>, pass: &mut Pass, starts: bool) -> bool
