@@ -18,8 +18,8 @@ sources() { files src rt; }
 specs() { files specs antt; }
 proofs() { files proofs antt; }
 
-# Widths. A text in quotes may be longer: it can't be broken.
-{ sources; specs; } | xargs grep -nHE '^.{121,}' | grep -v '"' | say 'over 120 columns'
+# Widths. A text in quotes, and an attribute, may be longer: the one can't be broken, the other `rt fmt` keeps on a line.
+{ sources; specs; } | xargs grep -nHE '^.{121,}' | grep -vE '"|:#\[tactic\(' | say 'over 120 columns'
 proofs | xargs grep -nHE '^.{201,}' | say 'over 200 columns'
 
 # A file's length.

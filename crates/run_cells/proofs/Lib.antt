@@ -1,0 +1,3 @@
+pub mod EndLaws
+pub mod NetMapLaws
+pub mod TellingLaws

@@ -1,0 +1,5 @@
+pub mod Beginning
+pub mod BodyLaws
+pub mod NetLaws
+pub mod RestLaws
+pub mod TurnLaws

@@ -1,0 +1,4 @@
+pub mod Conds
+pub mod Deaths
+pub mod Standing
+pub mod Turns
