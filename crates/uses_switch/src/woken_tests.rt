@@ -1,13 +1,16 @@
 //! A task that is woken between its test and its sleep: another seat holds its queue meanwhile.
-ghost use Rattle.std.specs.Prelude.{◌≡◌, ◌<◌, ◌≤◌, None};
-ghost use Rattle.task_words.specs.Views.{IsOf, IsSame};
+ghost use Rattle.std.specs.Prelude.{◌≡◌, ◌≢◌, ◌<◌, ◌≤◌, true, false, None, Some, IsSome};
+ghost use Rattle.task_words.specs.Gives.{quiet_since};
+ghost use Rattle.task_words.specs.Needs.{need_step};
+ghost use Rattle.task_words.specs.Views.{IsOf, IsSame, IsSameSeat};
 ghost use Rattle.uses_switch.specs.Looks.{HasLooked};
 ghost use Rattle.uses_switch.specs.Seated.{IsIdle, IsRunning};
-ghost use Rattle.word_steps.specs.Folds.{current_task};
+ghost use Rattle.word_steps.specs.Folds.{current_task, has_matched, has_stored, is_claimed, is_moving};
+ghost use Rattle.word_steps.specs.Folds.{queue_held, task_held};
 
 use crate::life::run_new;
 use crate::seats::two_seats;
-use handoff_data::{CpuNo, State, TaskNo};
+use handoff_data::{CpuNo, State, TaskNo, matches};
 use sched_switch::{Slept, sleep_on};
 use std::sync::Wait;
 use std::sync::atomic::AtomicU64;
@@ -58,6 +61,60 @@ fn await_asleep<B: Kept, R: Wait>(rt: &R, wk: &Wk<B>, pass: &mut Pass, t: TaskNo
     unreachable!()
 }
 
+// Stores TASK_RUNNING of a task where it is still queued on the processor c; whether it is. The seat holds both locks,
+// and has read a state that matches.
+fn run_there<B: Kept>(wk: &Wk<B>, pass: &mut Pass, t: TaskNo, c: CpuNo) -> bool
+    requires of { IsOf wk.now pass.old }
+    requires task { t < wk.now.shape.tasks }
+    requires locked { IsSome (task_held pass.old.trace t) }
+    requires held { IsSome (queue_held pass.old.trace c) }
+    requires matched { has_matched pass.old.trace t ≡ true }
+    requires other { current_task pass.old.seat pass.old.trace ≢ Some t }
+    requires stored { has_stored pass.old.trace t ≡ false }
+    ensures same { IsSame pass.old pass.new }
+    ensures quiet { quiet_since pass.new.trace ≡ quiet_since pass.old.trace }
+    ensures tasks { task_held pass.new.trace ≡ task_held pass.old.trace }
+    ensures queues { queue_held pass.new.trace ≡ queue_held pass.old.trace }
+    ensures claimed { is_claimed pass.new.trace ≡ is_claimed pass.old.trace }
+    ensures moving { is_moving pass.new.trace ≡ is_moving pass.old.trace }
+    ensures matched { has_matched pass.new.trace t ≡ true }
+    ensures left { result ≡ false → has_stored pass.new.trace t ≡ false }
+{
+    if load_cpu(wk, pass, t) != c {
+        return false;
+    }
+    if load_rq(wk, pass, t).on != 1 {
+        return false;
+    }
+    make_runnable(wk, pass, t);
+    true
+}
+
+// Wakes a task that is still queued on the processor c; whether it was, in a state that TASK_NORMAL matches.
+fn wake_there<B: Kept>(wk: &Wk<B>, pass: &mut Pass, t: TaskNo, c: CpuNo) -> bool
+    requires of { IsOf wk.now pass.old }
+    requires task { t < wk.now.shape.tasks }
+    requires locked { IsSome (task_held pass.old.trace t) }
+    requires held { IsSome (queue_held pass.old.trace c) }
+    requires other { current_task pass.old.seat pass.old.trace ≢ Some t }
+    requires spare { need_step ≤ pass.old.turn.spare }
+    requires stored { has_stored pass.old.trace t ≡ false }
+    ensures same { IsSameSeat pass.old pass.new }
+    ensures quiet { quiet_since pass.new.trace ≡ quiet_since pass.old.trace }
+    ensures tasks { task_held pass.new.trace ≡ task_held pass.old.trace }
+    ensures queues { queue_held pass.new.trace ≡ queue_held pass.old.trace }
+    ensures claimed { is_claimed pass.new.trace ≡ is_claimed pass.old.trace }
+    ensures moving { is_moving pass.new.trace ≡ is_moving pass.old.trace }
+    ensures woken { result ≡ true → has_matched pass.new.trace t ≡ true }
+    ensures left { result ≡ false → has_stored pass.new.trace t ≡ false }
+{
+    let seen = match_state(wk, pass, t, State::TASK_NORMAL);
+    if !matches(seen, State::TASK_NORMAL) {
+        return false;
+    }
+    run_there(wk, pass, t, c)
+}
+
 // Wakes a task that is still queued on the processor c, whose queue it holds from before the task sleeps until it has
 // stored TASK_RUNNING; whether the task was still there.
 fn wake_held<B: Kept, R: Wait>(
@@ -78,14 +135,14 @@ fn wake_held<B: Kept, R: Wait>(
     let queue = lock_queue(rt, wk, &mut pass, c);
     held.store(1, SeqCst);
     await_asleep(rt, wk, &mut pass, t);
-    match_state(wk, &mut pass, t, State::TASK_NORMAL);
-    let there = load_cpu(wk, &mut pass, t) == c && load_rq(wk, &mut pass, t).on == 1;
-    if there {
-        make_runnable(wk, &mut pass, t);
+    if wake_there(wk, &mut pass, t, c) {
+        queue.give_as_taken(wk, &mut pass);
+        task.give(wk, &mut pass);
+        return true;
     }
     queue.give_as_taken(wk, &mut pass);
     task.give(wk, &mut pass);
-    there
+    false
 }
 
 // What the sleeper answers, and whether its waker found it on its queue, each in a thread.
