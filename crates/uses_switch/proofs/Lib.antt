@@ -1,1 +1,2 @@
+pub mod NextGives
 pub mod Opened

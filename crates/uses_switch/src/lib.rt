@@ -10,6 +10,8 @@ mod bodies;
 mod life;
 mod opening;
 #[cfg(test)]
+mod next_tests;
+#[cfg(test)]
 mod ping_pong_tests;
 #[cfg(test)]
 mod row_tests;
