@@ -4,6 +4,7 @@ use Rattle.std.specs.Prelude.{Bool, true, false, Option, Some, None, ◌==◌, �
 use mathlib.Core.Bool.{not}
 use Rattle.std.proofs.lemmas.Bool.{cases_Bool}
 use Rattle.std.proofs.lemmas.Bool.Decides.{nat_tests}
+use Rattle.std.specs.List.{filter}
 use Rattle.core_data.specs.Entries.{any_from, is_gone}
 use Rattle.core_data.specs.Noted.{given_asleep}
 use Rattle.core_data.specs.Queue.{Queue}
@@ -12,12 +13,14 @@ use Rattle.core_gives.specs.Waits.{has_task, sleeper_of}
 use Rattle.core_invariant.specs.Sleepers.{IsAwake}
 use Rattle.core_kinds.specs.Steps.{is_sleep, running, waking, dead}
 use Rattle.handoff_data.specs.declared.state.State.{State}
-use Rattle.sched_switch.specs.Laws.{HasTestedFirst, IsAsleepAt, IsNotMissed, IsNotMissedAtEnd}
-use Rattle.sched_switch.specs.Sleeps.{HasSlept, interruptible}
+use Rattle.sched_switch.specs.Laws.{HasTestedFirst, HasFoundChanged, IsAsleepAt, IsNotMissed, IsNotMissedAtEnd}
+use Rattle.sched_switch.specs.Sleeps.{HasSlept, HasChanged, interruptible}
 use Rattle.sched_switch.specs.Switches.{left_by}
 use Rattle.task_words.specs.Gives.{entered}
 use Rattle.task_words.specs.Views.{PassView}
-use Rattle.wait_queue.specs.Entering.{with_entry}
+use Rattle.wait_queue.specs.Entering.{IsPrepared, IsFinished, with_entry}
+use Rattle.wait_queue.specs.Laws.{IsGone}
+use Rattle.word_steps.specs.Entries.{is_of_other}
 use Rattle.word_steps.specs.Folds.{current_task, is_asleep, tested, has_slept, has_slept_in, put_test, put_test_if}
 use Rattle.word_steps.specs.Records.{Rec, Took, Gave, Dequeued, StateSet, ClearedBusy, LoadedState, LoadedCount, LoadedCond}
 use Rattle.word_steps.specs.declared.val.Val.TheVariants as val
@@ -177,3 +180,37 @@ not_missed_at_end k v m old new slept shape passes states conds state count law 
       }))
       | inr awake ↦ inl awake
     ]
+
+-- A sleeper that finds its condition changed
+
+pub found_changed : ((k s : ℕ) (old new : List Rec) → IsFinished k s old new → IsGone k s old new)
+    → (k v now : ℕ) (old new : PassView) → HasChanged k v now old new → HasFoundChanged k v now old new
+found_changed finished_gone k v now old new changed = record {
+  t = changed.finished.t;
+  before = changed.tested.prepared;
+  current = sym current_between ∙ changed.finished.current;
+  start = record {
+    added = Gave k (val.Wait entered.v) (val.Wait (with_entry (record { t = entered.t; exclusive = false }) entered.v))
+        ∷ StateSet entered.t interruptible ∷ Took k (val.Wait entered.v) ∷ [];
+    did = entered.did;
+  };
+  other = changed.other;
+  runs = record {
+    added = Gave k (val.Wait changed.finished.v) (val.Wait (filter (is_of_other changed.finished.t) changed.finished.v))
+        ∷ Took k (val.Wait changed.finished.v) ∷ [];
+    did = changed.finished.did
+        ∙ ap (λ (z : List Rec). Gave k (val.Wait changed.finished.v)
+        (val.Wait (filter (is_of_other changed.finished.t) changed.finished.v))
+        ∷ Took k (val.Wait changed.finished.v) ∷ StateSet changed.finished.t running ∷ z) changed.tested.did;
+  };
+  gone = subst (λ (z : ℕ × List Rec). IsGone k z.0 z.1 new.trace) (λ i. (changed.tested.same_seat i, changed.tested.did i))
+      (finished_gone k changed.between.seat changed.between.trace new.trace changed.finished);
+  turn = changed.turn ∙ changed.tested.turn;
+}
+  where
+    entered : IsPrepared k false interruptible old.seat old.trace changed.tested.prepared
+    entered = changed.tested.entered
+    current_between : current_task changed.between.seat changed.between.trace ≡ current_task old.seat old.trace
+    current_between =
+        ap (λ (z : ℕ × List Rec). current_task z.0 z.1) (λ i. (changed.tested.same_seat i, changed.tested.did i))
+        ∙ ap (λ (z : List Rec). current_task old.seat z) entered.did

@@ -1,5 +1,5 @@
 -- A switch is a leave and then a pick, and what it means.
-use Rattle.std.proofs.Common.{◌≡◌, ◌∙◌, ℕ, ◌+◌, ◌++◌, ◌∷◌, [], List, refl, sym, ap, subst, inl, inr, arith, append_assoc}
+use Rattle.std.proofs.Common.{◌≡◌, ◌∙◌, ℕ, ◌+◌, ◌++◌, ◌∷◌, [], List, refl, sym, ap, subst, inl, inr, arith, append_assoc, append-nil}
 use Rattle.std.specs.Prelude.{Bool, true, false, Option, Some, None, ◌==◌, ◌⊎◌, if◌then◌else◌}
 use Rattle.std.proofs.lemmas.Bool.Decides.{nat_tests}
 use Rattle.core_kinds.specs.Steps.{is_sleep, dead}
@@ -8,8 +8,8 @@ use Rattle.handoff_data.specs.declared.entry.Entry.{Entry}
 use Rattle.handoff_data.specs.declared.entry.Entry.TheVariants as entry
 use Rattle.handoff_data.specs.declared.state.State.{State}
 use Rattle.run_queue.specs.Queueing.{pushed}
-use Rattle.sched_switch.specs.Laws.{front_by, IsAtFront, HasFoundNone, HasLeftBy}
-use Rattle.sched_switch.specs.Switches.{IsPutBack, IsGone, IsKept, HasLeft, DidPick, DidSwitch, HasDied, left_by}
+use Rattle.sched_switch.specs.Laws.{front_by, IsAtFront, HasFoundNone, HasLeftBy, HasLeftFirst}
+use Rattle.sched_switch.specs.Switches.{IsPutBack, IsGone, IsKept, IsPicked, IsEmpty, HasLeft, DidPick, DidSwitch, HasDied, left_by}
 use Rattle.sched_switch.specs.declared.answer.Next.{Next}
 use Rattle.sched_switch.specs.declared.answer.Next.TheVariants as asked
 use Rattle.sched_switch.specs.declared.answer.Switch.{Switch}
@@ -176,7 +176,7 @@ gone_left t state m old new gone = record {
   dies = λ e. (gone.before + 1, died_entries t gone.before (gone.n + 1) state old.seat old.turn new.turn gone.turn e);
 }
 
-pub left_by_state : (t : ℕ) (next : Next) (old new : PassView) → HasLeft next old new → current_task old.seat old.trace ≡ Some t
+left_by_state : (t : ℕ) (next : Next) (old new : PassView) → HasLeft next old new → current_task old.seat old.trace ≡ Some t
     → HasLeftBy t old new
 left_by_state t next old new (inl left) e = absurd (let no : None ≡ Some t = sym left.0 ∙ e in cc)
 left_by_state t next old new (inr (inl left)) e =
@@ -185,6 +185,61 @@ left_by_state t next old new (inr (inl left)) e =
 left_by_state t next old new (inr (inr left)) e =
     gone_left t left.1 left.2 old new (subst (λ (u : ℕ). IsGone u left.1 left.2 old new)
     (some_same left.0 t (sym left.3.read.current ∙ e)) left.3)
+
+picked_later : (t u : ℕ) (old mid new : PassView) → HasLeftBy t old mid → IsPicked u mid new → HasLeftFirst t old new
+picked_later t u old mid new left (inl first) = record {
+  between = mid;
+  left = left;
+  later = record {
+    added = Gave mid.seat (val.Queue first.queue) (val.Queue (record first.queue { waiting = first.rest; cur = Some u }))
+        ∷ SetBusy u mid.seat first.n ∷ Took mid.seat (val.Queue first.queue) ∷ [];
+    did = first.did;
+  };
+  picks = entry.Pick u (first.n + 1) mid.seat ∷ [];
+  entries = entries_once (entry.Pick u (first.n + 1) mid.seat) mid.turn new.turn first.turn;
+}
+picked_later t u old mid new left (inr next) = record {
+  between = mid;
+  left = left;
+  later = record {
+    added = Gave mid.seat (val.Queue next.queue) (val.Queue next.queue) ∷ SetBusy u mid.seat next.n
+        ∷ Took mid.seat (val.Queue next.queue) ∷ [];
+    did = next.did;
+  };
+  picks = entry.Pick u (next.n + 1) mid.seat ∷ [];
+  entries = entries_once (entry.Pick u (next.n + 1) mid.seat) mid.turn new.turn next.turn;
+}
+
+idle_later : (t : ℕ) (old mid new : PassView) → HasLeftBy t old mid → IsEmpty mid new → HasLeftFirst t old new
+idle_later t old mid new left empty = record {
+  between = mid;
+  left = left;
+  later = record {
+    added = Gave mid.seat (val.Queue empty.queue) (val.Queue empty.queue) ∷ Took mid.seat (val.Queue empty.queue) ∷ [];
+    did = empty.did;
+  };
+  picks = [];
+  entries = ap (λ (z : TurnView). z.entries) empty.turn ∙ sym (append-nil mid.turn.entries);
+}
+
+pub left_first : (t : ℕ) (next : Next) (answer : Switch) (old new : PassView) → DidSwitch next old new answer
+    → current_task old.seat old.trace ≡ Some t → IsKept t old new ⊎ HasLeftFirst t old new
+left_first t asked.Task (switch.Running u) old new (inl kept) e =
+    inl (subst (λ (x : ℕ). IsKept x old new) (some_same u t (sym kept.read.current ∙ e)) kept)
+left_first t asked.Task (switch.Running u) old new (inr (mid, left, picked)) e =
+    inr (picked_later t u old mid new (left_by_state t asked.Task old mid left e) picked)
+left_first t asked.Task switch.Idle old new (mid, left, empty) e =
+    inr (idle_later t old mid new (left_by_state t asked.Task old mid left e) empty)
+left_first t asked.Task switch.Nobody old new did e = absurd did
+left_first t asked.Nobody (switch.Running u) old new did e = absurd did
+left_first t asked.Nobody switch.Idle old new did e = absurd did
+left_first t asked.Nobody switch.Nobody old new did e = inr (record {
+  between = new;
+  left = left_by_state t asked.Nobody old new did e;
+  later = record { added = []; did = refl };
+  picks = [];
+  entries = sym (append-nil new.turn.entries);
+})
 
 -- A death
 

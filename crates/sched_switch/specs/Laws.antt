@@ -3,8 +3,9 @@ use Rattle.std.specs.Prelude.{◌≡◌, ◌≢◌, ℕ, ◌+◌, ◌++◌, ◌�
 use Rattle.std.specs.Prelude.{slice_get}
 use Rattle.core_data.specs.Queue.{Queue}
 use Rattle.core_data.specs.Columns.{Columns}
-use Rattle.core_kinds.specs.Steps.{is_sleep, dead}
+use Rattle.core_kinds.specs.Steps.{is_sleep, dead, running}
 use Rattle.core_law.specs.Laws.{Waits, IsOwedByASeat, NoLostWake}
+use Rattle.handoff_data.specs.declared.entry.Entry.{Entry}
 use Rattle.handoff_data.specs.declared.entry.Entry.TheVariants as entry
 use Rattle.handoff_data.specs.declared.shape.Shape.{Shape}
 use Rattle.handoff_data.specs.declared.state.State.{State}
@@ -14,6 +15,7 @@ use Rattle.sched_switch.specs.Switches.{left_by, looked}
 use Rattle.task_words.specs.Closing.{NoneMissed, IsStillOwed, IsExclusive, SleptLast, journals_in, traces_in}
 use Rattle.task_words.specs.Views.{PassView}
 use Rattle.ttwu_core.specs.Orders.{IsSince}
+use Rattle.wait_queue.specs.Laws.{IsGone}
 use Rattle.word_rule.specs.Standing.{is_runnable}
 use Rattle.word_steps.specs.Folds.{current_task, is_asleep, tested}
 use Rattle.word_steps.specs.Records.{Rec, Took, Gave, Dequeued, StateSet, LoadedCond}
@@ -65,6 +67,14 @@ pub record HasLeftBy (t : ℕ) (old new : PassView) : Type 0 where
   pub dies : state ≡ dead
       → (m : ℕ) × (new.turn.entries ≡ old.turn.entries ++ entry.Die t m old.seat ∷ entry.Finish t n old.seat ∷ [])
 
+-- .. and only then whatever else the switch did
+pub record HasLeftFirst (t : ℕ) (old new : PassView) : Type 0 where
+  pub between : PassView
+  pub left : HasLeftBy t old between
+  pub later : IsSince between.trace new.trace
+  pub picks : List Entry
+  pub entries : new.turn.entries ≡ between.turn.entries ++ picks
+
 -- A sleep
 
 -- whether a state of the seat's own task was stored
@@ -88,6 +98,18 @@ pub record HasTestedFirst (k v m : ℕ) (old new : PassView) : Type 0 where
       ≡ last ++ Dequeued t old.seat before ∷ third ++ LoadedCond k v ∷ second ++ StateSet t interruptible ∷ first
       ++ old.trace
   pub untouched : has_own_store (third ++ LoadedCond k v ∷ second) ≡ false
+
+-- The current task read k as another value than v, and after that stored TASK_RUNNING and left no entry there; it made
+-- no entry of its journal.
+pub record HasFoundChanged (k v now : ℕ) (old new : PassView) : Type 0 where
+  pub t : ℕ
+  pub before : List Rec
+  pub current : current_task old.seat old.trace ≡ Some t
+  pub start : IsSince old.trace before
+  pub other : now ≢ v
+  pub runs : IsSince (StateSet t running ∷ LoadedCond k now ∷ before) new.trace
+  pub gone : IsGone k old.seat (LoadedCond k now ∷ before) new.trace
+  pub turn : new.turn ≡ old.turn
 
 -- the task t was put to sleep at k with the value v, as the trace of its seat tells
 pub record IsAsleepAt (k v t : ℕ) (pass : PassView) : Type 0 where

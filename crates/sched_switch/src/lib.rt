@@ -16,6 +16,6 @@ mod sleeping;
 mod switching;
 
 pub use answer::{Next, Slept, Switch};
-pub use law::{law_left, law_picked, law_slept};
+pub use law::{law_changed, law_left, law_picked, law_slept};
 pub use sleeping::sleep_on;
 pub use switching::schedule;

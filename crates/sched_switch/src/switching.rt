@@ -36,6 +36,8 @@ fn stays_alone(next: Next, queue: &QueueVal) -> bool
 /// Puts the current task back, or takes it off its queue, by its state as it is read under the queue's lock, as
 /// `__schedule` of Linux's `kernel/sched/core.c` does with `prev`. Where a task is asked for and nobody else waits, a
 /// task that goes on stays. It is the one place where a task leaves its processor.
+// A part of its two callers, which else would save their registers twice: a lock waits for each store before it.
+#[inline(always)]
 pub fn switch_out<B: Kept, R: Wait>(
     rt: &R,
     wk: &Wk<B>,

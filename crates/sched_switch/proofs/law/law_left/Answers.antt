@@ -1,5 +1,5 @@
-use Rattle.sched_switch.proofs.SwitchLaws.{left_by_state}
+use Rattle.sched_switch.proofs.SwitchLaws.{left_first}
 use Rattle.sched_switch.proofs.law.law_left.Goals as goal
 
 pub returns : goal.returns
-returns c = record { left = λ t next old new left current. left_by_state t next old new left current }
+returns c = record { left = λ t next answer old new did current. left_first t next answer old new did current }
