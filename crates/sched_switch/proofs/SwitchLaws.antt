@@ -141,7 +141,7 @@ module _ (t m n : ℕ) (state : State) (s : ℕ) (a b : TurnView)
       entries_twice (dequeue_entry (Some state) m t s) (entry.Finish t n s) a b turn
       ∙ ap (λ (z : State). a.entries ++ dequeue_entry (Some z) m t s ∷ entry.Finish t n s ∷ []) e
 
-put_left : (next : Next) (t : ℕ) (state : State) (old new : PassView) → IsPutBack next t state old new → HasLeftBy t old new
+put_left : (next : Next) (t : ℕ) (state : State) (old new : PassView) → IsPutBack next t state old new → HasLeftBy next t old new
 put_left next t state old new put = record {
   state = state;
   queue = put.queue;
@@ -151,6 +151,7 @@ put_left next t state old new put = record {
     did = put.did;
   };
   kinds = inl put.runs;
+  others = λ asks runs. put.others asks;
   back = λ runs. entries_once (entry.Finish t (put.n + 1) old.seat) old.turn new.turn put.turn;
   sleeps = λ e. absurd (runnable_asleep state put.runs e);
   dies = λ e. absurd (runnable_dead state put.runs e);
@@ -160,8 +161,9 @@ runnable_stops : (state : State) → is_runnable state ≡ true → (is_sleep st
 runnable_stops state runs (inl e) = runnable_asleep state runs e
 runnable_stops state runs (inr e) = runnable_dead state runs e
 
-gone_left : (t : ℕ) (state : State) (m : ℕ) (old new : PassView) → IsGone t state m old new → HasLeftBy t old new
-gone_left t state m old new gone = record {
+gone_left : (next : Next) (t : ℕ) (state : State) (m : ℕ) (old new : PassView) → IsGone t state m old new
+    → HasLeftBy next t old new
+gone_left next t state m old new gone = record {
   state = state;
   queue = gone.queue;
   n = gone.n + 1;
@@ -171,22 +173,24 @@ gone_left t state m old new gone = record {
     did = gone.did;
   };
   kinds = inr gone.stops;
+  others = λ asks runs. absurd (runnable_stops state runs gone.stops);
   back = λ runs. absurd (runnable_stops state runs gone.stops);
   sleeps = λ e. (gone.before + 1, slept_entries t gone.before (gone.n + 1) state old.seat old.turn new.turn gone.turn e);
   dies = λ e. (gone.before + 1, died_entries t gone.before (gone.n + 1) state old.seat old.turn new.turn gone.turn e);
 }
 
 left_by_state : (t : ℕ) (next : Next) (old new : PassView) → HasLeft next old new → current_task old.seat old.trace ≡ Some t
-    → HasLeftBy t old new
+    → HasLeftBy next t old new
 left_by_state t next old new (inl left) e = absurd (let no : None ≡ Some t = sym left.0 ∙ e in cc)
 left_by_state t next old new (inr (inl left)) e =
     put_left next t left.1 old new (subst (λ (u : ℕ). IsPutBack next u left.1 old new)
     (some_same left.0 t (sym left.2.read.current ∙ e)) left.2)
 left_by_state t next old new (inr (inr left)) e =
-    gone_left t left.1 left.2 old new (subst (λ (u : ℕ). IsGone u left.1 left.2 old new)
+    gone_left next t left.1 left.2 old new (subst (λ (u : ℕ). IsGone u left.1 left.2 old new)
     (some_same left.0 t (sym left.3.read.current ∙ e)) left.3)
 
-picked_later : (t u : ℕ) (old mid new : PassView) → HasLeftBy t old mid → IsPicked u mid new → HasLeftFirst t old new
+picked_later : (t u : ℕ) (old mid new : PassView) → HasLeftBy asked.Task t old mid → IsPicked u mid new
+    → HasLeftFirst asked.Task t old new
 picked_later t u old mid new left (inl first) = record {
   between = mid;
   left = left;
@@ -210,7 +214,8 @@ picked_later t u old mid new left (inr next) = record {
   entries = entries_once (entry.Pick u (next.n + 1) mid.seat) mid.turn new.turn next.turn;
 }
 
-idle_later : (t : ℕ) (old mid new : PassView) → HasLeftBy t old mid → IsEmpty mid new → HasLeftFirst t old new
+idle_later : (t : ℕ) (old mid new : PassView) → HasLeftBy asked.Task t old mid → IsEmpty mid new
+    → HasLeftFirst asked.Task t old new
 idle_later t old mid new left empty = record {
   between = mid;
   left = left;
@@ -223,9 +228,9 @@ idle_later t old mid new left empty = record {
 }
 
 pub left_first : (t : ℕ) (next : Next) (answer : Switch) (old new : PassView) → DidSwitch next old new answer
-    → current_task old.seat old.trace ≡ Some t → IsKept t old new ⊎ HasLeftFirst t old new
+    → current_task old.seat old.trace ≡ Some t → ((next ≡ asked.Task) × IsKept t old new) ⊎ HasLeftFirst next t old new
 left_first t asked.Task (switch.Running u) old new (inl kept) e =
-    inl (subst (λ (x : ℕ). IsKept x old new) (some_same u t (sym kept.read.current ∙ e)) kept)
+    inl (refl, subst (λ (x : ℕ). IsKept x old new) (some_same u t (sym kept.read.current ∙ e)) kept)
 left_first t asked.Task (switch.Running u) old new (inr (mid, left, picked)) e =
     inr (picked_later t u old mid new (left_by_state t asked.Task old mid left e) picked)
 left_first t asked.Task switch.Idle old new (mid, left, empty) e =

@@ -12,6 +12,8 @@ use Rattle.handoff_data.specs.declared.state.State.{State}
 use Rattle.run_queue.specs.Queueing.{pushed}
 use Rattle.sched_switch.specs.Sleeps.{interruptible}
 use Rattle.sched_switch.specs.Switches.{left_by, looked}
+use Rattle.sched_switch.specs.declared.answer.Next.{Next}
+use Rattle.sched_switch.specs.declared.answer.Next.TheVariants as asked
 use Rattle.task_words.specs.Closing.{NoneMissed, IsStillOwed, IsExclusive, SleptLast, journals_in, traces_in}
 use Rattle.task_words.specs.Views.{PassView}
 use Rattle.ttwu_core.specs.Orders.{IsSince}
@@ -54,13 +56,14 @@ pub record HasFoundNone (old new : PassView) : Type 0 where
 -- By which state a task left
 
 -- The state of t was read under the lock of the own queue, and decided what became of it: put back, asleep or dead. The
--- run of t ended with it.
-pub record HasLeftBy (t : ℕ) (old new : PassView) : Type 0 where
+-- run of t ended with it. Where a task was asked for, one is put back only while another waits.
+pub record HasLeftBy (next : Next) (t : ℕ) (old new : PassView) : Type 0 where
   pub state : State
   pub queue : Queue
   pub n : ℕ
   pub read : IsSince (looked old.seat t state queue old.trace) new.trace
   pub kinds : (is_runnable state ≡ true) ⊎ ((is_sleep state ≡ true) ⊎ (state ≡ dead))
+  pub others : next ≡ asked.Task → is_runnable state ≡ true → queue.waiting ≢ []
   pub back : is_runnable state ≡ true → new.turn.entries ≡ old.turn.entries ++ entry.Finish t n old.seat ∷ []
   pub sleeps : is_sleep state ≡ true
       → (m : ℕ) × (new.turn.entries ≡ old.turn.entries ++ entry.Sleep t m old.seat ∷ entry.Finish t n old.seat ∷ [])
@@ -68,9 +71,9 @@ pub record HasLeftBy (t : ℕ) (old new : PassView) : Type 0 where
       → (m : ℕ) × (new.turn.entries ≡ old.turn.entries ++ entry.Die t m old.seat ∷ entry.Finish t n old.seat ∷ [])
 
 -- .. and only then whatever else the switch did
-pub record HasLeftFirst (t : ℕ) (old new : PassView) : Type 0 where
+pub record HasLeftFirst (next : Next) (t : ℕ) (old new : PassView) : Type 0 where
   pub between : PassView
-  pub left : HasLeftBy t old between
+  pub left : HasLeftBy next t old between
   pub later : IsSince between.trace new.trace
   pub picks : List Entry
   pub entries : new.turn.entries ≡ between.turn.entries ++ picks

@@ -22,12 +22,13 @@ pub fn law_picked()
     ensures none { (old new : PassView) → DidSwitch asked.Task old new switch.Idle → HasFoundNone old new }
 {}
 
-/// Whatever a switch answers, its current task stays, or it left its processor first, by the state that was read under
-/// its queue's lock: TASK_RUNNING or TASK_NEW puts it back, a sleep state puts it to sleep, and by TASK_DEAD it dies. A
-/// law: the call does nothing.
+/// Whatever a switch answers, its current task stays, as one that goes on alone where a task is asked for, or it left
+/// its processor first, by the state that was read under its queue's lock: TASK_RUNNING or TASK_NEW puts it back, a
+/// sleep state puts it to sleep, and by TASK_DEAD it dies. A law: the call does nothing.
 pub fn law_left()
     ensures left { (t : ℕ) (next : Next) (answer : Switch) (old new : PassView) → DidSwitch next old new answer
-        → current_task old.seat old.trace ≡ Some t → IsKept t old new ⊎ HasLeftFirst t old new }
+        → current_task old.seat old.trace ≡ Some t
+        → ((next ≡ asked.Task) × IsKept t old new) ⊎ HasLeftFirst next t old new }
 {}
 
 /// A task that sleeps at a condition with a value stored its sleep state first, then read the condition as that value,
