@@ -210,6 +210,7 @@ found_changed finished_gone k v now old new changed = record {
   where
     entered : IsPrepared k false interruptible old.seat old.trace changed.tested.prepared
     entered = changed.tested.entered
+
     current_between : current_task changed.between.seat changed.between.trace ≡ current_task old.seat old.trace
     current_between =
         ap (λ (z : ℕ × List Rec). current_task z.0 z.1) (λ i. (changed.tested.same_seat i, changed.tested.did i))

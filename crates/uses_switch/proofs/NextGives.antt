@@ -1,6 +1,6 @@
 -- A seat without a current task may give its queue with the first task that waited as the next.
-use Rattle.std.proofs.Common.{◌≡◌, ◌∙◌, ℕ, ◌∷◌, List, sym, ap, subst, inl, arith, refl}
-use Rattle.std.specs.Prelude.{◌+◌, ◌==◌, nat_lt, true, Option, Some, None, if◌then◌else◌}
+use Rattle.std.proofs.Common.{◌≡◌, ◌∙◌, ℕ, ◌∷◌, List, refl, sym, ap, inl, arith}
+use Rattle.std.specs.Prelude.{◌+◌, ◌==◌, Option, Some, None, if◌then◌else◌}
 use Rattle.std.proofs.lemmas.Bool.Decides.{nat_tests}
 use Rattle.core_data.proofs.QueueLemmas.{times_in-cons}
 use Rattle.core_data.specs.Queue.{Queue, times_in}

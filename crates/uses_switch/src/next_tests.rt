@@ -1,6 +1,5 @@
 //! A task that stands as the next of its queue, without being current, is picked before those that wait.
 ghost use Rattle.std.specs.Prelude.{◌≡◌, ◌<◌};
-ghost use Rattle.task_words.specs.Needs.{need_call};
 ghost use Rattle.task_words.specs.Views.{IsOf, IsOneSeat, IsSame};
 ghost use Rattle.uses_switch.specs.Seated.{IsIdle};
 
@@ -78,7 +77,10 @@ fn picks_next<B: Kept, R: Wait + Abort>(rt: &R, wk: &Wk<B>, pass: &mut Pass)
     // It goes behind 1, which is picked then.
     pass.clear_turn();
     assert_eq!(rt; schedule(rt, wk, pass, Next::Task), Switch::Running(1));
-    assert_eq!(rt; pass.turn().get(0), Some(Entry::Finish { t: 0, n: 4, c: 0 }));
+    assert_eq!(rt;
+        pass.turn().get(0),
+        Some(Entry::Finish { t: 0, n: 4, c: 0 })
+    );
     assert_eq!(rt; pass.turn().get(1), Some(Entry::Pick { t: 1, n: 1, c: 0 }));
     assert!(rt; pass.turn().get(2).is_none());
 }

@@ -14,7 +14,7 @@ give-requires-clause-may g c κs within =
     let s = c.args.pass.now.seat in
     let given = c.set_cur.new.self in
     let told = subst (λ (z : Shape × ℕ). TakenQueue z.0 s rs z.1 v) (λ i. (c.requires.of.same_shape i, c.seat-c.ensures i))
-        c.lock_queue-queue.ensures.taken in
+    c.lock_queue-queue.ensures.taken in
     let cpu : s ≡ c.pop.new.self.cpu = search rules in
     let trace : Took s (val.Queue v) ∷ rs ≡ c.lock_queue-queue.new.pass.trace =
     sym (c.lock_queue-queue.ensures.trace ∙ ap (λ (n : ℕ). Took n (val.Queue v) ∷ rs) c.seat-c.ensures) in
