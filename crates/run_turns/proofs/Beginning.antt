@@ -38,3 +38,12 @@ firsts_rest name shape lasting n = all_map IsAtRest (new_pass name shape lasting
 pub popped : (P : PassView → Type 0) (xs ys : List PassView) (o : Option PassView) → xs ≡ ys ++ option_to_list o → All P xs → IfSome o P
 popped P xs ys None is all = tt
 popped P xs ys (Some x) is all = All-contains P xs x all (subst (λ (zs : List PassView). Contains zs x) (sym is) (Contains-push ys x))
+
+all_front : (P : PassView → Type 0) (ys zs : List PassView) → All P (ys ++ zs) → All P ys
+all_front P [] zs all k d lt = absurd (omega (arith, lt))
+all_front P (y ∷ ys) zs all zero d lt = all 0 d (omega arith)
+all_front P (y ∷ ys) zs all (suc k) d lt = all_front P ys zs (λ i e l. all (suc i) e (omega (arith, l))) k d (omega (arith, lt))
+
+-- .. and of the others
+pub unpopped : (P : PassView → Type 0) (xs ys : List PassView) (o : Option PassView) → xs ≡ ys ++ option_to_list o → All P xs → All P ys
+unpopped P xs ys o is all = all_front P ys (option_to_list o) (subst (All P) is all)

@@ -9,6 +9,8 @@ use Rattle.run_cells.specs.Telling.{cleared}
 use Rattle.run_cells.specs.declared.net_map.Inputs.{Inputs}
 use Rattle.run_turns.specs.Conds.{read_cond, wrote_cond, wait_cond, wait_value, loads_of}
 use Rattle.run_turns.specs.Deaths.{HasDied}
+use Rattle.run_queue.specs.Starts.{DidStart}
+use Rattle.run_queue.specs.declared.answer.Start.{Start}
 use Rattle.run_turns.specs.declared.loads.Values.{Values}
 use Rattle.run_turns.specs.declared.turn.Turned.{Turned}
 use Rattle.run_turns.specs.declared.turn.Turned.TheVariants as turned
@@ -20,12 +22,21 @@ use Rattle.sched_switch.specs.declared.answer.Next.TheVariants as asked
 use Rattle.sched_switch.specs.declared.answer.Slept.{Slept}
 use Rattle.sched_switch.specs.declared.answer.Switch.{Switch}
 use Rattle.sched_switch.specs.declared.answer.Switch.TheVariants as switch
+use Rattle.task_words.specs.TaskVal.{TaskVal}
 use Rattle.task_words.specs.Views.{PassView}
 use Rattle.wait_queue.specs.Entering.{IsFinished}
 use Rattle.wait_queue.specs.Walks.{IsRaisedAndWalked}
 use Rattle.word_rule.specs.Own.{last_own}
 use Rattle.word_steps.specs.Folds.{current_task}
-use Rattle.word_steps.specs.Records.{Rec, OutBody, HomeBody}
+use Rattle.word_steps.specs.Records.{Rec, Took, Gave, StateSet, OutBody, HomeBody}
+use Rattle.word_steps.specs.declared.val.Val.TheVariants as val
+
+-- a new task was started on c, and that told
+pub record WasStarted (t c : ℕ) (old new : PassView) : Type 0 where
+  pub answer : Start
+  pub made : PassView
+  pub did : DidStart t c old made answer
+  pub is_told : new ≡ cleared made
 
 -- `schedule` was called, and told
 pub record WasSwitched (next : Next) (answer : Switch) (old new : PassView) : Type 0 where
@@ -58,10 +69,18 @@ abbrev pub Sleeps : Option ℕ → ℕ → PassView → PassView → Type 0
 Sleeps None v old new = new ≡ old
 Sleeps (Some k) v old new = WasSentToSleep k v old new
 
--- TASK_DEAD was stored as its state, then it left its processor, and died; and that is told
+-- under the lock of t TASK_DEAD was stored as its state
+pub record IsMarked (t : ℕ) (old new : PassView) : Type 0 where
+  pub task : TaskVal
+  pub did : new.trace
+      ≡ Gave t (val.Task task) (val.Task task) ∷ StateSet t dead ∷ Took t (val.Task task) ∷ old.trace
+  pub current : current_task new.seat new.trace ≡ Some t
+  pub marks : last_own new.trace t ≡ Some dead
+
+-- t, which is current, was marked so, then it left its processor, and died; and that is told
 pub record Dies (t : ℕ) (old new : PassView) : Type 0 where
   pub marked : PassView
-  pub marks : last_own marked.trace t ≡ Some dead
+  pub marks : IsMarked t old marked
   pub answer : Switch
   pub left : WasSwitched asked.Nobody answer marked new
   pub died : HasDied new.told t

@@ -9,3 +9,6 @@ mod turn;
 pub use loads::Values;
 pub use told::{die_told, raise_told, sleep_told, start_told, switch_told};
 pub use turn::{Turned, cpu_turn};
+
+#[cfg(test)]
+mod tests;

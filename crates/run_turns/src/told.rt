@@ -5,7 +5,7 @@ ghost use Rattle.core_kinds.specs.Steps.{dead};
 ghost use Rattle.run_cells.specs.Telling.{list_of, GoesOn};
 ghost use Rattle.run_turns.specs.Deaths.{HasDied};
 ghost use Rattle.run_turns.specs.Standing.{IsAtRest};
-ghost use Rattle.run_turns.specs.Turns.{WasSwitched, WasRaised, WasSentToSleep, Dies};
+ghost use Rattle.run_turns.specs.Turns.{WasStarted, WasSwitched, WasRaised, WasSentToSleep, IsMarked, Dies};
 ghost use Rattle.sched_switch.specs.Currents.{current_after, IsTaskOf};
 ghost use Rattle.task_words.specs.Views.{IsOf, IsSame, IsOneSeat};
 ghost use Rattle.word_rule.specs.Own.{last_own};
@@ -35,6 +35,7 @@ pub fn start_told<B: Kept, G: Gate, R: Wait>(
     requires rest { IsAtRest pass.old }
     ensures same { IsOneSeat pass.old pass.new }
     ensures rest { OnOk result (IsAtRest pass.new) }
+    ensures did { OnOk result (WasStarted t c pass.old pass.new) }
     ensures goes { GoesOn (list_of G.told gate.old) (list_of G.told gate.new) pass.old pass.new }
     ensures there { is_some gate.new ≡ is_some gate.old }
 {
@@ -127,8 +128,7 @@ fn mark_dead<B: Kept, R: Wait>(rt: &R, wk: &Wk<B>, pass: &mut Pass, t: TaskNo)
     requires ended { ended_known pass.old.trace t ≡ Some true }
     ensures same { IsSame pass.old pass.new }
     ensures rest { IsAtRest pass.new }
-    ensures current { current_task pass.new.seat pass.new.trace ≡ Some t }
-    ensures marked { last_own pass.new.trace t ≡ Some dead }
+    ensures marks { IsMarked t pass.old pass.new }
 {
     // The store stands under the task's lock: a waker that has matched the task under it has queued it and stored
     // TASK_RUNNING before it gives the lock, so that none overwrites the death.
