@@ -1,13 +1,14 @@
 -- What turns leave of seats.
-use Rattle.std.proofs.Common.{zero, suc, refl, ◌≡◌, ◌<◌, ◌∙◌, ℕ, ◌++◌, ◌∷◌, [], List, Option, map, length, get_or, set, sym, subst, ap, All, arith}
-use Rattle.std.specs.Prelude.{Bool, is_some}
+use Rattle.std.proofs.Common.{zero, suc, refl, ◌≡◌, ◌<◌, ◌∙◌, ℕ, ◌++◌, ◌∷◌, [], List, Option, length, get_or, set, sym, subst, ap, All, arith}
+use Rattle.std.specs.List.{Contains}
+use Rattle.std.specs.Prelude.{is_some}
 use Rattle.std.proofs.lemmas.List.Elements.{All-set, All-push}
 use Rattle.std.proofs.Math.Seq.{map-set_same}
 use Rattle.handoff_data.specs.declared.entry.Entry.{Entry}
 use Rattle.pipe_bodies.specs.declared.verdict.Then.{Then}
 use Rattle.pipe_bodies.specs.declared.verdict.Then.TheVariants as verdict
 use Rattle.run_cells.specs.Telling.{list_of, GoesOn, Grows, IsTold}
-use Rattle.run_rounds.specs.Seats.{Gates, number_of, dead_when, dead_after, IsKept, Goes, GoOn, AllGoOn}
+use Rattle.run_rounds.specs.Seats.{number_of, HasDiedAt, HasDiedSomewhere, dead_when, dead_after, IsKept, Goes, GoOn, AllGoOn}
 use Rattle.run_rounds.specs.declared.seat.Seat.{Seat}
 use Rattle.run_rounds.specs.declared.seat.Worker.{Worker}
 use Rattle.run_turns.proofs.TurnLaws.{died_still}
@@ -19,6 +20,16 @@ get_or_any : {X : Type 0} (xs : List X) (i : ℕ) (d e : X) → i < length xs �
 get_or_any [] i d e lt = absurd (omega (arith, lt))
 get_or_any (x ∷ xs) zero d e lt = refl
 get_or_any (x ∷ xs) (suc i) d e lt = get_or_any xs i d e (omega (arith, lt))
+
+-- found on a list
+module _ {G : Type 0} where
+  pub found_at : (seats : List (Seat G)) (i : ℕ) (seat : Seat G) (t : ℕ) → i < length seats → seat ≡ get_or seats i seat
+      → Contains seat.dead.items t → HasDiedAt seats t
+  found_at seats i seat t lt at dead = record { seat = seat; within = (i, lt, sym at); dead = dead }
+
+  pub found_somewhere : (workers : List (Worker G)) (i : ℕ) (worker : Worker G) (t : ℕ) → i < length workers
+      → worker ≡ get_or workers i worker → HasDiedAt worker.seats.items t → HasDiedSomewhere workers t
+  found_somewhere workers i worker t lt at died = record { worker = worker; within = (i, lt, sym at); at = died }
 
 module _ {G : Type 0} (told : G → Option (List Entry)) where
   died_all : (old new : List Entry) (dead : List ℕ) → Grows old new → All (HasDied old) dead → All (HasDied new) dead

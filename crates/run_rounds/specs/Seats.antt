@@ -14,7 +14,7 @@ use Rattle.run_turns.specs.declared.turn.Turned.{Turned}
 use Rattle.run_turns.specs.declared.turn.Turned.TheVariants as turned
 use Rattle.run_rounds.specs.declared.seat.Seat.{Seat}
 use Rattle.run_rounds.specs.declared.seat.Worker.{Worker}
-use Rattle.task_words.specs.Views.{PassView, IsOf, IsOneSeat}
+use Rattle.task_words.specs.Views.{IsOf, IsOneSeat}
 use Rattle.word_steps.specs.Folds.{current_task}
 use Rattle.word_table.specs.Views.{WordsView}
 

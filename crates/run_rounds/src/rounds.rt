@@ -1,5 +1,5 @@
 //! Rounds of all workers.
-ghost use Rattle.std.specs.Prelude.{◌≡◌, ◌↔◌, IsTrue, true, false, OnOk, All, Contains, length};
+ghost use Rattle.std.specs.Prelude.{◌≡◌, ◌<◌, ◌↔◌, ℕ, IsTrue, true, false, OnOk, All, Contains, length};
 ghost use Rattle.run_cells.specs.NetMaps.{IsNetMap};
 ghost use Rattle.run_rounds.specs.Seats.{IsReady, IsIdle, GoOn, AllGoOn, HasDiedAt, HasDiedSomewhere, IsOver};
 
@@ -95,21 +95,34 @@ fn are_idle<G>(seats: &[Seat<G>]) -> bool
 }
 
 fn are_all_idle<G>(workers: &[Worker<G>]) -> bool
-    ensures { IsTrue result ↔ All (λ w. All IsIdle w.seats.items) workers.now }
+    ensures { result ≡ true → All (λ w. All IsIdle w.seats.items) workers.now }
 {
-    workers
-        .iter()
-        .all(|worker| are_idle(worker.seats.as_slice()))
+    for worker in workers {
+        if !are_idle(worker.seats.as_slice()) {
+            return false;
+        }
+    }
+    true
 }
 
-// Whether each of so many tasks has died, and no seat has a current task.
-fn is_over<G>(workers: &[Worker<G>], tasks: u32) -> bool
-    ensures { result ≡ true → IsOver tasks workers.now }
+// Whether each of so many tasks has died.
+fn have_died<G>(workers: &[Worker<G>], tasks: u32) -> bool
+    ensures { result ≡ true → (t : ℕ) → t < tasks → HasDiedSomewhere workers.now t }
 {
     for t in 0..tasks {
         if !has_died(workers, t) {
             return false;
         }
+    }
+    true
+}
+
+// .. and no seat has a current task.
+fn is_over<G>(workers: &[Worker<G>], tasks: u32) -> bool
+    ensures { result ≡ true → IsOver tasks workers.now }
+{
+    if !have_died(workers, tasks) {
+        return false;
     }
     are_all_idle(workers)
 }

@@ -126,11 +126,7 @@ fn together<B: Kept, G: Drop>(
 }
 
 // A worker of one seat.
-fn alone<B: Kept, G: Drop>(
-    alloc: Global,
-    wk: &Wk<B>,
-    seat: Seat<G>,
-) -> Result<Worker<G>, NoMemory>
+fn alone<B: Kept, G: Drop>(alloc: Global, wk: &Wk<B>, seat: Seat<G>) -> Result<Worker<G>, NoMemory>
     requires ready { IsReady wk.now seat }
     ensures ready { IfOk result (λ w. All (IsReady wk.now) w.seats.items) }
 {
