@@ -15,7 +15,7 @@ use std::alloc::Global;
 use std::sync::Wait;
 use std::test::Fail;
 use std::thread::Threads;
-use task_script::read_script;
+use task_script::{law_script, read_script};
 use task_words::{Kept, Pass, Turn, Wk};
 
 // Three tasks on two processors: the first and the third are started on one, the second on the other.
@@ -170,6 +170,27 @@ fn deal<B: Kept, G: Drop>(
     }
 }
 
+// The table of a script, its passes, and the map of its conditions.
+#[tactic(auto, using(run_turns::proofs::Beginning::firsts_rest))]
+fn begin(alloc: Global, text: &str) -> Result<(Wk<Cell<NoWork>>, Vec<Pass>, NetMap), NoMemory>
+    ensures of { IfOk result (λ r. All (IsOf r.0) r.1.items) }
+    ensures rest { IfOk result (λ r. All IsAtRest r.1.items) }
+    ensures net { IfOk result (λ r. IsNetMap r.2 r.0.shape) }
+{
+    let Ok(script) = read_script(alloc, text.as_bytes()) else {
+        return Err(NoMemory);
+    };
+    law_script();
+    let net = NetMap::of(alloc, &script)?;
+    let bodies: Vec<Body<NoWork>> = Net::build(alloc, &script)?;
+    let cells = into_cells(alloc, bodies)?;
+    if cells.len() != script.shape.tasks as usize {
+        return Err(NoMemory);
+    }
+    let (wk, passes) = Wk::new(alloc, &script.shape, cells)?;
+    Ok((wk, passes, net))
+}
+
 // What a run left.
 #[derive(Drop)]
 struct Left<G> {
@@ -178,7 +199,6 @@ struct Left<G> {
 }
 
 // A run of a script, with a gate for each seat as long as there are some, and with one worker a seat or one for all.
-#[tactic(auto, using(run_turns::proofs::Beginning::firsts_rest))]
 fn run_text<G: Gate + Send, R: Threads + Wait + Sync>(
     rt: &R,
     alloc: Global,
@@ -186,12 +206,7 @@ fn run_text<G: Gate + Send, R: Threads + Wait + Sync>(
     gates: Vec<G>,
     is_apart: bool,
 ) -> Result<Left<G>, NoMemory> {
-    let Ok(script) = read_script(alloc, text.as_bytes()) else {
-        return Err(NoMemory);
-    };
-    let net = NetMap::of(alloc, &script)?;
-    let bodies: Vec<Body<NoWork>> = Net::build(alloc, &script)?;
-    let (wk, passes) = Wk::new(alloc, &script.shape, into_cells(alloc, bodies)?)?;
+    let (wk, passes, net) = begin(alloc, text)?;
     let seats = seats_of(rt, alloc, &wk, passes, gates)?;
     let mut workers = deal(alloc, &wk, seats, is_apart)?;
     let shared = Shared::new(wk.shape().tasks);
