@@ -1,1 +1,6 @@
-mod Try
+mod Bools
+mod Numbers
+mod Spelling
+mod Parsing
+mod Following
+mod Readings

@@ -5,10 +5,12 @@
 #![tactic(auto)]
 
 mod forms;
+mod law;
 mod program;
 mod read;
 mod words;
 
+pub use law::reads_what_is_written;
 pub use read::read_words;
 pub use words::{RunOptions, Words};
 
