@@ -1,0 +1,6 @@
+mod Bools
+mod Numbers
+mod Spelling
+mod Parsing
+mod Following
+mod Readings
