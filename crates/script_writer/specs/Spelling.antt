@@ -1,5 +1,5 @@
 -- The one canonical spelling of a script.
-use Rattle.std.specs.Prelude.{◌++◌, ℕ, List, [], ◌∷◌, length, map, get_or, codes}
+use Rattle.std.specs.Prelude.{◌≤◌, ◌++◌, ℕ, List, [], ◌∷◌, length, map, get_or, codes, All}
 use Rattle.std.specs.Fmt.{decimal}
 use Rattle.std.specs.List.{flat_map}
 use Rattle.task_script.specs.declared.plan.Plan.{Plan}
@@ -79,3 +79,8 @@ text_of lines = flat_map (λ line. line ++ 10 ∷ []) lines
 -- the bytes of the script
 abbrev pub spelled : Script → List ℕ
 spelled s = text_of (spelling s)
+
+-- each line and the whole are within the limits of a script
+pub record IsWithin (s : Script) : Type 0 where
+  pub lines : All (λ line. length line ≤ 4096) (spelling s)
+  pub whole : length (spelled s) ≤ 16777216
