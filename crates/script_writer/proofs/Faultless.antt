@@ -16,13 +16,24 @@ use Rattle.task_script.specs.Forms.{Kind, reads, Form, task_line, text_line, end
 use Rattle.task_script.specs.Script.{number_of, given, cpus_in, caches_in, room_in, named_in, read_in, is_kept, is_end, takes_text, SoFar, so_far, has_bad_count}
 use Rattle.task_script.specs.Script.{lacks_task, reads_again, faults, lowest, form_code, line_code, IsFaultless, AreFaultless}
 use Rattle.task_script.specs.Valid.{names_of, IsText, Begins}
-use Rattle.task_script.proofs.FormLaws.{IsGood}
+use Rattle.task_script.specs.Script.{bad_number, bad_name, name_twice, no_such_task, already_read, too_many, bad_order, text_without_task}
 use Rattle.script_writer.specs.Spelling.{spaced, name_of, task_words, spelled_text, texts_in}
 use Rattle.script_writer.proofs.NumberLaws.{within_back}
 use Rattle.script_writer.proofs.LineBack.{said_kind, reads_back, end_back, text_back, task_back}
 use Rattle.script_writer.proofs.TaskBack.{AreTasks, Stands, sources, stands_at, forms_from}
 
 -- ---- a line
+
+-- no fault of a line of this form comes, after lines that come to this
+pub record IsGood (s : SoFar) (form : Form) : Type 0 where
+  pub numbers : bad_number s form ≡ false
+  pub named : bad_name form ≡ false
+  pub fresh : name_twice s form ≡ false
+  pub found : no_such_task s form ≡ false
+  pub unread : already_read s form ≡ false
+  pub few : too_many s form ≡ false
+  pub ordered : bad_order s form ≡ false
+  pub behind : text_without_task s form ≡ false
 
 eight_false : (a b c d e f g h : Bool) → a ≡ false → b ≡ false → c ≡ false → d ≡ false → e ≡ false → f ≡ false → g ≡ false → h ≡ false
     → lowest ((3, a) ∷ (4, b) ∷ (5, c) ∷ (6, d) ∷ (7, e) ∷ (8, f) ∷ (10, g) ∷ (14, h) ∷ []) ≡ None

@@ -5,11 +5,11 @@ use Rattle.std.specs.List.{position_from, list_any}
 use Rattle.std.specs.Str.{bytes_eq}
 use Rattle.std.proofs.lemmas.Bool.{false_from_ne_true, or_from}
 use Rattle.std.proofs.lemmas.Bool.Decides.{nat_tests}
+use Rattle.std.proofs.lemmas.Iterator.Adapters.{position_from-zero}
 use Rattle.std.proofs.lemmas.List.{get_or_append_left, get_or-append-add, get_or_default, length-append}
 use Rattle.std.proofs.lemmas.List.Elements.{All-head, All-tail, All-cons}
 use Rattle.std.proofs.lemmas.Slice.Eq.{bytes_eq-Decides}
 use Rattle.task_script.specs.Script.{number_of, reads_again}
-use Rattle.task_script.proofs.NameLaws.{by_position}
 
 -- ---- lists in which nothing stands twice
 
@@ -42,6 +42,9 @@ same_bytes name = (bytes_eq-Decides name name).1 refl
 
 other_bytes : (name other : List ℕ) → name ≢ other → bytes_eq name other ≡ false
 other_bytes name other ne = false_from_ne_true _ (λ e. ne ((bytes_eq-Decides name other).0 e))
+
+by_position : (names : List (List ℕ)) (name : List ℕ) → number_of names name ≡ position_from (λ other. bytes_eq other name) 0 names
+by_position names name = position_from-zero (λ other. bytes_eq other name) names
 
 position_at : (i k : ℕ) (names : List (List ℕ)) → k < length names → Apart names → position_from (λ other. bytes_eq other (get_or names k [])) i names ≡ Some (i + k)
 position_at i k [] lt apart = absurd (omega arith)

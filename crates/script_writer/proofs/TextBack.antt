@@ -3,29 +3,32 @@ use Rattle.std.proofs.Common.{◌≡◌, ◌≢◌, ℕ, suc, ◌<◌, ◌≤◌
 use Rattle.std.specs.Fmt.{decimal as digits_of}
 use Rattle.std.specs.Prelude.{codes, unwrap_or}
 use Rattle.std.specs.List.{All, AllByRecursion, filter_map, flat_map, last_or}
+use Rattle.std.proofs.lemmas.Bool.{ne_eqb}
 use Rattle.std.proofs.lemmas.List.Elements.{All-nil, All-cons, recursion_from_All}
 use Rattle.handoff_data.specs.Line.{IsLine}
 use Rattle.task_script.specs.declared.script.TaskDef.{TaskDef}
 use Rattle.task_script.specs.declared.script.Script.{Script}
+use Rattle.task_script.specs.Forest.{IsForest}
 use Rattle.task_script.specs.Lines.{input_lines}
 use Rattle.task_script.specs.Forms.{Form, cpus_line, caches_line, room_line, is_within}
 use Rattle.task_script.specs.Script.{given, cpus_in, caches_in, room_in, shape_of, script_of, so_far, AreFaultless, IsScript}
-use Rattle.task_script.specs.Valid.{IsText, IsWord, IsMachine}
-use Rattle.task_script.proofs.FormLaws.{IsGood}
-use Rattle.task_script.proofs.ForestLaws.{script-forest}
-use Rattle.task_script.proofs.LineLaws.{line_ends}
-use Rattle.task_script.proofs.ScriptLaws.{one_script}
-use Rattle.task_script.proofs.ValidLaws.{script_machine, script_room, script_names, script_plans}
+use Rattle.task_script.specs.Valid.{IsText, IsWord, IsMachine, IsRoom, AreNames, names_of, AllBegin}
 use Rattle.script_writer.specs.Spelling.{spaced, spelled_setting, kind_words, source_words, task_words, spelled_text, spelled_task, texts_in, text_of, spelling, spelled, IsWithin}
 use Rattle.script_writer.proofs.WordLaws.{spaced_line}
 use Rattle.script_writer.proofs.NumberLaws.{number_word, plain_word, value_back, within_back}
 use Rattle.script_writer.proofs.LineBack.{cpus_back, caches_back, room_back, task_word, task_are_words}
 use Rattle.script_writer.proofs.TaskBack.{AreTasks, sources, stands_at, forms_from, tasks_back, none_set, ends}
-use Rattle.script_writer.proofs.Faultless.{IsShort, good_line, at_tasks, are_texts, lines_from, tasks_faultless}
+use Rattle.script_writer.proofs.Faultless.{IsShort, IsGood, good_line, at_tasks, are_texts, lines_from, tasks_faultless}
 
 -- ---- lines of a text
 
-pub lines_back : (lines : List (List ℕ)) → AllByRecursion IsLine lines → input_lines (text_of lines) ≡ lines
+-- the first line ends at the first line feed
+line_ends : (line bytes : List ℕ) → IsLine line → input_lines (line ++ 10 ∷ bytes) ≡ line ∷ input_lines bytes
+line_ends [] bytes none = refl
+line_ends (byte ∷ line) bytes none =
+    rw (ne_eqb byte 10 (none 0 0 (omega arith)), line_ends line bytes (λ k d lt. none (suc k) d (omega arith))) refl
+
+lines_back : (lines : List (List ℕ)) → AllByRecursion IsLine lines → input_lines (text_of lines) ≡ lines
 lines_back [] h = refl
 lines_back (line ∷ lines) h =
     ap input_lines (append_assoc line (10 ∷ []) (text_of lines)) ∙ line_ends line (text_of lines) h.0
@@ -188,14 +191,12 @@ same_script s m =
     let agents = sym m.agents in
     λ i. record { shape = record { cpus = s.shape.cpus; caches = s.shape.caches; tasks = tasks i; conds = conds i; agents = agents i }; room = s.room; tasks = s.tasks }
 
-pub spelled_is_script : (bytes : List ℕ) (s : Script) → IsScript bytes s → IsWithin s → IsScript (spelled s) s
-spelled_is_script bytes s is within =
-    let m = script_machine bytes s is in
+pub spelled_is_script : (s : Script) → IsMachine s.shape s.tasks → IsRoom s.room → IsForest s.tasks → AreNames (names_of s.tasks) → AllBegin s.tasks → IsWithin s → IsScript (spelled s) s
+spelled_is_script s m room forest names begin within =
     let valid = m.valid in
     let counted = m.counted in
     let few = valid.few_tasks in
-    let room = script_room bytes s is in
-    let are : AreTasks s.tasks = record { forest = script-forest bytes s is; names = script_names bytes s is; begin = script_plans bytes s is; few = omega arith } in
+    let are : AreTasks s.tasks = record { forest = forest; names = names; begin = begin; few = omega arith } in
     let lines = all_lines s.shape.cpus s.shape.caches s.room s.tasks in
     let forms = all_forms s.shape.cpus s.shape.caches s.room s.tasks in
     let spelt : spelling s ≡ lines =
@@ -216,9 +217,10 @@ spelled_is_script bytes s is within =
       says = sym (same_script s m) ∙ sym back;
     }
 
-pub only_script : (bytes : List ℕ) (s t : Script) → IsScript bytes s → IsWithin s → IsScript (spelled s) t → t ≡ s
-only_script bytes s t is within read = one_script (spelled s) s t (spelled_is_script bytes s is within) read
+-- scripts that their spellings are, where bytes are at most one script
+module _ (one : (bytes : List ℕ) (s t : Script) → IsScript bytes s → IsScript bytes t → t ≡ s) where
+  pub only_script : (s t : Script) → IsScript (spelled s) s → IsScript (spelled s) t → t ≡ s
+  only_script s t back read = one (spelled s) s t back read
 
-pub one_spelling : (bytes others : List ℕ) (s t : Script) → IsScript bytes s → IsScript others t → IsWithin s → IsWithin t → spelled s ≡ spelled t → s ≡ t
-one_spelling bytes others s t is other within fits same =
-    only_script others t s other fits (subst (λ (written : List ℕ). IsScript written s) same (spelled_is_script bytes s is within))
+  pub one_spelling : (s t : Script) → IsScript (spelled s) s → IsScript (spelled t) t → spelled s ≡ spelled t → s ≡ t
+  one_spelling s t back other same = one (spelled t) t s other (subst (λ (bytes : List ℕ). IsScript bytes s) same back)

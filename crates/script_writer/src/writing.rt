@@ -162,8 +162,8 @@ fn push_tasks(bytes: &mut Vec<u8>, tasks: &[TaskDef]) -> Result<(), NoMemory>
 ///
 /// Its lines are `cpus`, `caches` and `room`, each with its number; the tasks in their order, each source with its
 /// texts behind it; and `end`. One space stands between words, and numbers have no leading zeros. A text stands behind
-/// `| `, and an empty one is `|`. No line is blank or a comment, and each ends with a line feed. What `read_script` gave
-/// is read back from its spelling, where each line of that and the whole are within the limits of a script
+/// `| `, and an empty one is `|`. No line is blank or a comment, and each ends with a line feed. What `read_script`
+/// gave is read back from its spelling, where each line of that and the whole are within the limits of a script
 /// (`law_spelling`). Answers `NoMemory` where memory runs out.
 pub fn write_script(alloc: Global, script: &Script) -> Result<Vec<u8>, NoMemory>
     ensures { IfOk result (λ bytes. bytes.items ≡ spelled script.now) }
