@@ -1,6 +1,5 @@
 -- Turns, by their parts.
-use Rattle.std.proofs.Common.{◌≡◌, ◌∙◌, ℕ, ◌++◌, ◌∷◌, List, refl, sym, ap, subst, inl, inr, arith}
-use Rattle.std.specs.Prelude.{Option, Some, None}
+use Rattle.std.proofs.Common.{◌≡◌, ℕ, ◌++◌, ◌∷◌, List, refl, sym, subst, inl, inr, arith}
 use Rattle.std.specs.List.{Contains}
 use Rattle.std.proofs.lemmas.List.Elements.{Contains-append_left, Contains-append_right, Contains-get_or}
 use Rattle.handoff_data.specs.declared.entry.Entry.{Entry}
@@ -11,7 +10,7 @@ use Rattle.run_cells.specs.Telling.{cleared, Grows}
 use Rattle.run_cells.specs.declared.net_map.Inputs.{Inputs}
 use Rattle.run_turns.specs.Conds.{wait_cond, wait_value}
 use Rattle.run_turns.specs.Deaths.{HasDied}
-use Rattle.run_turns.specs.Turns.{GoesAs, Sleeps, LookedIn, HasLeftCond, looked_in}
+use Rattle.run_turns.specs.Turns.{GoesAs, Sleeps, LookedIn, HasLeftCond}
 use Rattle.wait_queue.specs.Entering.{IsFinished}
 use Rattle.run_turns.specs.declared.loads.Values.{Values}
 use Rattle.sched_switch.specs.Switches.{HasDied as DiedInTurn}
