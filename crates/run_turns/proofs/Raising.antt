@@ -1,6 +1,6 @@
 -- Which conditions each call raises.
 use Rattle.std.proofs.Common.{◌≡◌, ◌≢◌, ◌∙◌, ℕ, ◌+◌, ◌*◌, ◌++◌, ◌∷◌, [], List, refl, sym, ap, subst, inl, inr, arith, append_assoc}
-use Rattle.std.specs.Prelude.{true, false, Option, Some, None, ◌==◌, ◌⊎◌, if◌then◌else◌}
+use Rattle.std.specs.Prelude.{Bool, true, false, Option, Some, None, ◌==◌, ◌⊎◌, if◌then◌else◌}
 use Rattle.std.specs.Option.{option_to_list}
 use Rattle.std.proofs.lemmas.Bool.{cases_eq}
 use Rattle.std.proofs.lemmas.List.{append-nil}
@@ -10,9 +10,10 @@ use Rattle.handoff_data.specs.declared.state.State.{State}
 use Rattle.pipe_bodies.specs.declared.verdict.Then.{Then}
 use Rattle.pipe_bodies.specs.declared.verdict.Then.TheVariants as verdict
 use Rattle.pipe_bodies.specs.declared.verdict.Verdict.{Verdict}
+use Rattle.run_cells.specs.NetMaps.{side_of}
 use Rattle.run_cells.specs.declared.net_map.Inputs.{Inputs}
-use Rattle.run_turns.specs.Conds.{read_cond, wrote_cond, wait_cond, wait_value, load_of, loads_of}
-use Rattle.run_turns.specs.Laws.{raised_by, raised_in, HasRaised, raises_of}
+use Rattle.run_turns.specs.Conds.{taken_from, read_cond, wrote_cond, wait_cond, wait_value, load_of, loads_of}
+use Rattle.run_turns.specs.Laws.{raised_by, raised_in, HasRaised, for_taken, for_read, for_wrote, raises_of}
 use Rattle.run_turns.specs.Turns.{WasSwitched, WereRaised, Sleeps, IsMarked, GoesAs, GoesOnAfter, HasLeftCond, HadTurn, HasRun}
 use Rattle.run_turns.specs.declared.loads.Values.{Values}
 use Rattle.sched_switch.specs.Sleeps.{DidSleep, IsTested}
@@ -230,11 +231,32 @@ loads_raise t inputs values a = more refl (load_raise inputs.right values.right 
 pub had_raise : (t : ℕ) (old new : PassView) → HadTurn t old new → HasRaised [] old.trace new.trace
 had_raise t old new had = by_trace had.did (more refl (more refl raises_none))
 
+taken_raises : (o : Option ℕ) → option_to_list (taken_from o) ≡ for_taken o
+taken_raises None = refl
+taken_raises (Some x) = refl
+
+read_raises : (inputs : Inputs) (side : Option ℕ) → option_to_list (read_cond inputs side) ≡ for_read inputs side
+read_raises inputs None = refl
+read_raises inputs (Some side) = taken_raises (side_of inputs side)
+
+wrote_raises : (t : ℕ) (wrote : Bool) → option_to_list (wrote_cond t wrote) ≡ for_wrote t wrote
+wrote_raises t true = refl
+wrote_raises t false = refl
+
+-- .. up to the sleep or the death
+pub raised_after : (shape : Shape) (inputs : Inputs) (values : Values) (t : ℕ) (v : Verdict) (old new : PassView)
+    → (after : GoesOnAfter shape inputs values t v old new) → HasRaised (raises_of inputs t v) old.trace after.wrote.trace
+raised_after shape inputs values t v old new after =
+    raises_then
+    (subst (λ (z : List ℕ). HasRaised z old.trace after.read.trace) (read_raises inputs v.read)
+    (were_raised shape (read_cond inputs v.read) old after.read after.raised_read))
+    (subst (λ (z : List ℕ). HasRaised z after.read.trace after.wrote.trace) (wrote_raises t v.wrote)
+    (were_raised shape (wrote_cond t v.wrote) after.read after.wrote after.raised_wrote))
+
 pub after_raise : (shape : Shape) (inputs : Inputs) (values : Values) (t : ℕ) (v : Verdict) (old new : PassView)
     → GoesOnAfter shape inputs values t v old new → HasRaised (raises_of inputs t v) old.trace new.trace
 after_raise shape inputs values t v old new did =
-    then_none (raises_then (were_raised shape (read_cond inputs v.read) old did.read did.raised_read)
-    (were_raised shape (wrote_cond t v.wrote) did.read did.wrote did.raised_wrote))
+    then_none (raised_after shape inputs values t v old new did)
     (goes_raise inputs values t v.then did.wrote new did.goes)
 
 -- before the body's turn

@@ -13,8 +13,8 @@ use Rattle.pipe_bodies.specs.declared.verdict.Verdict.{Verdict}
 use Rattle.run_cells.specs.NetMaps.{side_of}
 use Rattle.run_cells.specs.Telling.{cleared}
 use Rattle.run_cells.specs.declared.net_map.Inputs.{Inputs}
-use Rattle.run_turns.proofs.Raising.{more, raises_then, switched_raise, were_raised, marked_raise, left_cond_raise, load_raise, load_side_raise, had_raise, before_raise, after_raise, run_raise}
-use Rattle.run_turns.specs.Conds.{read_cond, wrote_cond, put_out, load_of}
+use Rattle.run_turns.proofs.Raising.{more, raises_then, switched_raise, marked_raise, left_cond_raise, load_raise, load_side_raise, had_raise, before_raise, raised_after, after_raise, run_raise}
+use Rattle.run_turns.specs.Conds.{put_out, load_of}
 use Rattle.run_turns.specs.Laws.{inputs_at, raises_of, HasRaised, WasPickedAndRun, HasIdled, HasWaited, HasDiedNow}
 use Rattle.run_turns.specs.Turns.{WasSwitched, WasSentToSleep, Sleeps, Dies, GoesAs, HasRun, DidTurn}
 use Rattle.run_turns.specs.declared.turn.Turned.TheVariants as turned
@@ -143,9 +143,7 @@ dead_told t start marked made new first died is = subst (λ (p : PassView). HasD
 module _ (shape : Shape) (inputs : Inputs) (t : ℕ) (v : Verdict) (old new : PassView) (run : HasRun shape inputs t v old new) where
   -- from the end of the body's turn to the sleep or the death, and to the end
   raised_before : HasRaised (raises_of inputs t v) run.turned.trace run.after.wrote.trace
-  raised_before =
-      raises_then (were_raised shape (read_cond inputs v.read) run.turned run.after.read run.after.raised_read)
-      (were_raised shape (wrote_cond t v.wrote) run.after.read run.after.wrote run.after.raised_wrote)
+  raised_before = raised_after shape inputs run.values t v run.turned new run.after
 
   turn_before : IsSince (HomeBody t run.had.ended ∷ OutBody t run.had.was ∷ run.loaded.trace) run.after.wrote.trace
   turn_before = since_by run.had.did (since raised_before)

@@ -1,14 +1,14 @@
 -- What a turn of a processor did, in the words of a kernel's author.
-use Rattle.std.specs.Prelude.{◌≡◌, ℕ, ◌++◌, ◌∷◌, [], Bool, List, Some, None, slice_index_or}
-use Rattle.std.specs.Option.{option_to_list}
+use Rattle.std.specs.Prelude.{◌≡◌, ℕ, ◌*◌, ◌+◌, ◌++◌, ◌∷◌, [], Bool, true, false, List, Option, Some, None}
+use Rattle.std.specs.Prelude.{slice_index_or}
 use Rattle.core_data.specs.Queue.{Queue}
 use Rattle.core_kinds.specs.Steps.{dead}
 use Rattle.handoff_data.specs.declared.entry.Entry.{Entry}
 use Rattle.handoff_data.specs.declared.entry.Entry.TheVariants as entry
 use Rattle.pipe_bodies.specs.declared.verdict.Verdict.{Verdict}
+use Rattle.run_cells.specs.NetMaps.{side_of}
 use Rattle.run_cells.specs.Telling.{cleared}
 use Rattle.run_cells.specs.declared.net_map.Inputs.{Inputs}
-use Rattle.run_turns.specs.Conds.{read_cond, wrote_cond}
 use Rattle.sched_switch.specs.Laws.{IsAtFront, HasFoundNone}
 use Rattle.sched_switch.specs.Sleeps.{DidSleep}
 use Rattle.sched_switch.specs.Switches.{looked}
@@ -40,10 +40,23 @@ pub record HasRaised (ks : List ℕ) (old new : List Rec) : Type 0 where
   pub did : new ≡ added ++ old
   pub raised : raised_in added ≡ ks
 
--- What a turn of t raises by its body's verdict: 2x + 1 where an item of the task x was taken, and then 2t where one
--- was put out.
+-- an item of the task x was taken: 2x + 1
+abbrev pub for_taken : Option ℕ → List ℕ
+for_taken None = []
+for_taken (Some x) = (2 * x + 1) ∷ []
+
+abbrev pub for_read : Inputs → Option ℕ → List ℕ
+for_read inputs None = []
+for_read inputs (Some side) = for_taken (side_of inputs side)
+
+-- t put an item out: 2t
+abbrev pub for_wrote : ℕ → Bool → List ℕ
+for_wrote t false = []
+for_wrote t true = (2 * t) ∷ []
+
+-- What a turn of t raises by its body's verdict: for what was taken, and then for what was put out.
 abbrev pub raises_of : Inputs → ℕ → Verdict → List ℕ
-raises_of inputs t v = option_to_list (read_cond inputs v.read) ++ option_to_list (wrote_cond t v.wrote)
+raises_of inputs t v = for_read inputs v.read ++ for_wrote t v.wrote
 
 -- What was picked
 

@@ -1,7 +1,9 @@
 //! The body of the current task, in the table.
-ghost use Rattle.std.specs.Prelude.{◌≡◌, ◌<◌, true, Some, IfOk};
+ghost use Rattle.std.specs.Prelude.{◌≡◌, ◌<◌, true, Some, None, IfOk, IfSome};
 ghost use Rattle.pipe_bodies.specs.declared.verdict.Then.TheVariants.{Exit};
+ghost use Rattle.pipe_bodies.specs.Turns.{Turns};
 ghost use Rattle.run_cells.specs.NetMaps.{AreWithin};
+ghost use Rattle.run_turns.specs.Conds.{wait_cond, wait_value, cond_kept};
 ghost use Rattle.run_turns.specs.Standing.{IsAtRest};
 ghost use Rattle.run_turns.specs.Turns.{LookedIn, HasLeftCond, HadTurn};
 ghost use Rattle.task_words.specs.Views.{IsOf, IsSame};
@@ -17,6 +19,8 @@ use wait_queue::finish;
 
 // Takes the condition out of a cell.
 fn take_cond<W: Work>(cell: &mut Cell<W>) -> Option<CondNo>
+    ensures cond { result ≡ cond_kept cell.old.on }
+    ensures none { cell.new.on ≡ None }
     ensures lasting { cell.new.body.lasting ≡ cell.old.body.lasting }
     ensures ended { cell.new.body.seen.ended ≡ cell.old.body.seen.ended }
 {
@@ -74,6 +78,8 @@ pub struct BodyTurn {
 fn waits_at(waits: Waits, then: Then) -> Option<(CondNo, u64)>
     requires number { waits.t < 200 }
     requires inputs { AreWithin 200 waits.inputs }
+    ensures cond { cond_kept result ≡ wait_cond waits.inputs waits.t then }
+    ensures value { IfSome result (λ r. r.1 ≡ wait_value waits.values then) }
 {
     match waits.cond(then) {
         Some(k) => Some((k, waits.value(then))),
@@ -85,6 +91,9 @@ fn waits_at(waits: Waits, then: Then) -> Option<(CondNo, u64)>
 fn turn_cell<W: Work>(cell: &mut Cell<W>, waits: Waits) -> BodyTurn
     requires number { waits.t < 200 }
     requires inputs { AreWithin 200 waits.inputs }
+    ensures turned { IfOk result.verdict (λ v. Turns cell.old.body.seen cell.new.body.seen v) }
+    ensures cond { IfOk result.verdict (λ v. cond_kept cell.new.on ≡ wait_cond waits.inputs waits.t v.then) }
+    ensures value { IfOk result.verdict (λ v. IfSome cell.new.on (λ r. r.1 ≡ wait_value waits.values v.then)) }
     ensures lasting { cell.new.body.lasting ≡ cell.old.body.lasting }
     ensures stays { cell.old.body.seen.ended ≡ true → cell.new.body.seen.ended ≡ true }
     ensures ended { cell.new.body.seen.ended ≡ result.ended }
