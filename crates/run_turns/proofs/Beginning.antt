@@ -1,5 +1,5 @@
 -- The passes of a new table stand at rest.
-use Rattle.std.proofs.Common.{zero, suc, ◌≡◌, ◌<◌, ◌++◌, ℕ, List, [], ◌∷◌, map, length, refl, sym, subst, All, arith}
+use Rattle.std.proofs.Common.{zero, suc, ◌≡◌, ◌++◌, ℕ, List, [], ◌∷◌, map, refl, sym, subst, All, arith}
 use Rattle.std.specs.Prelude.{Option, Some, None, IfSome}
 use Rattle.std.specs.Option.{option_to_list}
 use Rattle.std.proofs.lemmas.List.Elements.{All-contains, Contains-push}

@@ -1,6 +1,6 @@
 -- The body of the current task goes out, and comes home.
 use Rattle.std.proofs.Common.{◌≡◌, ◌∙◌, ℕ, ◌∷◌, List, refl, sym, ap, subst, arith}
-use Rattle.std.specs.Prelude.{Bool, true, Option, Some, None, IsSome, IfSome, unwrap_or}
+use Rattle.std.specs.Prelude.{Bool, true, Option, Some, IsSome, IfSome, unwrap_or}
 use Rattle.std.proofs.lemmas.Bool.Decides.{nat_tests}
 use Rattle.run_turns.proofs.RestLaws.{turn_same}
 use Rattle.run_turns.specs.Standing.{IsAtRest}

@@ -1,6 +1,6 @@
 -- A pass stands at rest after a call that gives all back, and after its telling.
-use Rattle.std.proofs.Common.{◌≡◌, ◌∙◌, ℕ, ◌∷◌, List, refl, sym, ap, subst}
-use Rattle.std.specs.Prelude.{Bool, true, false, Option, Some, None}
+use Rattle.std.proofs.Common.{◌≡◌, ◌∙◌, ℕ, List, refl, sym, ap, subst}
+use Rattle.std.specs.Prelude.{Bool, false, Option, Some}
 use Rattle.core_data.specs.declared.values.WorkItem.{WorkItem}
 use Rattle.handoff_data.specs.declared.shape.Shape.{Shape}
 use Rattle.run_cells.specs.Telling.{cleared}
@@ -8,10 +8,9 @@ use Rattle.run_queue.specs.Rests.{Rests}
 use Rattle.run_turns.specs.Standing.{IsAtRest}
 use Rattle.sched_switch.specs.Standing.{IsSteady}
 use Rattle.task_words.specs.Closing.{empty_turn}
-use Rattle.task_words.specs.Views.{PassView, TurnView, IsSame}
+use Rattle.task_words.specs.Views.{PassView, IsSame}
 use Rattle.wait_queue.specs.Settles.{Settles}
-use Rattle.word_steps.specs.Folds.{task_held, queue_held, works_held, wait_held, body_held, is_claimed, current_task, stays_queued, task_to_clear, owes_walk}
-use Rattle.word_steps.specs.Records.{Rec}
+use Rattle.word_steps.specs.Folds.{current_task, task_to_clear, owes_walk}
 
 -- all is told, and the turn empty
 pub rest_told : (made new : PassView) → new ≡ cleared made → IsSteady made → ((k : ℕ) → owes_walk made.trace k ≡ false) → IsAtRest new

@@ -1,6 +1,7 @@
 -- Turns, by their parts.
 use Rattle.std.proofs.Common.{◌≡◌, ◌∙◌, ℕ, ◌++◌, ◌∷◌, List, refl, sym, ap, subst, inl, inr, arith}
 use Rattle.std.specs.Prelude.{Option, Some, None}
+use Rattle.std.proofs.lemmas.Bool.{cases_lt}
 use Rattle.std.specs.List.{Contains}
 use Rattle.std.proofs.lemmas.List.Elements.{Contains-append_left, Contains-append_right, Contains-get_or}
 use Rattle.handoff_data.specs.declared.entry.Entry.{Entry}
@@ -11,7 +12,7 @@ use Rattle.run_cells.specs.Telling.{cleared, Grows}
 use Rattle.run_cells.specs.declared.net_map.Inputs.{Inputs}
 use Rattle.run_turns.specs.Conds.{wait_cond, wait_value}
 use Rattle.run_turns.specs.Deaths.{HasDied}
-use Rattle.run_turns.specs.Turns.{GoesAs, Sleeps, LookedIn, HasLeftCond, looked_in}
+use Rattle.run_turns.specs.Turns.{GoesAs, Sleeps, LookedIn, LeavesKept, HasLeftCond}
 use Rattle.wait_queue.specs.Entering.{IsFinished}
 use Rattle.run_turns.specs.declared.loads.Values.{Values}
 use Rattle.sched_switch.specs.Switches.{HasDied as DiedInTurn}
@@ -54,12 +55,21 @@ goes_as inputs values t verdict.WaitOut old new other did = did
 goes_as inputs values t verdict.Exit old new other did = absurd (other refl)
 
 -- the cell kept no condition, or one that was left
-pub left_none : (t : ℕ) (old mid : PassView) → LookedIn t old mid → HasLeftCond t old mid
-left_none t old mid looked = record { ended = looked.ended; left = inl looked.did }
+left_none : (t : ℕ) (old mid new : PassView) → LookedIn t old mid → new ≡ mid → HasLeftCond t old new
+left_none t old mid new looked is = record { ended = looked.ended; left = inl (ap (λ (p : PassView). p.trace) is ∙ looked.did) }
 
-pub left_finished : (t k : ℕ) (old mid new : PassView) → IsSame old mid → LookedIn t old mid → IsFinished k mid.seat mid.trace new.trace
+left_finished : (t k : ℕ) (old mid new : PassView) → IsSame old mid → LookedIn t old mid → IsFinished k mid.seat mid.trace new.trace
     → HasLeftCond t old new
 left_finished t k old mid new same looked finished = record {
   ended = looked.ended;
   left = inr (k, subst (λ (z : ℕ × List Rec). IsFinished k z.0 z.1 new.trace) (λ i. (same.same.same_seat i, looked.did i)) finished);
 }
+
+pub left_kept : (t conds : ℕ) (kept : Option ℕ) (old mid new : PassView) → IsSame old mid → LookedIn t old mid
+    → LeavesKept conds kept mid new → HasLeftCond t old new
+left_kept t conds None old mid new same looked left = left_none t old mid new looked left
+left_kept t conds (Some k) old mid new same looked left =
+    elim (cases_lt k conds) [
+      | inl low ↦ left_finished t k old mid new same looked (left.0 low)
+      | inr high ↦ left_none t old mid new looked (left.1 high)
+    ]

@@ -44,6 +44,11 @@ wait_value values (verdict.WaitIn side) = value_of_side values side
 wait_value values verdict.WaitOut = values.out
 wait_value values verdict.Exit = 0
 
+-- the condition that a cell keeps, if it keeps one with its value
+abbrev pub cond_kept : Option (ℕ × ℕ) → Option ℕ
+cond_kept None = None
+cond_kept (Some kept) = Some kept.0
+
 -- a side's condition was loaded, if there is such a side
 abbrev pub load_of : Option ℕ → ℕ → List Rec → List Rec
 load_of None v trace = trace

@@ -1,4 +1,5 @@
 pub mod Conds
 pub mod Deaths
+pub mod Laws
 pub mod Standing
 pub mod Turns

@@ -1,5 +1,5 @@
 -- What a turn of a processor adds to what its pass has done: the lower calls in their order, each of which is told.
-use Rattle.std.specs.Prelude.{◌≡◌, ℕ, ◌∷◌, ◌⊎◌, Bool, List, Option, Some, None, slice_index_or}
+use Rattle.std.specs.Prelude.{◌≡◌, ◌<◌, ◌≤◌, ℕ, ◌∷◌, ◌⊎◌, Bool, List, Option, Some, None, slice_index_or}
 use Rattle.core_kinds.specs.Steps.{dead}
 use Rattle.handoff_data.specs.declared.shape.Shape.{Shape}
 use Rattle.pipe_bodies.specs.declared.verdict.Then.{Then}
@@ -113,6 +113,12 @@ looked_in t ended trace = HomeBody t ended ∷ OutBody t ended ∷ trace
 pub record LookedIn (t : ℕ) (old new : PassView) : Type 0 where
   pub ended : Bool
   pub did : new.trace ≡ looked_in t ended old.trace
+
+-- where the cell kept one of so many conditions, the current task has left that
+abbrev pub LeavesKept : ℕ → Option ℕ → PassView → PassView → Type 0
+LeavesKept conds None old new = new ≡ old
+LeavesKept conds (Some k) old new =
+    (k < conds → IsFinished k old.seat old.trace new.trace) × (conds ≤ k → new ≡ old)
 
 -- .. and where it kept a condition, that was left
 pub record HasLeftCond (t : ℕ) (old new : PassView) : Type 0 where

@@ -1,10 +1,10 @@
-use Rattle.std.proofs.Common.{◌≡◌, ◌∙◌, ℕ, ◌∷◌, List, sym, ap}
+use Rattle.std.proofs.Common.{◌≡◌, ◌∙◌, ◌∷◌, ap}
 use Rattle.run_cells.specs.declared.cell.Cell.{Cell}
 use Rattle.run_turns.proofs.BodyLaws.{may_come_home, came_home, rest_body}
 use Rattle.run_turns.proofs.RestLaws.{same_again}
 use Rattle.run_turns.proofs.bodies.cond_of.Given.{Over}
 use Rattle.run_turns.proofs.bodies.cond_of.Goals as goal
-use Rattle.word_steps.specs.Records.{Rec, OutBody, HomeBody}
+use Rattle.word_steps.specs.Records.{OutBody, HomeBody}
 
 pub body_home-requires-clause-may : goal.body_home-requires-clause-may
 body_home-requires-clause-may g c κs within =
