@@ -1,5 +1,6 @@
 -- What a run keeps of its seats.
-use Rattle.std.specs.Prelude.{◌≡◌, ◌<◌, ◌++◌, ◌∷◌, [], ℕ, Bool, true, false, List, Option, None, map, length, slice_index_or, is_some}
+use Rattle.std.specs.Prelude.{◌≡◌, ◌<◌, ◌++◌, ◌∷◌, [], ℕ, Bool, true, false, List, Option, None}
+use Rattle.std.specs.Prelude.{map, length, slice_index_or, is_some}
 use Rattle.std.specs.List.{All, Contains}
 use Rattle.handoff_data.specs.declared.entry.Entry.{Entry}
 use Rattle.handoff_data.specs.declared.shape.Shape.{Shape}

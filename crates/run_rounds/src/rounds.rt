@@ -1,5 +1,5 @@
 //! Rounds of all workers.
-ghost use Rattle.std.specs.Prelude.{◌≡◌, ◌<◌, ◌↔◌, ℕ, IsTrue, true, false, OnOk, All, Contains, length};
+ghost use Rattle.std.specs.Prelude.{◌≡◌, ◌<◌, ◌↔◌, ℕ, IsTrue, true, false, OnOk, OnErr, All, Contains, length};
 ghost use Rattle.run_cells.specs.NetMaps.{IsNetMap};
 ghost use Rattle.run_rounds.specs.Seats.{IsReady, IsIdle, GoOn, AllGoOn, HasDiedAt, HasDiedSomewhere, IsOver};
 
@@ -142,6 +142,7 @@ pub fn run_rounds<W: Work, G: Gate + Send, R: Threads + Wait + Sync>(
     ensures goes { AllGoOn G.told workers.old.items workers.new.items }
     ensures ready { OnOk result (All (λ w. All (IsReady wk.now) w.seats.items) workers.new.items) }
     ensures over { OnOk result (IsOver wk.now.shape.tasks workers.new.items) }
+    ensures refused { OnErr result (¬ (All (λ w. w.refused ≡ false) workers.new.items)) }
 {
     let tasks = wk.shape().tasks;
     for _ in rt.forever() {

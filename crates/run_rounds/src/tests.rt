@@ -275,7 +275,19 @@ fn each_task_dies_once(rt: HostRuntime) -> Result<(), Fail> {
     Ok(())
 }
 
-// Two gates of five turns each: at most two of them go to starts, and the three tasks have more than eight.
+// Where there is no task all is over, and no worker is needed.
+#[test]
+fn no_tasks_need_no_worker(rt: HostRuntime) -> Result<(), Fail> {
+    let (wk, _passes, net) = begin(rt.alloc(), "cpus 1\nend\n")?;
+    let mut workers: Vec<Worker<ListGate>> = Vec::new(rt.alloc());
+    let shared = Shared::new(wk.shape().tasks);
+    let is_granted = run_rounds(&rt, &wk, &net, &shared, &mut workers).is_ok();
+    assert_eq!(rt; is_granted, true);
+    assert_eq!(rt; workers.len(), 0);
+    Ok(())
+}
+
+// Two gates of three turns each: at most two of them go to starts, and the three tasks have more than four.
 #[test]
 fn a_gate_that_refuses_ends_the_run(rt: HostRuntime) -> Result<(), Fail> {
     let alloc = rt.alloc();
