@@ -1,15 +1,17 @@
 -- What may follow options that were seen.
-use Rattle.std.proofs.Common.{◌≡◌, ◌≢◌, ◌∙◌, ap, ap₂, refl, sym, ℕ, Bool, true, false, true≢false, not, ◌&&◌, ◌++◌, drop, List, [], ◌∷◌, map, codes, Option, Some, None, option_map, option_and_then, if◌then◌else◌, is_some, string_bytes}
+use Rattle.std.proofs.Common.{◌≡◌, ◌∙◌, ap, ap₂, refl, sym, ℕ, Bool, true, false, not, ◌&&◌, ◌++◌, List, [], ◌∷◌, map, codes, Option, Some, None, option_map, option_and_then}
+use Rattle.std.proofs.Common.{if◌then◌else◌, is_some, string_bytes}
 use Rattle.std.specs.declared.string.String.{String}
 use Rattle.std.specs.declared.alloc.Global.{Global}
 use Rattle.command_words.specs.declared.words.Words.TheVariants.{Run}
 use Rattle.std.specs.Option.{option_map_or}
 use Rattle.std.specs.List.{list_all, list_any}
 use Rattle.std.specs.Str.{bytes_eq}
-use Rattle.command_words.specs.Words.{Choice, workers_apart, workers_joined, with_trace, with_plain, are_single, has_number, is_plain, is_trace, is_workers, is_number, behind, choice_of, choices_of, options_of, reading_of, run_of, said_by}
+use Rattle.command_words.specs.Words.{Choice, workers_apart, workers_joined, with_trace, with_plain, are_single, has_number, is_plain, is_trace, is_workers, is_number, behind}
+use Rattle.command_words.specs.Words.{choice_of, choices_of, options_of, reading_of, run_of, said_by}
 use Rattle.command_words.specs.Forms.{are_new, may_follow, workers_in}
 use Rattle.command_words.specs.declared.forms.Seen.{Seen}
-use Rattle.command_words.proofs.Spelling.{behind_front, behind_is, none_some, one_more, same_text, some_is}
+use Rattle.command_words.proofs.Spelling.{behind_is, none_some, one_more, same_text, some_is}
 
 abbrev seen_by : Bool → Bool → Bool → Seen
 seen_by w t p = record { workers = w; trace = t; plain = p }

@@ -1,12 +1,11 @@
 -- What a number of workers looks like.
-use Rattle.std.proofs.Common.{◌≡◌, ◌∙◌, ◌≤◌, ◌<◌, refl, sym, ap, subst, ℕ, Bool, true, false, true≢false, ◌&&◌, nat_le, nat_lt, List, [], ◌∷◌, length, codes, None, rules, arith, nat_eq}
+use Rattle.std.proofs.Common.{◌≡◌, ◌∙◌, ◌≤◌, ◌<◌, refl, sym, ap, subst, ℕ, Bool, true, false, true≢false, nat_le, nat_lt, List, [], ◌∷◌, length, codes, None, rules, arith, nat_eq}
 use Rattle.std.specs.List.{list_all}
 use Rattle.std.specs.Char.{is_ascii_digit, digit_value}
 use Rattle.std.specs.Str.{bytes_eq}
 use Rattle.std.specs.Str.Parse.{AllDigits, ExplainsUnsignedError, HasUnsignedDigitsIfOk, IsNumeral, ParsesUnsigned, digits_value, without_leading_plus}
-use Rattle.std.specs.Prelude.{Ok, Err, Option, Some, drop, ◌^◌}
+use Rattle.std.specs.Prelude.{Err, Option, Some, ◌^◌}
 use Rattle.clap.specs.Words.{ReadsOne}
-use Rattle.std.specs.Bool.{if◌then◌else◌}
 use borrow.Author.Tests.{tests}
 use Rattle.clap.specs.Lexer.{long_of, short_of}
 use Rattle.command_words.specs.Words.{is_number}

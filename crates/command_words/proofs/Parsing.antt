@@ -1,5 +1,5 @@
 -- What the parser makes of the words of options, at each way to write them.
-use Rattle.std.proofs.Common.{◌≡◌, ◌≢◌, ◌≤◌, refl, sym, ap, ℕ, Bool, true, false, true≢false, ◌++◌, List, [], ◌∷◌, codes, Option, Some, None, option_map, rules, arith}
+use Rattle.std.proofs.Common.{◌≡◌, ◌≢◌, ◌≤◌, refl, sym, ℕ, true, false, true≢false, List, [], ◌∷◌, codes, Option, Some, option_map, arith}
 use Rattle.std.specs.Bool.{⊤}
 use Rattle.std.specs.List.{flat_map, list_any, list_all}
 use Rattle.clap.specs.Words.{Row, Text, is_simple, one_of, subcommand_of, takes}

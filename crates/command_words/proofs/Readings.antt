@@ -1,14 +1,14 @@
 -- The reading of words: what is written, what the parser finds, and what is taken out of it.
-use Rattle.std.proofs.Common.{◌≡◌, ◌≢◌, ◌↔◌, ◌∙◌, ap, ap₂, refl, sym, subst, ℕ, Bool, true, false, true≢false, ◌&&◌, ◌++◌, List, [], ◌∷◌, map, codes, Option, Some, None, option_map, option_and_then, if◌then◌else◌, is_some, string_bytes}
-use Rattle.std.specs.List.{flat_map, list_all, list_any}
+use Rattle.std.proofs.Common.{◌≡◌, ◌≢◌, ◌∙◌, ap, ap₂, refl, sym, subst, ℕ, Bool, true, false, true≢false, ◌&&◌, List, [], ◌∷◌, codes, Option, Some, None, option_map}
+use Rattle.std.proofs.Common.{option_and_then, if◌then◌else◌, is_some}
+use Rattle.std.specs.List.{flat_map, list_all}
 use Rattle.std.specs.Str.{bytes_eq}
 use Rattle.std.specs.Str.Parse.{digits_value}
-use Rattle.std.specs.Prelude.{IfOk, IfErr}
 use Rattle.clap.specs.Words.{HasMatchesOf, Row, Text, found_of, one_of, one_text, rows_of, subcommand_of, subcommand_rows_of, takes}
 use Rattle.clap.specs.declared.parser.matches.ArgMatches.{ArgMatches}
 use Rattle.clap.proofs.WalkLemmas.{one_text-rows}
-use Rattle.command_words.specs.Words.{Choice, workers_apart, workers_joined, with_trace, with_plain, alone, are_single, choices_of, has_number, is_number, is_plain, is_trace, options_of, run_of, said_by, workers_of}
-use Rattle.command_words.specs.Written.{Writes, WritesRun, words_of}
+use Rattle.command_words.specs.Words.{Choice, workers_apart, workers_joined, with_trace, with_plain, alone, are_single, choices_of, has_number, is_number, options_of, run_of, said_by, workers_of}
+use Rattle.command_words.specs.Written.{Writes, words_of}
 use Rattle.command_words.specs.Program.{HaveOptions, flag_text, program_app}
 use Rattle.command_words.specs.declared.words.RunOptions.{RunOptions}
 use Rattle.command_words.specs.declared.words.Words.{Words}

@@ -1,12 +1,12 @@
 -- Words are read as they are written.
-use Rattle.std.proofs.Common.{◌≡◌, ◌∙◌, ap, ap₂, refl, sym, ℕ, Bool, true, false, true≢false, ◌++◌, List, [], ◌∷◌, codes, Option, Some, None, option_map, option_and_then, rules, nat_eq, if◌then◌else◌, unwrap_or, is_some, append-nil}
+use Rattle.std.proofs.Common.{◌≡◌, ◌∙◌, ap, ap₂, refl, sym, ℕ, Bool, true, false, true≢false, ◌++◌, List, [], ◌∷◌, codes, Option, Some, None, option_map, option_and_then}
+use Rattle.std.proofs.Common.{rules, nat_eq, if◌then◌else◌, unwrap_or, is_some, append-nil}
 use Rattle.std.specs.List.{flat_map}
 use Rattle.std.specs.Str.{bytes_eq}
 use Rattle.std.specs.Str.Pattern.{FindsTextPrefix, StripsPrefix}
 use Rattle.std.specs.Borrow.{Bor}
 use Rattle.std.specs.Prelude.{MatchOption, drop}
 use Rattle.std.proofs.lemmas.Slice.Eq.{bytes_eq-Decides}
-use lib.Dec.{eqb→eq, eqb_refl}
 use Rattle.command_words.specs.Words.{Choice, workers_apart, workers_joined, with_trace, with_plain, behind, choice_of, choices_of}
 use Rattle.command_words.specs.Written.{words_of}
 
@@ -88,7 +88,8 @@ spelled (word ∷ next ∷ rest) choices h = go (spelled rest) (spelled (next �
     first (Some choice) e o tail h = more choice e o tail h
 
     go : Tail rest (choices_of rest) → Tail (next ∷ rest) (choices_of (next ∷ rest)) → (b : Bool) → bytes_eq word (codes "--workers") ≡ b
-        → (if b then option_map (λ cs. workers_apart next ∷ cs) (choices_of rest) else option_and_then (λ choice. option_map (λ cs. choice ∷ cs) (choices_of (next ∷ rest))) (choice_of word)) ≡ Some choices
+        → (if b then option_map (λ cs. workers_apart next ∷ cs) (choices_of rest)
+        else option_and_then (λ choice. option_map (λ cs. choice ∷ cs) (choices_of (next ∷ rest))) (choice_of word)) ≡ Some choices
         → word ∷ next ∷ rest ≡ flat_map words_of choices
     go near far true e h = apart e (choices_of rest) near h
     go near far false e h = first (choice_of word) refl (choices_of (next ∷ rest)) far h

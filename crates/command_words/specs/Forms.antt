@@ -1,9 +1,11 @@
 -- What the test of the forms goes by.
-use Rattle.std.specs.Prelude.{ℕ, Bool, false, not, ◌&&◌, if◌then◌else◌, List, [], ◌∷◌, codes, Option, Some, option_map}
+use Rattle.std.specs.Prelude.{ℕ, Bool, false, not, ◌&&◌, if◌then◌else◌, List, [], ◌∷◌, codes, Option, Some}
+use Rattle.std.specs.Prelude.{option_map}
 use Rattle.std.specs.Str.{bytes_eq}
 use Rattle.std.specs.List.{list_all, list_any}
 use Rattle.std.specs.Option.{option_map_or}
-use Rattle.command_words.specs.Words.{Choice, are_single, behind, choices_of, has_number, is_plain, is_trace, is_workers}
+use Rattle.command_words.specs.Words.{Choice, are_single, behind, choices_of, has_number, is_plain, is_trace}
+use Rattle.command_words.specs.Words.{is_workers}
 use Rattle.command_words.specs.declared.forms.Seen.{Seen}
 
 -- none of these options was seen before, and none stands twice; a number is one

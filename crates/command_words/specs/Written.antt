@@ -1,5 +1,5 @@
 -- How a command is written.
-use Rattle.std.specs.Prelude.{◌≡◌, ◌↔◌, ◌++◌, ℕ, true, ◌&&◌, List, [], ◌∷◌, codes, Some}
+use Rattle.std.specs.Prelude.{◌≡◌, ◌↔◌, ◌++◌, ℕ, true, List, [], ◌∷◌, codes, Some}
 use Rattle.std.specs.List.{list_all, flat_map}
 use Rattle.command_words.specs.Words.{Choice, workers_apart, workers_joined, with_trace, with_plain}
 use Rattle.command_words.specs.Words.{has_number, are_single, options_of, said_by}

@@ -1,5 +1,5 @@
-// Whether words have a reading, by the forms that they may have. It takes no memory, so that words without a reading are
-// refused however short memory is.
+// Whether words have a reading, by the forms that they may have. It takes no memory, so that words without a reading
+// are refused however short memory is.
 ghost use Rattle.std.specs.Prelude.{◌≡◌, is_some, map, option_map, string_bytes};
 ghost use Rattle.std.specs.Char.{is_ascii_digit};
 ghost use Rattle.std.specs.List.{list_all};

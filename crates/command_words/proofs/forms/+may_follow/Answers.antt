@@ -1,4 +1,4 @@
-use Rattle.std.proofs.Common.{◌≡◌, ◌∙◌, rules, sym, true, false, not, ◌&&◌}
+use Rattle.std.proofs.Common.{◌≡◌, ◌∙◌, rules, sym, not, ◌&&◌}
 use Rattle.command_words.specs.Words.{is_number}
 use Rattle.command_words.proofs.Following.{and_stop, and_then, told_plain, told_trace, told_workers}
 use Rattle.command_words.proofs.forms.+may_follow.Goals.{then-not-seen-3, else-not-seen-3}

@@ -1,7 +1,6 @@
-use Rattle.std.proofs.Common.{◌≡◌, ◌∙◌, rules, sym, ap, subst, List, Some, None}
-use Rattle.clap.specs.Words.{Row, found_of, rows_of}
+use Rattle.std.proofs.Common.{◌≡◌, ◌∙◌, rules, sym, ap, subst, Some, None}
+use Rattle.clap.specs.Words.{found_of, rows_of}
 use Rattle.command_words.specs.Program.{HaveOptions}
-use Rattle.command_words.specs.declared.words.RunOptions.{RunOptions}
 use Rattle.command_words.specs.declared.words.Words.TheVariants.{Run}
 use Rattle.command_words.proofs.Spelling.{none_some, some_is}
 use Rattle.command_words.proofs.read.command_in.Goals as goal

@@ -1,6 +1,5 @@
-use Rattle.std.proofs.Common.{◌≡◌, ◌∙◌, rules, sym, ap, codes, Some, None}
+use Rattle.std.proofs.Common.{◌≡◌, ◌∙◌, rules, sym, codes, Some, None}
 use Rattle.std.specs.Str.Parse.{digits_value}
-use Rattle.command_words.specs.Program.{HaveOptions}
 use Rattle.command_words.proofs.Numbers.{workers_read}
 use Rattle.command_words.proofs.Readings.{flag_read, one_read}
 use Rattle.command_words.proofs.Spelling.{none_some}
