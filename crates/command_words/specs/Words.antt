@@ -41,7 +41,7 @@ choices_of (word ∷ []) = option_map (λ choice. choice ∷ []) (choice_of word
 choices_of (word ∷ next ∷ rest) =
     if bytes_eq word (codes "--workers") then option_map (λ choices. workers_apart next ∷ choices) (choices_of rest)
     else option_and_then (λ choice. option_map (λ choices. choice ∷ choices) (choices_of (next ∷ rest)))
-        (choice_of word)
+    (choice_of word)
 
 abbrev pub is_workers : Choice → Bool
 is_workers (workers_apart text) = true
