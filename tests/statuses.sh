@@ -38,10 +38,21 @@ run "$work/hi" "$work/out" run
 expect 'a script' 0 ''
 printf 'a: hi\n' | cmp -s - "$work/out" || { failed=$((failed + 1)); echo 'a script: wrong report'; }
 
-for script in "$top"/examples/*.wake; do
-    run "$script" "$work/out" run
-    expect "$script" 0 ''
-    cmp -s "${script%.wake}.report" "$work/out" || { failed=$((failed + 1)); echo "$script: wrong report"; }
+for workers in 1 4; do
+    for script in "$top"/examples/*.wake; do
+        run "$script" "$work/out" run --workers "$workers"
+        expect "$script on $workers" 0 ''
+        cmp -s "${script%.wake}.report" "$work/out" ||
+            { failed=$((failed + 1)); echo "$script on $workers: wrong report"; }
+    done
+done
+
+# 100,000 lines through a ring of one, at each number of workers.
+printf 'cpus 4\nroom 1\ntask a count 100000\ntask t tally from a\nend\n' >"$work/ring"
+for workers in 1 2 3 4 8 16; do
+    run "$work/ring" "$work/out" run --workers "$workers"
+    expect "a ring of one on $workers" 0 ''
+    printf 't: 100000\n' | cmp -s - "$work/out" || { failed=$((failed + 1)); echo "a ring of one on $workers: wrong report"; }
 done
 
 # The answer on legal journals is printed to standard output; on others nothing is, and the status is 6.
@@ -71,6 +82,14 @@ run "$work/hi" "$work/out" run run
 expect 'two words' 2 "$usage"
 run "$work/hi" "$work/out" check run
 expect 'two commands' 2 "$usage"
+for workers in 0 17 x '' +4; do
+    run "$work/hi" "$work/out" run --workers "$workers"
+    expect "$workers workers" 2 "$usage"
+done
+run "$work/hi" "$work/out" run --workers
+expect 'no number of workers' 2 "$usage"
+run "$work/hi" "$work/out" check --workers 4
+expect 'a check with workers' 2 "$usage"
 run "$work/hi" "$work/out" "$(printf 'run\377')"
 expect 'a word that is no text' 2 "$usage"
 
@@ -110,6 +129,9 @@ unproved="wakerun: running the sources with checks and without proof, in about a
 run "$work/hi" "$work/out" run
 expect 'nothing proved' 0 "$unproved"
 printf 'a: hi\n' | cmp -s - "$work/out" || { failed=$((failed + 1)); echo 'nothing proved: wrong report'; }
+run "$work/hi" "$work/out" run --workers 4
+expect 'nothing proved, workers' 0 "$unproved"
+printf 'a: hi\n' | cmp -s - "$work/out" || { failed=$((failed + 1)); echo 'nothing proved, workers: wrong report'; }
 run "$work/bad" "$work/out" run
 expect 'nothing proved, no script' 1 "$unproved
 wakerun: line 2: 2 UnknownWord"

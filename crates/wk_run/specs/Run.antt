@@ -2,6 +2,8 @@
 use Rattle.std.specs.Prelude.{ℕ, List, map, Option}
 use Rattle.std.specs.List.{flat_map, zip}
 use Rattle.std.specs.Io.KnownBytes.{Appends, Consumes, IsAtEnd}
+use Rattle.handoff_data.specs.declared.entry.Entry.{Entry}
+use Rattle.run_script.specs.Told.{TellsRun}
 use Rattle.task_script.specs.declared.script.Script.{Script}
 use Rattle.task_script.specs.declared.script.TaskDef.{TaskDef}
 use Rattle.task_script.specs.Script.{IsScript, NotScript, FirstFault}
@@ -44,6 +46,22 @@ pub record WritesReportPart (held left before after : Option (List ℕ)) : Type 
   pub script : Script
   pub reads : ReadsScript held left script
   pub writes : WritesPart before after (report_of script)
+
+-- A script was read, its report was written, and the gates, which were `old` and are `new`, were told its run.
+pub record WritesAndTells {G : Type 0} (told : G → Option (List Entry)) (held left before after : Option (List ℕ))
+    (old new : List G) : Type 0 where
+  pub script : Script
+  pub reads : ReadsScript held left script
+  pub writes : Appends before after (report_of script)
+  pub tells : TellsRun told script old new
+
+-- A script was read, a part from the front of its report was written, and the gates were told its run.
+pub record WritesPartAndTells {G : Type 0} (told : G → Option (List Entry)) (held left before after : Option (List ℕ))
+    (old new : List G) : Type 0 where
+  pub script : Script
+  pub reads : ReadsScript held left script
+  pub writes : WritesPart before after (report_of script)
+  pub tells : TellsRun told script old new
 
 -- The source was read to its end or to one byte past the limit, what was read is no script, and its first fault is on
 -- this line and has this code.

@@ -1,12 +1,12 @@
 // Tests of `check`. Expected answers are those of the rules, found by hand. In the texts ` ; ` stands for a line end.
 use super::*;
+use crate::calls::call_on;
 use handoff_data::NoMemory;
 use std::alloc::Global;
 use std::process::Abort;
+use std::sync::Wait;
 use std::test::Fail;
-
-// The room of a sink that takes any line here.
-const ROOM: usize = 256;
+use std::thread::Threads;
 
 const NINE: &str =
     "journal 1 ; cpus 1 ; tasks 1 ; seats 1 ; seat 0 ; new 0 1 0 ; pick 0 1 0 ; sleep 0 2 0 ; finish 0 2 0 ; wake 0 2 ; enq 0 3 0 direct ; pick 0 3 0 ; die 0 4 0 ; finish 0 4 0 ; end";
@@ -22,30 +22,28 @@ fn lines_of(alloc: Global, text: &str) -> Result<Vec<u8>, NoMemory> {
 }
 
 // What `check` answers, and what it wrote, of this text, where these calls of the source and of the sink fail.
-fn check<R: AllocGlobal>(
+fn check<R: AllocGlobal + Threads + Wait + Sync>(
     rt: &R,
     text: &str,
     fails: (&[u64], &[u64]),
 ) -> Result<(Status, Vec<u8>), NoMemory> {
-    let mut source = MemSource::new(
-        lines_of(rt.alloc(), text)?,
-        Vec::from_slice(rt.alloc(), fails.0)?,
-    );
-    let mut sink = MemSink::new(rt.alloc(), ROOM, Vec::from_slice(rt.alloc(), fails.1)?)?;
-    let mut words = Vec::new(rt.alloc());
-    words.push(String::from_str(rt.alloc(), "check")?)?;
-    let status = wakerun(rt.alloc(), words.as_slice(), &mut source, &mut sink);
-    Ok((status, Vec::from_slice(rt.alloc(), sink.as_slice())?))
+    let mut gates: Vec<ListGate> = Vec::new(rt.alloc());
+    let bytes = lines_of(rt.alloc(), text)?;
+    call_on(rt, &["check"], bytes.as_slice(), fails, &mut gates)
 }
 
-fn expect_legal<R: Abort + AllocGlobal>(rt: &R, text: &str, line: &str) -> Result<(), NoMemory> {
+fn expect_legal<R: Abort + AllocGlobal + Threads + Wait + Sync>(
+    rt: &R,
+    text: &str,
+    line: &str,
+) -> Result<(), NoMemory> {
     let (status, taken) = check(rt, text, (&[], &[]))?;
     assert_eq!(rt; status, Status::Ok, "{text}");
     assert_eq!(rt; taken.as_slice(), line.as_bytes(), "{text}");
     Ok(())
 }
 
-fn expect_fault<R: Abort + AllocGlobal>(
+fn expect_fault<R: Abort + AllocGlobal + Threads + Wait + Sync>(
     rt: &R,
     text: &str,
     fault: JournalFault,

@@ -1,28 +1,30 @@
 // The report of a run.
-ghost use Rattle.std.specs.Prelude.{◌≡◌, ℕ, List, ◌++◌, IfOk, OnOk};
+ghost use Rattle.std.specs.Prelude.{◌≡◌, ℕ, List, ◌++◌, map, IfOk, OnOk};
 ghost use Rattle.std.specs.List.{flat_map, zip};
+ghost use Rattle.task_script.specs.declared.script.TaskDef.{TaskDef};
 ghost use Rattle.wk_run.specs.Named.{named_line, named_lines};
 
 use handoff_data::{Line, Lines, NoMemory};
 use std::alloc::Global;
 use std::collections::VecDeque;
+use task_script::TaskDef;
 
 // The lines of each task, each after the name of its task.
 pub(crate) fn named_reports(
     alloc: Global,
-    names: &[Line],
+    tasks: &[TaskDef],
     outputs: Vec<Lines>,
 ) -> Result<Vec<u8>, NoMemory>
     ensures { IfOk result (λ text. text.items ≡ flat_map (λ (task : List ℕ × List (List ℕ)). named_lines task.0 task.1)
-        (zip names.now outputs.items)) }
+        (zip (map (λ (task : TaskDef). task.name) tasks.now) outputs.items)) }
 {
     let mut text = Vec::new(alloc);
     let mut outputs = VecDeque::from_vec(outputs);
-    for name in names {
+    for task in tasks {
         let Some(lines) = outputs.pop_front() else {
             return Ok(text);
         };
-        push_named_lines(&mut text, name, lines)?;
+        push_named_lines(&mut text, &task.name, lines)?;
     }
     Ok(text)
 }

@@ -1,11 +1,12 @@
 // The top call, which does all that the program does.
-ghost use Rattle.std.specs.Prelude.{◌≡◌, ◌≢◌, ◌⊎◌, ◌↔◌, ◌≤◌, ℕ, Some, None, List};
+ghost use Rattle.std.specs.Prelude.{◌≡◌, ◌≢◌, ◌⊎◌, ◌↔◌, ◌≤◌, ℕ, Some, None, List, length};
 ghost use Rattle.handoff_data.specs.History.{History};
 ghost use Rattle.task_script.specs.Script.{IsScript};
 ghost use Rattle.task_script.specs.declared.script.Script.{Script};
 ghost use Rattle.wk_run.specs.Check.{IsLegalText, ReadsIllegal, WritesVerdict, WritesVerdictPart};
 ghost use Rattle.wk_run.specs.Ends.{Rose};
 ghost use Rattle.wk_run.specs.Run.{ReadsFault, WritesReport, WritesReportPart};
+ghost use Rattle.wk_run.specs.Run.{WritesAndTells, WritesPartAndTells};
 ghost use Rattle.wk_run.specs.Words.{reading_of};
 ghost use Rattle.wk_run.specs.declared.words.RunOptions.{RunOptions};
 ghost use Rattle.wk_run.specs.declared.words.Words.TheVariants.{Run, Check};
@@ -16,19 +17,30 @@ use crate::command::run_cmd;
 use crate::ends::{Sink, Source};
 use crate::status::Status;
 use crate::words::{Words, read_words};
+use run_cells::Gate;
 use std::alloc::Global;
+use std::sync::Wait;
+use std::thread::Threads;
 
-/// Does what the words of the command line ask for: `run` reads a script from `input` and writes its report to `out`,
-/// and `check` reads journals and writes how many entries they have, where they are one legal history.
+/// Does what the words of the command line ask for: `run` reads a script from `input`, runs it on the scheduler and
+/// writes its report to `out`, and `check` reads journals and writes how many entries they have, where they are one
+/// legal history.
 ///
-/// It waits for nobody and returns. `words` are the words behind the program's name. Of several answers that would
-/// fit, the first of `Usage`, `ReadFault`, `BadScript` or `Illegal`, and `WriteFault` is given, and `NoMemory` in the
-/// place of any but `Usage`. What the source has left after `NoMemory` or `ReadFault` is not said.
-pub fn wakerun<S: Source, K: Sink>(
+/// `words` are the words behind the program's name. A run is driven by as many workers as they say, each in a thread of
+/// its own where one can be made. Gate i is told the entries of seat i, oldest first; processors are the first seats.
+/// A gate beyond the seats is left alone, and of a seat without a gate nobody is told. Only the run of a script tells
+/// anybody anything: after `NoMemory` of `run` the gates may have been told a part of what their seats did.
+///
+/// Of several answers that would fit, the first of `Usage`, `ReadFault`, `BadScript` or `Illegal`, and `WriteFault` is
+/// given, and `NoMemory` in the place of any but `Usage`; it leaves the sink as it was. What the source has left after
+/// `NoMemory` or `ReadFault` is not said.
+pub fn wakerun<S: Source, K: Sink, G: Gate + Send, R: Threads + Wait + Sync>(
+    rt: &R,
     alloc: Global,
     words: &[String],
     input: &mut S,
     out: &mut K,
+    gates: &mut Vec<G>,
 ) -> Status
     // The words have no reading: nothing was read or written.
     ensures usage { (result ≡ Status.Usage) ↔ (reading_of words.now ≡ None) }
@@ -40,6 +52,22 @@ pub fn wakerun<S: Source, K: Sink>(
         → WritesReport (S.remaining input.old) (S.remaining input.new) (K.taken out.old) (K.taken out.new) }
     ensures check_ok { reading_of words.now ≡ Some Check → result ≡ Status.Ok
         → WritesVerdict (S.remaining input.old) (S.remaining input.new) (K.taken out.old) (K.taken out.new) }
+
+    // Of the script whose report was written, whole or in part, the gates were told the run: each the journal of its
+    // seat, and the journals are one legal history of the script's tasks.
+    ensures run_told { (options : RunOptions) → reading_of words.now ≡ Some (Run options) → result ≡ Status.Ok
+        → WritesAndTells G.told (S.remaining input.old) (S.remaining input.new) (K.taken out.old) (K.taken out.new)
+        gates.old.items gates.new.items }
+    ensures run_part_told { (options : RunOptions) → reading_of words.now ≡ Some (Run options)
+        → result ≡ Status.WriteFault
+        → WritesPartAndTells G.told (S.remaining input.old) (S.remaining input.new) (K.taken out.old) (K.taken out.new)
+        gates.old.items gates.new.items }
+
+    // Nobody is told anything by another command, nor where no script was read.
+    ensures untold { ((options : RunOptions) → reading_of words.now ≢ Some (Run options)) → gates.new ≡ gates.old }
+    ensures untold_fault { result ≢ Status.Ok → result ≢ Status.WriteFault → result ≢ Status.NoMemory
+        → gates.new ≡ gates.old }
+    ensures gate_count { length gates.new.items ≡ length gates.old.items }
 
     // The source was read to its end or to one byte past the limit. The bytes are no script, and this is their first
     // fault; or they are no text of legal journals, and this is why.
@@ -77,7 +105,7 @@ pub fn wakerun<S: Source, K: Sink>(
 {
     match read_words(words) {
         None => Status::Usage,
-        Some(Words::Run(_options)) => run_cmd(alloc, input, out),
+        Some(Words::Run(options)) => run_cmd(rt, alloc, options, input, out, gates),
         Some(Words::Check) => check_cmd(alloc, input, out),
     }
 }

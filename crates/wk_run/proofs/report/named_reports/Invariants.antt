@@ -1,10 +1,13 @@
-use Rattle.std.proofs.Common.{◌≡◌, ℕ, List, ◌++◌, drop}
+use Rattle.std.proofs.Common.{◌≡◌, ℕ, List, ◌++◌, drop, map}
 use Rattle.std.specs.List.{flat_map, zip}
+use Rattle.task_script.specs.declared.script.TaskDef.{TaskDef}
 use Rattle.wk_run.specs.Named.{named_lines}
 use Rattle.wk_run.proofs.report.named_reports.Given as goal
 
 -- what is written, and then what the tasks that are left give, is the whole
-abbrev pub invariant-loop-name : goal.invariant-loop-name
-invariant-loop-name l =
-    l.text.items ++ flat_map (λ (task : List ℕ × List (List ℕ)). named_lines task.0 task.1) (zip (drop l.name-index l.names) l.outputs.items)
-    ≡ flat_map (λ (task : List ℕ × List (List ℕ)). named_lines task.0 task.1) (zip l.names l.initial.outputs.items)
+abbrev pub invariant-loop-task : goal.invariant-loop-task
+invariant-loop-task l =
+    l.text.items ++ flat_map (λ (task : List ℕ × List (List ℕ)). named_lines task.0 task.1)
+    (zip (map (λ (task : TaskDef). task.name) (drop l.task-index l.tasks)) l.outputs.items)
+    ≡ flat_map (λ (task : List ℕ × List (List ℕ)). named_lines task.0 task.1)
+    (zip (map (λ (task : TaskDef). task.name) l.tasks) l.initial.outputs.items)

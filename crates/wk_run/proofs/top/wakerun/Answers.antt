@@ -23,4 +23,4 @@ returns-in-Some-Check-clause-check_complete g c = λ checks bytes journals told 
     (λ why e. c.check_cmd.ensures.no_legal why e bytes journals told is)
 
 pub returns-in-Some-Run-clause-bad_script : goal.returns-in-Some-Run-clause-bad_script
-returns-in-Some-Run-clause-bad_script g c = λ line code e. ((c.in-Some-Run._options, cc), c.run_cmd.ensures.bad_script line code e)
+returns-in-Some-Run-clause-bad_script g c = λ line code e. ((c.in-Some-Run.options, cc), c.run_cmd.ensures.bad_script line code e)
