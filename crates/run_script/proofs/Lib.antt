@@ -1,0 +1,9 @@
+pub mod Crews
+pub mod Driving
+pub mod Homes
+pub mod Journals
+pub mod Rows
+pub mod Runs
+pub mod Sitting
+pub mod Telling
+pub mod TestScripts

@@ -1,0 +1,4 @@
+pub mod Dealt
+pub mod Ran
+pub mod Seated
+pub mod Told
