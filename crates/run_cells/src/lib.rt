@@ -8,7 +8,7 @@ mod ending;
 mod gate;
 mod net_map;
 
-pub use cell::{Cell, into_bodies, into_cells};
+pub use cell::{BodyBox, Cell, into_bodies, into_cells};
 pub use ending::finish_run;
 pub use gate::{Gate, ListGate, tell};
 pub use net_map::{Inputs, NetMap, put_out, taken_from};
