@@ -38,7 +38,7 @@ impl<W: Work> BodyBox<W> {
         Ok(BodyBox { inner })
     }
 
-    /// One turn of the body, as by `Body::turn`.
+    /// One turn of the body, as by `Body::turn`, which answers `NoMemory` where memory runs out.
     pub fn turn(&mut self) -> Result<Verdict, NoMemory>
         ensures turns { IfOk result (λ v. Turns self.old.seen self.new.seen v) }
         ensures exit { IfOk result (λ v. v.then ≡ Exit → self.new.seen.ended ≡ true) }
