@@ -1,7 +1,7 @@
 #!/bin/sh
 # What the built program prints to standard error and with what status it ends, for each answer that a command can show;
 # the report of each script in examples/, and the answer on each text of journals in examples/journals/;
-# and both ways of the wrapper `wakerun`, by the proved program and by `rt try`.
+# the examples of the manual page; and both ways of the wrapper `wakerun`, by the proved program and by `rt try`.
 # Run it after `rt ci`, which leaves the program in crates/wakerun/out.
 top=$(CDPATH='' cd -- "$(dirname -- "$0")/.." && pwd) || exit 1
 program=$top/crates/wakerun/out/wakerun
@@ -47,6 +47,46 @@ for workers in 1 4; do
     done
 done
 
+# The journals behind each report are legal, on few workers and on many.
+for workers in 1 3 8; do
+    for script in "$top"/examples/*.wake; do
+        run "$script" "$work/traced" run --trace --workers "$workers"
+        expect "$script traced on $workers" 0 ''
+        sed '/^journal 1$/,$d' "$work/traced" | cmp -s "${script%.wake}.report" - ||
+            { failed=$((failed + 1)); echo "$script traced on $workers: wrong report"; }
+        sed -n '/^journal 1$/,$p' "$work/traced" >"$work/journals"
+        # Each line behind the first four that is none of a seat and not the last is an entry.
+        entries=$(sed '1,4d;$d;/^seat /d' "$work/journals" | wc -l)
+        run "$work/journals" "$work/out" check
+        expect "the journals of $script on $workers" 0 ''
+        printf 'legal %d\n' "$entries" | cmp -s - "$work/out" ||
+            { failed=$((failed + 1)); echo "the journals of $script on $workers: $(cat "$work/out")"; }
+    done
+done
+
+# A plan reads as its script does, and is its own plan.
+for script in "$top"/examples/*.wake; do
+    run "$script" "$work/plan" plan
+    expect "the plan of $script" 0 ''
+    run "$work/plan" "$work/out" plan
+    expect "the plan of the plan of $script" 0 ''
+    cmp -s "$work/plan" "$work/out" || { failed=$((failed + 1)); echo "$script: its plan has another plan"; }
+    run "$work/plan" "$work/out" run
+    expect "the plan of $script, run" 0 ''
+    cmp -s "${script%.wake}.report" "$work/out" || { failed=$((failed + 1)); echo "$script: its plan has another report"; }
+done
+run "$work/hi" "$work/out" run --plain
+expect 'a plain report' 0 ''
+printf 'hi\n' | cmp -s - "$work/out" || { failed=$((failed + 1)); echo 'a plain report: wrong report'; }
+
+# The examples of the manual page, out of the page itself.
+if sh "$top/tests/manual.sh" "$program" >"$work/manual" 2>&1; then
+    passed=$((passed + 1))
+else
+    failed=$((failed + 1))
+    cat "$work/manual"
+fi
+
 # 100,000 lines through a ring of one, at each number of workers.
 printf 'cpus 4\nroom 1\ntask a count 100000\ntask t tally from a\nend\n' >"$work/ring"
 for workers in 1 2 3 4 8 16; do
@@ -75,6 +115,15 @@ run "$work/bad" "$work/out" run
 expect 'no script' 1 'wakerun: line 2: 2 UnknownWord'
 [ ! -s "$work/out" ] || { failed=$((failed + 1)); echo 'no script: something was written'; }
 
+# The number of a work that there isn't, and one that an earlier task has.
+printf 'cpus 1\ntask a lines\n| Hi\ntask e custom 2 from a\nend\n' >"$work/custom"
+run "$work/custom" "$work/out" run
+expect 'a work that there is not' 1 'wakerun: line 4: 13 BadCustom'
+[ ! -s "$work/out" ] || { failed=$((failed + 1)); echo 'a work that there is not: something was written'; }
+printf 'cpus 1\ntask a count 1\ntask s custom 0 from a\ntask e custom 0 from s\nend\n' >"$work/custom"
+run "$work/custom" "$work/out" plan
+expect 'a work of two tasks' 1 'wakerun: line 4: 13 BadCustom'
+
 usage='wakerun: usage: run, plan, check or gen N SEED'
 run "$work/hi" "$work/out"
 expect 'no words' 2 "$usage"
@@ -88,6 +137,14 @@ for workers in 0 17 x '' +4; do
 done
 run "$work/hi" "$work/out" run --workers
 expect 'no number of workers' 2 "$usage"
+for words in '--trace --trace' '--plain --plain' '--workers=2 --workers 2' -x -- plan; do
+    run "$work/hi" "$work/out" run $words
+    expect "run $words" 2 "$usage"
+done
+run "$work/hi" "$work/out" plan --plain
+expect 'a plan with an option' 2 "$usage"
+run "$work/hi" "$work/out" gen 1000 7
+expect 'words that have no reading yet' 2 "$usage"
 run "$work/hi" "$work/out" check --workers 4
 expect 'a check with workers' 2 "$usage"
 run "$work/hi" "$work/out" "$(printf 'run\377')"
@@ -100,6 +157,13 @@ expect 'a full device' 4 'wakerun: write fault'
 run "$work/bad" /dev/full run
 expect 'no script, and a full device' 1 'wakerun: line 2: 2 UnknownWord'
 
+run "$work/bad" "$work/out" plan
+expect 'no script to plan' 1 'wakerun: line 2: 2 UnknownWord'
+[ ! -s "$work/out" ] || { failed=$((failed + 1)); echo 'no script to plan: something was written'; }
+run "$work" "$work/out" plan
+expect 'a folder in the place of a script' 3 'wakerun: read fault'
+run "$work/hi" /dev/full plan
+expect 'a plan, and a full device' 4 'wakerun: write fault'
 run "$work" "$work/out" check
 expect 'a folder in the place of journals' 3 'wakerun: read fault'
 run "$top/examples/journals/one_task.journal" /dev/full check

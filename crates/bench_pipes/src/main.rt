@@ -46,7 +46,7 @@ fn sizes<R: Runtime>(rt: &R) -> Option<(u32, u32)> {
 // Runs both, and prints what came out of each, or how long a line took through one `cat`.
 fn compare<R: Runtime + AllocGlobal>(rt: &R, lines: u32, cats: u32, room: u32) -> Option<()> {
     let script = chain(rt.alloc(), lines, cats, room).ok()?;
-    let bodies: Vec<Body<NoWork>> = Net::build(rt.alloc(), &script).ok()?;
+    let bodies: Vec<Body<NoWork>> = Net::build(rt.alloc(), &script, Vec::new(rt.alloc())).ok()?;
     let begun = Instant::now(rt).ok()?;
     let kept = run_bodies(rt.alloc(), script.tasks.as_slice(), bodies, u64::MAX).ok()??;
     let by_bodies = begun.elapsed(rt).ok()?;
@@ -84,7 +84,7 @@ fn count(kept: &[Lines]) -> usize {
 // The script of a source of so many lines, and so many tasks that read the one before and a task without lines.
 #[tactic(auto, using(crate::proofs::Scripts::some_script))]
 fn chain(alloc: Global, lines: u32, cats: u32, room: u32) -> Result<Script, NoMemory>
-    ensures { IfOk result (λ s. (bytes : List ℕ) × IsScript bytes s) }
+    ensures { IfOk result (λ s. (bytes : List ℕ) × IsScript 0 bytes s) }
 {
     let mut text = format!(in alloc; "cpus 1\nroom {room}\ntask t0 lines\n")?;
     for _ in 0..lines {
@@ -100,7 +100,7 @@ fn chain(alloc: Global, lines: u32, cats: u32, room: u32) -> Result<Script, NoMe
         text.push_str(tasks.as_str())?;
     }
     text.push_str("end\n")?;
-    match read_script(alloc, text.as_bytes()) {
+    match read_script(alloc, text.as_bytes(), 0) {
         Ok(script) => Ok(script),
         Err(_) => Err(NoMemory),
     }

@@ -16,7 +16,7 @@ use Rattle.pipe_bodies.specs.Parts.{IsJoined}
 use Rattle.pipe_bodies.specs.Bodies.{Lasting, BodyView, IsFresh, IsOfRoom, HasRoom}
 use Rattle.pipe_bodies.specs.Nets.{others, IsSide, IsNetAfter, lasting_of, output_in, output_of, NotIn, IsReading, reads_on, Part, part_of, IsBegun, IsFree, Links, SideIn, JointIn, Built}
 use Rattle.task_script.specs.declared.plan.Plan.{Plan}
-use Rattle.task_script.specs.declared.plan.Plan.TheVariants.{Lines, Count, Upper, Number, Keep, Drop, Tally, Cat, Weave, Pin}
+use Rattle.task_script.specs.declared.plan.Plan.TheVariants.{Lines, Count, Upper, Number, Keep, Drop, Tally, Cat, Weave, Pin, Table}
 use Rattle.task_script.specs.declared.script.TaskDef.{TaskDef}
 
 -- ---- one more ring
@@ -92,6 +92,7 @@ most_sides (Tally n) = omega arith
 most_sides (Cat turn) = omega arith
 most_sides (Weave turn ended) = omega arith
 most_sides (Pin n on) = omega arith
+most_sides (Table table ends) = omega arith
 
 linked : (x : ℕ) (n : ℕ) (a c : List (Option Ring)) (r : Option Ring) → x < n → length a ≡ n → IsSome r → c ≡ slice_set a x r → (x < n) × IsSome r × (r ≡ slice_index_or c x None)
 linked x n a c r l e s q = (l, s, sym (ap (λ z. slice_index_or z x None) q ∙ get_or-set_same a x r None (subst (λ z. x < z) (sym e) l)))

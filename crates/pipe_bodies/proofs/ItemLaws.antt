@@ -2,7 +2,7 @@
 use Rattle.std.proofs.Common.{◌≡◌, ℕ, zero, suc, List, [], ◌∷◌, ◌++◌, true, false, refl, sym, ap, ◌∙◌, append-nil}
 use Rattle.std.specs.Prelude.{Option, Some, None}
 use Rattle.task_script.specs.declared.plan.Plan.{Plan}
-use Rattle.task_script.specs.declared.plan.Plan.TheVariants.{Lines, Count, Upper, Number, Keep, Drop, Tally, Cat, Weave, Pin}
+use Rattle.task_script.specs.declared.plan.Plan.TheVariants.{Lines, Count, Upper, Number, Keep, Drop, Tally, Cat, Weave, Pin, Table}
 use Rattle.pipe_tasks.specs.Words.{Line}
 use Rattle.pipe_tasks.specs.Plans.{wants, says, next, last, closed, made, lines_of}
 use Rattle.pipe_tasks.specs.Feeds.{FeedingGivesLines}
@@ -39,6 +39,7 @@ first_over (Weave (suc n) false) q x y w e = cc
 first_over (Weave zero true) q x y w e = cc
 first_over (Weave (suc n) true) q x y w e = cc
 first_over (Pin left on) q x y w e = cc
+first_over (Table table ends) q x y w e = cc
 
 second_over : (p q : Plan) (x y : List Line) → wants p ≡ Some 1 → closed p 1 ≡ Some q → lines_of q x [] ≡ lines_of q x y
 second_over (Lines left) q x y w e = cc
@@ -55,6 +56,7 @@ second_over (Weave (suc n) false) q x y w e = let same : Weave 0 true ≡ q = cc
 second_over (Weave zero true) q x y w e = cc
 second_over (Weave (suc n) true) q x y w e = cc
 second_over (Pin left on) q x y w e = cc
+second_over (Table table ends) q x y w e = cc
 
 -- ---- an item
 
@@ -100,3 +102,4 @@ side-below (Cat (suc n)) k w = cc
 side-below (Weave zero ended) k w = cc
 side-below (Weave (suc n) ended) k w = cc
 side-below (Pin left on) k w = cc
+side-below (Table table ends) k w = cc

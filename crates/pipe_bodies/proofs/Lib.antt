@@ -8,7 +8,7 @@ pub mod SettleLaws
 pub mod BuildLaws
 pub mod BuildLoop
 pub mod ForestScripts
-pub mod CopyLaws
+pub mod DealLaws
 pub mod TestScripts
 pub mod RunLaws
 pub mod LastingLaws

@@ -17,7 +17,7 @@ use Rattle.pipe_tasks.specs.Tasks.{task_lines, lines_after, all_lines, is_among,
 use Rattle.pipe_bodies.specs.Rings.{Ring, out_ring}
 use Rattle.pipe_bodies.specs.Parts.{KeepsNone}
 use Rattle.pipe_bodies.specs.Bodies.{BodyView, Lasting}
-use Rattle.pipe_bodies.specs.Nets.{others, IsSide, IsJoint, IsNetAfter, IsNet, lasting_of, kept_of, output_in, output_of, HasEnded, AllPutOut, sent_by}
+use Rattle.pipe_bodies.specs.Nets.{others, IsSide, IsJoint, IsNetAfter, IsNet, with_plan, begun_tasks, lasting_of, kept_of, output_in, output_of, HasEnded, AllPutOut, sent_by}
 use Rattle.pipe_bodies.proofs.BuildLaws.{most_sides}
 use Rattle.pipe_bodies.specs.declared.item.Item.{Item}
 use Rattle.task_script.specs.declared.script.TaskDef.{TaskDef}
@@ -158,17 +158,20 @@ module _ (tasks : List TaskDef) (all rest : List BodyView) (outs : Outputs) (kep
 
 -- ---- at a place of the script
 
-module _ (tasks : List TaskDef) (all : List BodyView) (outs : Outputs) (kept : List (List Line)) (i : ℕ) where
+module _ (whole tasks : List TaskDef) (all : List BodyView) (outs : Outputs) (kept : List (List Line)) (i : ℕ) where
   here : (d : TaskDef) → i < length tasks → d ≡ get_or tasks i d → drop i tasks ≡ d ∷ drop (i + 1) tasks
   here d l e = drop_more tasks i d l ∙ ap (λ z. z ∷ drop (i + 1) tasks) (sym e)
 
   pub at_body : (d : TaskDef) (b : BodyView) (rest rest' : List BodyView) → i < length tasks → d ≡ get_or tasks i d → rest' ≡ b ∷ rest
-      → Settling tasks (drop i tasks) all rest' outs kept → Settling tasks (d ∷ drop (i + 1) tasks) all (b ∷ rest) outs kept
-  at_body d b rest rest' l e f s = subst (λ z. Settling tasks z all (b ∷ rest) outs kept) (here d l e) (subst (λ z. Settling tasks (drop i tasks) all z outs kept) f s)
+      → Settling whole (begun_tasks (drop i tasks) (map lasting_of rest')) all rest' outs kept
+      → Settling whole (with_plan d b.lasting.begun ∷ begun_tasks (drop (i + 1) tasks) (map lasting_of rest)) all (b ∷ rest) outs kept
+  at_body d b rest rest' l e f s = subst (λ z. Settling whole (begun_tasks z (map lasting_of (b ∷ rest))) all (b ∷ rest) outs kept) (here d l e)
+      (subst (λ z. Settling whole (begun_tasks (drop i tasks) (map lasting_of z)) all z outs kept) f s)
 
-  pub at_none : (d : TaskDef) (rest : List BodyView) → i < length tasks → d ≡ get_or tasks i d → length rest ≡ 0 → Settling tasks (drop i tasks) all rest outs kept → ⊥
-  at_none d [] l e f s = never_none tasks all outs kept d (drop (i + 1) tasks) [] refl (subst (λ z. Settling tasks z all [] outs kept) (here d l e) s)
+  pub at_none : (d : TaskDef) (rest : List BodyView) → i < length tasks → d ≡ get_or tasks i d → length rest ≡ 0
+      → Settling whole (begun_tasks (drop i tasks) (map lasting_of rest)) all rest outs kept → ⊥
+  at_none d [] l e f s = never_none whole all outs kept d (drop (i + 1) tasks) [] refl (subst (λ z. Settling whole (begun_tasks z []) all [] outs kept) (here d l e) s)
   at_none d (b ∷ rest) l e f s = omega arith
 
-  pub at_end : (rest : List BodyView) → length tasks ≤ i → Settling tasks (drop i tasks) all rest outs kept → Settling tasks [] all rest outs kept
-  at_end rest l s = subst (λ z. Settling tasks z all rest outs kept) (drop_all i tasks l) s
+  pub at_end : (rest : List BodyView) → length tasks ≤ i → Settling whole (begun_tasks (drop i tasks) (map lasting_of rest)) all rest outs kept → Settling whole [] all rest outs kept
+  at_end rest l s = subst (λ z. Settling whole (begun_tasks z (map lasting_of rest)) all rest outs kept) (drop_all i tasks l) s

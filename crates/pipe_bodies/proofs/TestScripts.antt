@@ -8,8 +8,8 @@ use Rattle.task_script.specs.Script.{IsScript}
 use Rattle.task_script.specs.declared.script.Script.{Script}
 use Rattle.task_script.specs.declared.script.TaskDef.{TaskDef}
 
-pub some_script : (bytes : List ℕ) (s : Script) → IsScript bytes s → (b : List ℕ) × IsScript b s
-some_script bytes s i = (bytes, i)
+pub some_script : (customs : ℕ) (bytes : List ℕ) (s : Script) → IsScript customs bytes s → (b : List ℕ) × IsScript customs b s
+some_script customs bytes s i = (bytes, i)
 
 abbrev Differ : ℕ → ℕ → Type 0
 Differ s t = s ≢ t

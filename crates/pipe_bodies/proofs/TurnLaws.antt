@@ -10,7 +10,7 @@ use Rattle.pipe_bodies.specs.Rings.{Ring}
 use Rattle.pipe_bodies.specs.Turns.{Seen, is_end, PutsOut, TakesFrom, Goes, GoesOn, TurnsBy, Turns, NoEnd, OneEnd, Ordered, Sound}
 use Rattle.pipe_bodies.specs.Parts.{IsJoined}
 use Rattle.task_script.specs.declared.plan.Plan.{Plan}
-use Rattle.task_script.specs.declared.plan.Plan.TheVariants.{Lines, Count, Upper, Number, Keep, Drop, Tally, Cat, Weave, Pin}
+use Rattle.task_script.specs.declared.plan.Plan.TheVariants.{Lines, Count, Upper, Number, Keep, Drop, Tally, Cat, Weave, Pin, Table}
 use Rattle.pipe_bodies.specs.declared.item.Item.{Item}
 use Rattle.pipe_bodies.specs.declared.item.Item.TheVariants.{Text, End}
 use Rattle.pipe_bodies.specs.declared.verdict.Verdict.{Verdict}
@@ -139,6 +139,7 @@ after-joined (Cat turn) side (Text a) l r j = j
 after-joined (Weave turn false) side (Text a) l r j = j
 after-joined (Weave turn true) side (Text a) l r j = j
 after-joined (Pin n on) side (Text a) l r j = j
+after-joined (Table table ends) side (Text a) l r j = j
 after-joined (Lines x) side End l r j = tt
 after-joined (Count n m) side End l r j = tt
 after-joined Upper side End l r j = tt
@@ -151,6 +152,7 @@ after-joined (Cat (suc k)) side End l r j = tt
 after-joined (Weave turn false) side End l r j = j
 after-joined (Weave turn true) side End l r j = tt
 after-joined (Pin n on) side End l r j = tt
+after-joined (Table table ends) side End l r j = tt
 
 count-joined : (n m : ℕ) (b c : Bool) (l r : Option Ring) → IsJoined (Some (Count n m)) l r
     → IsJoined (plan_made (if b then Some (decimal n, (if c then Count (n + 1) m else Count 1 0)) else None)) l r
@@ -170,6 +172,7 @@ more-joined (Tally n) l r j = tt
 more-joined (Cat turn) l r j = tt
 more-joined (Weave turn ended) l r j = tt
 more-joined (Pin n on) l r j = tt
+more-joined (Table table ends) l r j = tt
 
 module _ (a b : Seen) (v : Verdict) (l r : Option Ring) (known : IsJoined a.plan l r) where
   joined_same : b ≡ a → IsJoined b.plan l r

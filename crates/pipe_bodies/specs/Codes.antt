@@ -3,7 +3,7 @@ use Rattle.std.specs.Prelude.{ℕ, zero, suc, List, [], ◌∷◌, ◌++◌, len
 use Rattle.pipe_tasks.specs.Words.{Line}
 use Rattle.task_script.specs.declared.plan.Plan.{Plan}
 use Rattle.task_script.specs.declared.plan.Plan.TheVariants.{Lines, Count, Upper, Number, Keep, Drop, Tally, Cat, Weave}
-use Rattle.task_script.specs.declared.plan.Plan.TheVariants.{Pin}
+use Rattle.task_script.specs.declared.plan.Plan.TheVariants.{Pin, Table}
 
 abbrev pub lines_code : List Line → List ℕ
 lines_code [] = []
@@ -24,11 +24,18 @@ plan_code (Tally n) = 6 ∷ n ∷ []
 plan_code (Cat turn) = 7 ∷ turn ∷ []
 plan_code (Weave turn ended) = 8 ∷ turn ∷ flag_code ended ∷ []
 plan_code (Pin left on) = 9 ∷ left ∷ flag_code on ∷ []
+plan_code (Table table ends) = 10 ∷ length ends ∷ (lines_code ends ++ table)
 
 abbrev pub lines_from : ℕ → List ℕ → List Line
 lines_from zero s = []
 lines_from (suc k) [] = []
 lines_from (suc k) (n ∷ s) = take n s ∷ lines_from k (drop n s)
+
+-- what stands behind so many lines
+abbrev pub lines_behind : ℕ → List ℕ → List ℕ
+lines_behind zero s = s
+lines_behind (suc k) [] = []
+lines_behind (suc k) (n ∷ s) = lines_behind k (drop n s)
 
 abbrev pub first : List ℕ → ℕ
 first [] = 0
@@ -52,7 +59,8 @@ plan_by (suc (suc (suc (suc (suc zero))))) s = Drop s
 plan_by (suc (suc (suc (suc (suc (suc zero)))))) s = Tally (first s)
 plan_by (suc (suc (suc (suc (suc (suc (suc zero))))))) s = Cat (first s)
 plan_by (suc (suc (suc (suc (suc (suc (suc (suc zero)))))))) s = Weave (first s) (flag_of (first (rest s)))
-plan_by n s = Pin (first s) (flag_of (first (rest s)))
+plan_by (suc (suc (suc (suc (suc (suc (suc (suc (suc zero))))))))) s = Pin (first s) (flag_of (first (rest s)))
+plan_by n s = Table (lines_behind (first s) (rest s)) (lines_from (first s) (rest s))
 
 abbrev pub plan_of : List ℕ → Plan
 plan_of s = plan_by (first s) (rest s)

@@ -2,7 +2,7 @@
 use Rattle.std.specs.Prelude.{ℕ, List, [], ◌∷◌, ◌++◌, map, Bool, true, false, Option, Some, None}
 use Rattle.task_script.specs.declared.plan.Plan.{Plan}
 use Rattle.task_script.specs.declared.plan.Plan.TheVariants.{Lines, Count, Upper, Number, Keep, Drop, Tally, Cat, Weave}
-use Rattle.task_script.specs.declared.plan.Plan.TheVariants.{Pin}
+use Rattle.task_script.specs.declared.plan.Plan.TheVariants.{Pin, Table}
 use Rattle.pipe_tasks.specs.Words.{Line}
 use Rattle.pipe_tasks.specs.Plans.{says, next, last, closed, made, lines_of}
 use Rattle.pipe_bodies.specs.declared.item.Item.{Item}
@@ -74,16 +74,4 @@ pinned (Some (Tally n)) = false
 pinned (Some (Cat turn)) = false
 pinned (Some (Weave turn ended)) = false
 pinned (Some (Pin left on)) = on
-
--- whether a plan pins its task at all
-abbrev pub is_pin : Plan → Bool
-is_pin (Lines left) = false
-is_pin (Count n l) = false
-is_pin Upper = false
-is_pin (Number n) = false
-is_pin (Keep prefix) = false
-is_pin (Drop prefix) = false
-is_pin (Tally n) = false
-is_pin (Cat turn) = false
-is_pin (Weave turn ended) = false
-is_pin (Pin left on) = true
+pinned (Some (Table table ends)) = false

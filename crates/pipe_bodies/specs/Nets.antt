@@ -15,6 +15,24 @@ use Rattle.pipe_bodies.specs.Bodies.{Lasting, BodyView, IsFresh, HasRoom}
 use Rattle.pipe_bodies.specs.declared.item.Item.{Item}
 use Rattle.task_script.specs.declared.script.TaskDef.{TaskDef}
 
+-- ---- tasks with other plans
+
+abbrev pub with_plan : TaskDef → Plan → TaskDef
+with_plan d p = record d { plan = p }
+
+-- each task with the plan at its place, where there is one
+abbrev pub with_plans : List TaskDef → List Plan → List TaskDef
+with_plans [] ps = []
+with_plans (d ∷ ds) [] = d ∷ ds
+with_plans (d ∷ ds) (p ∷ ps) = with_plan d p ∷ with_plans ds ps
+
+abbrev pub begun_in : Lasting → Plan
+begun_in l = l.begun
+
+-- each task with the plan with which the body at its place began
+abbrev pub begun_tasks : List TaskDef → List Lasting → List TaskDef
+begun_tasks ds ls = with_plans ds (map begun_in ls)
+
 -- the tasks after the first
 abbrev pub others : List ℕ → List ℕ
 others [] = []

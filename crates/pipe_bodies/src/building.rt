@@ -6,15 +6,15 @@ ghost use Rattle.pipe_bodies.specs.Courses.{plan_in};
 ghost use Rattle.pipe_bodies.specs.Rings.{in_ring, got, known};
 ghost use Rattle.pipe_bodies.specs.Bodies.{IsFresh, IsOfRoom, HasRoom};
 ghost use Rattle.pipe_bodies.specs.Nets.{IsNet, IsReading, IsFree, IsBegun, Links, Built, reads_on};
-ghost use Rattle.pipe_bodies.specs.Nets.{plan_for, part_of, output_of, lasting_of};
+ghost use Rattle.pipe_bodies.specs.Nets.{part_of, output_of, lasting_of, with_plan, with_plans, begun_tasks};
 
 use crate::body::Body;
-use crate::copies::copy_plan;
+use crate::dealing::courses_of;
 use crate::item::Item;
 use crate::parts::Course;
 use crate::settling::others;
-use crate::work::Work;
 use handoff_data::{NoMemory, TaskNo};
+use pipe_tasks::Work;
 use rtrb::{Consumer, RingBuffer};
 use std::alloc::Global;
 use task_script::{Script, TaskDef, law_script};
@@ -54,14 +54,14 @@ fn build_one<W: Work>(
     course: Course<W>,
     bodies: &mut Vec<Body<W>>,
 ) -> Result<(), NoMemory>
-    requires plan { (plan_in course ≡ task.now.plan) × (length task.now.from ≡ sides task.now.plan) }
+    requires sides { length task.now.from ≡ sides (plan_in course) }
     requires number { number ≡ length bodies.old.items }
     requires built { (ds : List TaskDef) × (reads : List ℕ) × IsReading (length ds) reads task.now.from
         × Built ds reads (map part_of bodies.old.items) (map output_of bodies.old.items) }
     requires begun { All (IsBegun room) bodies.old.items }
     ensures built { (ds : List TaskDef) (reads : List ℕ) → IsReading (length ds) reads task.now.from
         → Built ds reads (map part_of bodies.old.items) (map output_of bodies.old.items)
-        → OnOk result (Built (ds ++ task.now ∷ []) (reads_on task.now.from reads)
+        → OnOk result (Built (ds ++ with_plan task.now (plan_in course) ∷ []) (reads_on task.now.from reads)
         (map part_of bodies.new.items) (map output_of bodies.new.items)) }
     ensures begun { OnOk result (All (IsBegun room) bodies.new.items) }
     ensures count { OnOk result (length bodies.new.items ≡ length bodies.old.items + 1) }
@@ -77,20 +77,21 @@ ghost use Rattle.std.specs.Prelude.{◌+◌, All};
 
 /// The rings of tasks, and a body for each, which begins with its course.
 ///
-/// The tasks are a forest, and each course has the plan of its task. The bodies are joined as the tasks say (`IsNet`):
-/// each has the number of its task, its plan, and an end of the ring to each task that it reads and from the one that
-/// reads it. Each ring has room for `room` items (`HasRoom`), and no body has had a turn (`IsFresh`). Answers
-/// `NoMemory` where memory runs out.
+/// The courses are as many as the tasks, in their order, and the tasks with the plans of the courses are a forest. The
+/// bodies are joined as these say (`IsNet`): each has the number of its task, the plan of its course, and an end of the
+/// ring to each task that it reads and from the one that reads it. Each ring has room for `room` items (`HasRoom`), and
+/// no body has had a turn (`IsFresh`). Answers `NoMemory` where memory runs out.
 pub fn build_courses<W: Work>(
     alloc: Global,
     room: u32,
     tasks: &[TaskDef],
     courses: Vec<Course<W>>,
 ) -> Result<Vec<Body<W>>, NoMemory>
-    requires forest { IsForest tasks.now }
+    requires forest { IsForest (with_plans tasks.now (map plan_in courses.items)) }
     requires count { length tasks.now < 2 ^ 32 }
-    requires courses { map plan_in courses.items ≡ map plan_for tasks.now }
-    ensures net { IfOk result (λ r. IsNet tasks.now (map lasting_of r.items)) }
+    requires courses { length courses.items ≡ length tasks.now }
+    ensures net { IfOk result (λ r.
+        IsNet (with_plans tasks.now (map plan_in courses.items)) (map lasting_of r.items)) }
     ensures rooms { IfOk result (λ r. All (HasRoom room) (map lasting_of r.items)) }
     ensures fresh { IfOk result (λ r. All IsFresh r.items) }
 {
@@ -107,28 +108,27 @@ pub fn build_courses<W: Work>(
     Ok(bodies)
 }
 
-// A course for each task, which is a copy of its plan.
-fn own_courses<W: Work>(alloc: Global, tasks: &[TaskDef]) -> Result<Vec<Course<W>>, NoMemory>
-    ensures { IfOk result (λ r. map plan_in r.items ≡ map plan_for tasks.now) }
-{
-    let mut courses = Vec::with_capacity(alloc, tasks.len())?;
-    for task in tasks {
-        courses.push(Course::Own(copy_plan(alloc, &task.plan)?))?;
-    }
-    Ok(courses)
-}
-
 ghost use Rattle.task_script.specs.Script.{IsScript};
+ghost use Rattle.pipe_tasks.specs.Tasks.{meant_tasks};
 
 /// Text tasks that are joined by rings.
 pub struct Net;
 
 impl Net {
     /// The rings of a script, which have its room, and a body for each of its tasks, which has had no turn. The script
-    /// stays: each body has a copy of its plan. Answers `NoMemory` where memory runs out.
-    pub fn build<W: Work>(alloc: Global, script: &Script) -> Result<Vec<Body<W>>, NoMemory>
-        requires script { (bytes : List ℕ) × IsScript bytes script.now }
-        ensures net { IfOk result (λ r. IsNet script.now.tasks (map lasting_of r.items)) }
+    /// stays: each body has a copy of its plan, and that of a task of `custom` has the work of the task's number, for
+    /// what that means as it is handed in. A work that no task has is dropped. Answers `NoMemory` where memory runs
+    /// out.
+    pub fn build<W: Work>(
+        alloc: Global,
+        script: &Script,
+        customs: Vec<W>,
+    ) -> Result<Vec<Body<W>>, NoMemory>
+        requires script { (bytes : List ℕ) × IsScript (length customs.items) bytes script.now }
+        ensures net { IfOk result (λ r.
+            IsNet (meant_tasks (map W.meaning customs.items) script.now.tasks) (map lasting_of r.items)) }
+        ensures begun { IfOk result (λ r. begun_tasks script.now.tasks (map lasting_of r.items)
+            ≡ meant_tasks (map W.meaning customs.items) script.now.tasks) }
         ensures rooms { IfOk result (λ r. All (HasRoom script.now.room) (map lasting_of r.items)) }
         ensures fresh { IfOk result (λ r. All IsFresh r.items) }
     {
@@ -136,7 +136,7 @@ impl Net {
         // A number behind a reference has its range once it is read.
         let _range = script.shape.tasks;
         let tasks = script.tasks.as_slice();
-        let courses = own_courses(alloc, tasks)?;
+        let courses = courses_of(alloc, tasks, customs)?;
         build_courses(alloc, script.room, tasks, courses)
     }
 }

@@ -7,12 +7,12 @@ ghost use Rattle.pipe_bodies.specs.Rings.{in_ring, out_ring, got, out_of, known,
 ghost use Rattle.pipe_bodies.specs.Parts.{KeepsNone, KeepsLine};
 ghost use Rattle.pipe_bodies.specs.Turns.{is_end};
 
+use crate::custom::Custom;
 use crate::held::Held;
 use crate::item::Item;
 use crate::verdict::{Then, Verdict};
-use crate::work::{Custom, Work};
 use handoff_data::{Lines, NoMemory};
-use pipe_tasks::{end_plan, make_line, move_plan, said_line, wanted_side};
+use pipe_tasks::{Work, end_plan, make_line, move_plan, said_line, wanted_side};
 use rtrb::{Consumer, Producer};
 use std::alloc::Global;
 use task_script::Plan;

@@ -1,12 +1,12 @@
 // A whole run on one thread.
 ghost use Rattle.std.specs.Prelude.{◌≡◌, ◌<◌, ◌↔◌, map, All, IsTrue, IsOk, IfOk, IfSome, IsSome};
 ghost use Rattle.pipe_tasks.specs.Tasks.{forest_lines};
-ghost use Rattle.pipe_bodies.specs.Nets.{IsNet, HasEnded, lasting_of};
+ghost use Rattle.pipe_bodies.specs.Nets.{IsNet, HasEnded, lasting_of, begun_tasks};
 
 use crate::body::Body;
 use crate::settling::settle;
-use crate::work::Work;
 use handoff_data::{Lines, NoMemory};
+use pipe_tasks::Work;
 use std::alloc::Global;
 use task_script::TaskDef;
 
@@ -44,16 +44,17 @@ fn turn_one<W: Work>(bodies: &mut Vec<Body<W>>, place: usize) -> Result<(), NoMe
 }
 
 /// Gives the bodies a turn each, round after round, until all have ended, for at most so many rounds. Answers what each
-/// kept, which is what the plain run of the tasks gives, or none where the rounds weren't enough. Answers `NoMemory`
-/// where memory runs out.
+/// kept, which is what the tasks put out with the plans with which the bodies began, or none where the rounds weren't
+/// enough. Answers `NoMemory` where memory runs out.
 pub fn run_bodies<W: Work>(
     alloc: Global,
     tasks: &[TaskDef],
     bodies: Vec<Body<W>>,
     rounds: u64,
 ) -> Result<Option<Vec<Lines>>, NoMemory>
-    requires { IsNet tasks.now (map lasting_of bodies.items) }
-    ensures lines { IfOk result (λ o. IfSome o (λ r. r.items ≡ forest_lines tasks.now)) }
+    requires { IsNet (begun_tasks tasks.now (map lasting_of bodies.items)) (map lasting_of bodies.items) }
+    ensures lines { IfOk result (λ o. IfSome o (λ r.
+        r.items ≡ forest_lines (begun_tasks tasks.now (map lasting_of bodies.items)))) }
     ensures ended { 0 < rounds → All HasEnded bodies.items → IfOk result (λ o. IsSome o) }
 {
     let mut bodies = bodies;
@@ -70,8 +71,8 @@ pub fn run_bodies<W: Work>(
 }
 
 /// Gives bodies turns in a random order, which the seed tells, until all have ended, for at most so many turns. Answers
-/// what each kept, which is what the plain run of the tasks gives, or none where the turns weren't enough. Answers
-/// `NoMemory` where memory runs out.
+/// what each kept, which is what the tasks put out with the plans with which the bodies began, or none where the turns
+/// weren't enough. Answers `NoMemory` where memory runs out.
 pub fn run_shuffled<W: Work>(
     alloc: Global,
     tasks: &[TaskDef],
@@ -79,8 +80,9 @@ pub fn run_shuffled<W: Work>(
     seed: u64,
     turns: u64,
 ) -> Result<Option<Vec<Lines>>, NoMemory>
-    requires { IsNet tasks.now (map lasting_of bodies.items) }
-    ensures lines { IfOk result (λ o. IfSome o (λ r. r.items ≡ forest_lines tasks.now)) }
+    requires { IsNet (begun_tasks tasks.now (map lasting_of bodies.items)) (map lasting_of bodies.items) }
+    ensures lines { IfOk result (λ o. IfSome o (λ r.
+        r.items ≡ forest_lines (begun_tasks tasks.now (map lasting_of bodies.items)))) }
     ensures ended { 0 < turns → All HasEnded bodies.items → IfOk result (λ o. IsSome o) }
 {
     let mut bodies = bodies;

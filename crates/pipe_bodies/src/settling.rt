@@ -58,14 +58,14 @@ fn settle_one<W: Work>(
     kept: &mut Vec<Lines>,
 ) -> Result<(), NoMemory>
     requires ended { HasEnded body }
-    requires joint { IsJoint task.now body.lasting (map out_ring outputs.old.items) }
+    requires joint { IsJoint (with_plan task.now body.lasting.begun) body.lasting (map out_ring outputs.old.items) }
     ensures rings { OnOk result (map out_ring outputs.new.items ≡ map out_ring outputs.old.items
         ++ output_of body ∷ []) }
     ensures kept { OnOk result (kept.new.items ≡ kept.old.items ++ kept_of body ∷ []) }
     ensures lines { (done : List (List Line)) → AllPutOut (map out_ring outputs.old.items)
         (map sent_by outputs.old.items) kept.old.items done → OnOk result (AllPutOut
         (map out_ring outputs.new.items) (map sent_by outputs.new.items) kept.new.items (done
-        ++ task_lines task.now done ∷ [])) }
+        ++ task_lines (with_plan task.now body.lasting.begun) done ∷ [])) }
 {
     let mut parts = body.apart();
     look_at(&mut parts.left, outputs, task.from.as_slice());
@@ -92,22 +92,23 @@ ghost use Rattle.pipe_bodies.specs.Nets.{HasEnded, IsJoint, output_of, kept_of, 
 
 use crate::body::Body;
 use crate::parts::Parts;
-use crate::work::Work;
 use handoff_data::{Lines, NoMemory, TaskNo};
+use pipe_tasks::Work;
 use task_script::TaskDef;
 
 /// Takes apart bodies that have all ended, and answers what each of them kept: the lines of each task that no other
-/// reads, and none in the place of a task that is read. It is what the plain run of the tasks gives. Answers `NoMemory`
-/// where memory runs out.
+/// reads, and none in the place of a task that is read. It is what the tasks put out with the plans with which the
+/// bodies began. Answers `NoMemory` where memory runs out.
 pub fn settle<W: Work>(
     alloc: Global,
     tasks: &[TaskDef],
     bodies: Vec<Body<W>>,
 ) -> Result<Vec<Lines>, NoMemory>
-    requires net { IsNet tasks.now (map lasting_of bodies.items) }
+    requires net { IsNet (begun_tasks tasks.now (map lasting_of bodies.items)) (map lasting_of bodies.items) }
     requires ended { All HasEnded bodies.items }
     ensures kept { IfOk result (λ r. r.items ≡ map kept_of bodies.items) }
-    ensures forest { IfOk result (λ r. r.items ≡ forest_lines tasks.now) }
+    ensures forest { IfOk result (λ r.
+        r.items ≡ forest_lines (begun_tasks tasks.now (map lasting_of bodies.items))) }
 {
     let mut outputs = Vec::new(alloc);
     let mut kept = Vec::new(alloc);
@@ -122,6 +123,6 @@ pub fn settle<W: Work>(
 }
 
 ghost use Rattle.std.specs.Prelude.{All, IfOk};
-ghost use Rattle.pipe_bodies.specs.Nets.{IsNet, lasting_of};
+ghost use Rattle.pipe_bodies.specs.Nets.{IsNet, lasting_of, with_plan, begun_tasks};
 
 use std::alloc::Global;

@@ -16,11 +16,11 @@ use task_script::{Plan, Script, Sources, TaskDef, read_script};
 // The script of these lines, whose rings have this room.
 #[tactic(auto, using(crate::proofs::TestScripts::some_script))]
 fn script_of(alloc: Global, room: u32, tasks: &str) -> Result<Script, NoMemory>
-    ensures script { IfOk result (λ s. (bytes : List ℕ) × IsScript bytes s) }
+    ensures script { IfOk result (λ s. (bytes : List ℕ) × IsScript 0 bytes s) }
     ensures forest { IfOk result (λ s. IsForest s.tasks) }
 {
     let text = format!(in alloc; "cpus 1\nroom {room}\n{tasks}end\n")?;
-    match read_script(alloc, text.as_bytes()) {
+    match read_script(alloc, text.as_bytes(), 0) {
         Ok(script) => Ok(script),
         Err(_) => Err(NoMemory),
     }
@@ -28,7 +28,7 @@ fn script_of(alloc: Global, room: u32, tasks: &str) -> Result<Script, NoMemory>
 
 fn bodies_of(alloc: Global, room: u32, tasks: &str) -> Result<Vec<Body<NoWork>>, NoMemory> {
     let script = script_of(alloc, room, tasks)?;
-    Net::build(alloc, &script)
+    Net::build(alloc, &script, Vec::new(alloc))
 }
 
 fn turn_of<W: Work>(bodies: &mut Vec<Body<W>>, index: usize) -> Result<Verdict, NoMemory> {
@@ -159,11 +159,11 @@ fn expect_plain_run<R: Abort + AllocGlobal>(
 ) -> Result<(), NoMemory> {
     let plain = run_forest(rt.alloc(), script_of(rt.alloc(), room, tasks)?)?;
     let script = script_of(rt.alloc(), room, tasks)?;
-    let bodies: Vec<Body<NoWork>> = Net::build(rt.alloc(), &script)?;
+    let bodies: Vec<Body<NoWork>> = Net::build(rt.alloc(), &script, Vec::new(rt.alloc()))?;
     let kept = run_bodies(rt.alloc(), script.tasks.as_slice(), bodies, 1000)?.ok_or(NoMemory)?;
     expect_same(rt, kept.as_slice(), plain.as_slice(), room, tasks);
     for seed in 1..4 {
-        let bodies: Vec<Body<NoWork>> = Net::build(rt.alloc(), &script)?;
+        let bodies: Vec<Body<NoWork>> = Net::build(rt.alloc(), &script, Vec::new(rt.alloc()))?;
         let tasks_now = script.tasks.as_slice();
         let kept = run_shuffled(rt.alloc(), tasks_now, bodies, seed, 10_000)?.ok_or(NoMemory)?;
         expect_same(rt, kept.as_slice(), plain.as_slice(), room, tasks);
@@ -261,7 +261,12 @@ fn task(alloc: Global, plan: Plan, from: &[u32]) -> Result<TaskDef, NoMemory>
 {
     let from = Sources::from_vec(Vec::from_slice(alloc, from)?);
     let name = Line::new(Vec::new(alloc));
-    Ok(TaskDef { name, plan, from })
+    Ok(TaskDef {
+        name,
+        plan,
+        custom: None,
+        from,
+    })
 }
 
 // Counts up to two, which a work puts out in upper case.

@@ -5,7 +5,8 @@ use Rattle.std.proofs.lemmas.Bool.Decides.{nat_tests}
 use Rattle.std.specs.Fmt.{decimal}
 use Rattle.std.specs.List.{range_with_len}
 use Rattle.task_script.specs.declared.plan.Plan.{Plan}
-use Rattle.task_script.specs.declared.plan.Plan.TheVariants.{Lines, Count, Upper, Number, Keep, Drop, Tally, Cat, Weave, Pin}
+use Rattle.task_script.specs.declared.plan.Plan.TheVariants.{Lines, Count, Upper, Number, Keep, Drop, Tally, Cat, Weave, Pin, Table}
+use Rattle.task_script.specs.Maps.{mapped_line}
 use Rattle.pipe_tasks.specs.Words.{Line, upper_line, counted, count_line, numbered_line, has_prefix, woven}
 use Rattle.pipe_tasks.specs.Plans.{says, last, made, counts_on, numbered, lines_of}
 use Rattle.pipe_tasks.specs.Feeds.{Feeds, FeedingGivesLines}
@@ -100,6 +101,10 @@ feeds-pin : (left : ℕ) (on : Bool) (x y : List Line) → Feeds (Pin left on) x
 feeds-pin left on [] y = first_ends refl refl
 feeds-pin left on (line ∷ x) y = first refl (feeds-pin (left - 1) (nat_lt 0 left) x y)
 
+feeds-table : (table : List ℕ) (ends x y : List Line) → Feeds (Table table ends) x y (map (mapped_line table) x ++ ends)
+feeds-table table ends [] y = first_ends refl refl
+feeds-table table ends (line ∷ x) y = first refl (feeds-table table ends x y)
+
 pub feeds : (p : Plan) (x y : List Line) → Feeds p x y (lines_of p x y)
 feeds (Lines left) x y = feeds-lines left x y
 feeds (Count n l) x y = feeds-count (l + 1 - n) n l x y refl
@@ -115,6 +120,7 @@ feeds (Weave (suc n) false) x y = feeds-weave_second n x y
 feeds (Weave zero true) x y = feeds-rest_first x y
 feeds (Weave (suc n) true) x y = feeds-rest_second n x y
 feeds (Pin left on) x y = feeds-pin left on x y
+feeds (Table table ends) x y = feeds-table table ends x y
 
 pub feeding : FeedingGivesLines
 feeding p x y out = (fed, λ e. subst (λ z. Feeds p x y z) (sym e) (feeds p x y))

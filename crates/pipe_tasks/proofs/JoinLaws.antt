@@ -3,7 +3,7 @@ use Rattle.std.proofs.Common.{◌≡◌, ◌<◌, ℕ, zero, suc, List, [], ◌�
 use Rattle.std.specs.Prelude.{Some, None, if◌then◌else◌}
 use Rattle.task_script.specs.Plan.{sides}
 use Rattle.task_script.specs.declared.plan.Plan.{Plan}
-use Rattle.task_script.specs.declared.plan.Plan.TheVariants.{Lines, Count, Upper, Number, Keep, Drop, Tally, Cat, Weave, Pin}
+use Rattle.task_script.specs.declared.plan.Plan.TheVariants.{Lines, Count, Upper, Number, Keep, Drop, Tally, Cat, Weave, Pin, Table}
 use Rattle.pipe_tasks.specs.Words.{Line}
 use Rattle.pipe_tasks.specs.Plans.{wants, says, next, last, closed, lines_of}
 use Rattle.pipe_tasks.specs.Joins.{ends_left, Advances}
@@ -21,6 +21,7 @@ ends_left-next (Cat turn) side line = refl
 ends_left-next (Weave turn false) side line = refl
 ends_left-next (Weave turn true) side line = refl
 ends_left-next (Pin left on) side line = refl
+ends_left-next (Table table ends) side line = refl
 
 -- what is left of a plan that was told an end
 record GoesOn (p q : Plan) : Type 0 where
@@ -41,6 +42,7 @@ goes_on (Weave turn true) q side e = cc
 goes_on (Weave zero false) q side e = let same : Weave 1 true ≡ q = cc in subst (λ z. GoesOn (Weave 0 false) z) same record { two = refl; fewer = omega arith }
 goes_on (Weave (suc n) false) q side e = let same : Weave 0 true ≡ q = cc in subst (λ z. GoesOn (Weave (suc n) false) z) same record { two = refl; fewer = omega arith }
 goes_on (Pin left on) q side e = cc
+goes_on (Table table ends) q side e = cc
 
 module _ (p p' : Plan) (x y out out' : List Line) where
   pub advances-first : (line : Line) (x' : List Line) → wants p ≡ Some 0 → sides p ≡ 2 → x ≡ line ∷ x' → p' ≡ next p 0 line → out' ≡ out ++ says p 0 line → Advances p x y out true p' x' y out'

@@ -5,3 +5,5 @@ pub mod RunLaws
 pub mod JoinLaws
 pub mod ForestLaws
 pub mod TestForests
+pub mod CopyLaws
+pub mod WorkLaws

@@ -7,7 +7,7 @@ use Rattle.std.specs.List.{range_with_len}
 use Rattle.std.proofs.Common.{map}
 use Rattle.task_script.specs.Plan.{sides}
 use Rattle.task_script.specs.declared.plan.Plan.{Plan}
-use Rattle.task_script.specs.declared.plan.Plan.TheVariants.{Lines, Count, Upper, Number, Keep, Drop, Tally, Cat, Weave, Pin}
+use Rattle.task_script.specs.declared.plan.Plan.TheVariants.{Lines, Count, Upper, Number, Keep, Drop, Tally, Cat, Weave, Pin, Table}
 use Rattle.pipe_tasks.specs.Words.{Line, counted, count_line, numbered_line, has_prefix, woven}
 use Rattle.pipe_tasks.specs.Plans.{wants, says, next, last, closed, made, numbered, lines_of}
 
@@ -60,6 +60,7 @@ lines_of-first (Weave (suc n) false) line x y w = cc
 lines_of-first (Weave zero true) line x y w = refl
 lines_of-first (Weave (suc n) true) line x y w = cc
 lines_of-first (Pin left on) line x y w = refl
+lines_of-first (Table table ends) line x y w = refl
 
 pub lines_of-second : (p : Plan) (line : Line) (x y : List Line) → wants p ≡ Some 1 → lines_of p x (line ∷ y) ≡ says p 1 line ++ lines_of (next p 1 line) x y
 lines_of-second (Lines left) line x y w = cc
@@ -76,6 +77,7 @@ lines_of-second (Weave (suc n) false) line x y w = woven-cons line y x
 lines_of-second (Weave zero true) line x y w = cc
 lines_of-second (Weave (suc n) true) line x y w = refl
 lines_of-second (Pin left on) line x y w = cc
+lines_of-second (Table table ends) line x y w = cc
 
 -- ---- an end
 
@@ -94,6 +96,7 @@ lines_of-first_end (Weave (suc n) false) q y w e = cc
 lines_of-first_end (Weave zero true) q y w e = cc
 lines_of-first_end (Weave (suc n) true) q y w e = cc
 lines_of-first_end (Pin left on) q y w e = cc
+lines_of-first_end (Table table ends) q y w e = cc
 
 pub lines_of-first_ends : (p : Plan) (y : List Line) → wants p ≡ Some 0 → closed p 0 ≡ None → lines_of p [] y ≡ last p 0
 lines_of-first_ends (Lines left) y w e = cc
@@ -110,6 +113,7 @@ lines_of-first_ends (Weave (suc n) false) y w e = cc
 lines_of-first_ends (Weave zero true) y w e = refl
 lines_of-first_ends (Weave (suc n) true) y w e = cc
 lines_of-first_ends (Pin left on) y w e = refl
+lines_of-first_ends (Table table ends) y w e = refl
 
 pub lines_of-second_end : (p q : Plan) (x : List Line) → wants p ≡ Some 1 → closed p 1 ≡ Some q → lines_of p x [] ≡ last p 1 ++ lines_of q x []
 lines_of-second_end (Lines left) q x w e = cc
@@ -126,6 +130,7 @@ lines_of-second_end (Weave (suc n) false) q x w e = let same : Weave 0 true ≡ 
 lines_of-second_end (Weave zero true) q x w e = cc
 lines_of-second_end (Weave (suc n) true) q x w e = cc
 lines_of-second_end (Pin left on) q x w e = cc
+lines_of-second_end (Table table ends) q x w e = cc
 
 pub lines_of-second_ends : (p : Plan) (x : List Line) → wants p ≡ Some 1 → closed p 1 ≡ None → lines_of p x [] ≡ last p 1
 lines_of-second_ends (Lines left) x w e = cc
@@ -142,6 +147,7 @@ lines_of-second_ends (Weave (suc n) false) x w e = cc
 lines_of-second_ends (Weave zero true) x w e = cc
 lines_of-second_ends (Weave (suc n) true) x w e = refl
 lines_of-second_ends (Pin left on) x w e = cc
+lines_of-second_ends (Table table ends) x w e = cc
 
 -- ---- a source
 
@@ -178,6 +184,7 @@ lines_of-made (Tally n) x y w = cc
 lines_of-made (Cat turn) x y w = cc
 lines_of-made (Weave turn ended) x y w = cc
 lines_of-made (Pin left on) x y w = cc
+lines_of-made (Table table ends) x y w = cc
 
 -- ---- the sides of a plan
 
@@ -193,6 +200,7 @@ sides-next (Cat turn) side line = refl
 sides-next (Weave turn false) side line = refl
 sides-next (Weave turn true) side line = refl
 sides-next (Pin left on) side line = refl
+sides-next (Table table ends) side line = refl
 
 pub one-wants : (p : Plan) → sides p ≡ 1 → wants p ≡ Some 0
 one-wants (Lines left) e = absurd (omega arith)
@@ -205,6 +213,7 @@ one-wants (Tally n) e = refl
 one-wants (Cat turn) e = absurd (omega arith)
 one-wants (Weave turn ended) e = absurd (omega arith)
 one-wants (Pin left on) e = refl
+one-wants (Table table ends) e = refl
 
 pub one-closed : (p : Plan) (side : ℕ) → sides p ≡ 1 → closed p side ≡ None
 one-closed (Lines left) side e = refl
@@ -217,6 +226,7 @@ one-closed (Tally n) side e = refl
 one-closed (Cat turn) side e = absurd (omega arith)
 one-closed (Weave turn ended) side e = absurd (omega arith)
 one-closed (Pin left on) side e = refl
+one-closed (Table table ends) side e = refl
 
 pub none-wants : (p : Plan) → sides p ≡ 0 → wants p ≡ None
 none-wants (Lines left) e = refl
@@ -229,6 +239,7 @@ none-wants (Tally n) e = absurd (omega arith)
 none-wants (Cat turn) e = absurd (omega arith)
 none-wants (Weave turn ended) e = absurd (omega arith)
 none-wants (Pin left on) e = absurd (omega arith)
+none-wants (Table table ends) e = absurd (omega arith)
 
 after_made : Option (Line × Plan) → Option ℕ
 after_made None = None
@@ -254,3 +265,4 @@ made-wants (Tally n) q line m = cc
 made-wants (Cat turn) q line m = cc
 made-wants (Weave turn ended) q line m = cc
 made-wants (Pin left on) q line m = cc
+made-wants (Table table ends) q line m = cc

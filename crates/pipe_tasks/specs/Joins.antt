@@ -3,7 +3,7 @@ use Rattle.std.specs.Prelude.{◌≡◌, ◌<◌, ◌+◌, ℕ, zero, suc, List,
 use Rattle.task_script.specs.Plan.{sides}
 use Rattle.task_script.specs.declared.plan.Plan.{Plan}
 use Rattle.task_script.specs.declared.plan.Plan.TheVariants.{Lines, Count, Upper, Number, Keep, Drop, Tally, Cat, Weave}
-use Rattle.task_script.specs.declared.plan.Plan.TheVariants.{Pin}
+use Rattle.task_script.specs.declared.plan.Plan.TheVariants.{Pin, Table}
 use Rattle.pipe_tasks.specs.Words.{Line}
 use Rattle.pipe_tasks.specs.Plans.{lines_of}
 
@@ -21,6 +21,7 @@ ends_left (Cat (suc n)) = 1
 ends_left (Weave turn false) = 2
 ends_left (Weave turn true) = 1
 ends_left (Pin left on) = 0
+ends_left (Table table ends) = 0
 
 -- how many items a plan is still to take
 abbrev pub items_left : Plan → List Line → List Line → ℕ

@@ -1,12 +1,13 @@
 -- What a plan puts out: for one line or one end, and for the whole lists of lines that it reads.
-use Rattle.std.specs.Prelude.{ℕ, zero, suc, ◌+◌, ◌-◌, List, [], ◌∷◌, ◌++◌, length, map, filter, true, false, not}
+use Rattle.std.specs.Prelude.{ℕ, zero, suc, ◌+◌, ◌-◌, List, [], ◌∷◌, ◌++◌, length, map, filter, Bool, true, false, not}
 use Rattle.std.specs.Prelude.{nat_lt, nat_le, Option, Some, None, if◌then◌else◌}
 use Rattle.std.specs.Fmt.{decimal}
 use Rattle.std.specs.List.{enumerate_from, range_with_len}
 use Rattle.pipe_tasks.specs.Words.{Line, upper_line, counted, count_line, numbered_line, has_prefix, woven}
 use Rattle.task_script.specs.declared.plan.Plan.{Plan}
 use Rattle.task_script.specs.declared.plan.Plan.TheVariants.{Lines, Count, Upper, Number, Keep, Drop, Tally, Cat, Weave}
-use Rattle.task_script.specs.declared.plan.Plan.TheVariants.{Pin}
+use Rattle.task_script.specs.declared.plan.Plan.TheVariants.{Pin, Table}
+use Rattle.task_script.specs.Maps.{mapped_line}
 
 -- the two sides are 0 and 1, and any other number stands for 1
 abbrev pub side_number : ℕ → ℕ
@@ -31,6 +32,7 @@ wants (Tally n) = Some 0
 wants (Cat turn) = Some (side_number turn)
 wants (Weave turn ended) = Some (side_number turn)
 wants (Pin left on) = Some 0
+wants (Table table ends) = Some 0
 
 -- the lines that are put out for a line of a side
 abbrev pub says : Plan → ℕ → Line → List Line
@@ -44,6 +46,7 @@ says (Tally n) side line = []
 says (Cat turn) side line = line ∷ []
 says (Weave turn ended) side line = line ∷ []
 says (Pin left on) side line = line ∷ []
+says (Table table ends) side line = mapped_line table line ∷ []
 
 -- the plan after a line of a side
 abbrev pub next : Plan → ℕ → Line → Plan
@@ -58,6 +61,7 @@ next (Cat turn) side line = Cat turn
 next (Weave turn false) side line = Weave (other_side turn) false
 next (Weave turn true) side line = Weave turn true
 next (Pin left on) side line = Pin (left - 1) (nat_lt 0 left)
+next (Table table ends) side line = Table table ends
 
 -- the lines that are put out at the end of a side
 abbrev pub last : Plan → ℕ → List Line
@@ -71,6 +75,7 @@ last (Tally n) side = count_line n ∷ []
 last (Cat turn) side = []
 last (Weave turn ended) side = []
 last (Pin left on) side = []
+last (Table table ends) side = ends
 
 -- the plan after the end of a side, if it goes on
 abbrev pub closed : Plan → ℕ → Option Plan
@@ -86,6 +91,7 @@ closed (Cat (suc n)) side = None
 closed (Weave turn false) side = Some (Weave (other_side turn) true)
 closed (Weave turn true) side = None
 closed (Pin left on) side = None
+closed (Table table ends) side = None
 
 -- the numbers from n to l that are left after n; where there are none, 1 to 0
 abbrev pub counts_on : ℕ → ℕ → Plan
@@ -104,6 +110,21 @@ made (Tally n) = None
 made (Cat turn) = None
 made (Weave turn ended) = None
 made (Pin left on) = None
+made (Table table ends) = None
+
+-- whether a plan pins its task at all
+abbrev pub is_pin : Plan → Bool
+is_pin (Lines left) = false
+is_pin (Count n l) = false
+is_pin Upper = false
+is_pin (Number n) = false
+is_pin (Keep prefix) = false
+is_pin (Drop prefix) = false
+is_pin (Tally n) = false
+is_pin (Cat turn) = false
+is_pin (Weave turn ended) = false
+is_pin (Pin left on) = true
+is_pin (Table table ends) = false
 
 -- ---- for whole lists
 
@@ -127,3 +148,4 @@ lines_of (Weave (suc n) false) x y = woven y x
 lines_of (Weave zero true) x y = x
 lines_of (Weave (suc n) true) x y = y
 lines_of (Pin left on) x y = x
+lines_of (Table table ends) x y = map (mapped_line table) x ++ ends

@@ -1,10 +1,31 @@
 -- The lines of each task of a script.
-use Rattle.std.specs.Prelude.{ℕ, ◌==◌, List, [], ◌∷◌, ◌++◌, length, map, Bool, slice_index_or, slice_set, if◌then◌else◌}
+use Rattle.std.specs.Prelude.{ℕ, ◌==◌, List, [], ◌∷◌, ◌++◌, length, map, Bool, Option, Some, None, slice_index_or}
+use Rattle.std.specs.Prelude.{slice_set, if◌then◌else◌}
 use Rattle.std.specs.List.{enumerate_from, list_any}
 use Rattle.task_script.specs.Forest.{reads}
+use Rattle.task_script.specs.declared.plan.Plan.{Plan}
 use Rattle.task_script.specs.declared.script.TaskDef.{TaskDef}
 use Rattle.pipe_tasks.specs.Words.{Line}
 use Rattle.pipe_tasks.specs.Plans.{lines_of}
+
+-- ---- tasks that have the work of a caller, of which each means a plan
+
+-- the plan of a task: what its work means, where it has one
+abbrev pub meaning_of : List Plan → Option ℕ → Plan → Plan
+meaning_of works None p = p
+meaning_of works (Some n) p = slice_index_or works n p
+
+abbrev pub plan_by : List Plan → TaskDef → Plan
+plan_by works d = meaning_of works d.custom d.plan
+
+abbrev pub meant : List Plan → TaskDef → TaskDef
+meant works d = record d { plan = plan_by works d }
+
+-- the tasks of a script as a caller means them who brings works of these plans
+abbrev pub meant_tasks : List Plan → List TaskDef → List TaskDef
+meant_tasks works tasks = map (meant works) tasks
+
+-- ---- the lines of tasks
 
 -- the lines of the task on the first side and on the second, of the lines of the tasks before; none where no task is
 -- read

@@ -1,6 +1,8 @@
 ghost use Rattle.std.specs.Prelude.{◌≡◌, ℕ, [], ◌∷◌, ◌++◌, Some, None, OnOk, OnErr, IfOk, MatchOption, if◌then◌else◌};
 ghost use Rattle.pipe_tasks.specs.Plans.{wants, says, next, last, closed, made, other_side};
 
+use crate::appending::append_lines;
+use crate::copies::copy_lines;
 use crate::text::{decimal_line, number_line, uppercase_line};
 use handoff_data::{Line, Lines, NoMemory};
 use std::alloc::Global;
@@ -17,7 +19,8 @@ pub fn wanted_side(plan: &Plan) -> Option<u32>
         | Plan::Keep { .. }
         | Plan::Drop { .. }
         | Plan::Tally { .. }
-        | Plan::Pin { .. } => Some(0),
+        | Plan::Pin { .. }
+        | Plan::Table { .. } => Some(0),
         Plan::Cat { side } | Plan::Weave { side, .. } => Some((*side).min(1)),
     }
 }
@@ -105,6 +108,7 @@ pub fn said_line(
         }
         Plan::Tally { .. } => None,
         Plan::Cat { .. } | Plan::Weave { .. } | Plan::Pin { .. } => Some(line),
+        Plan::Table { map, .. } => Some(map.map_line(line)),
     })
 }
 
@@ -162,6 +166,10 @@ pub fn end_plan(
             *side = other(*side);
             *ended = true;
             Ok(true)
+        }
+        Plan::Table { last, .. } => {
+            append_lines(alloc, out, copy_lines(alloc, last)?)?;
+            Ok(false)
         }
         _ => Ok(false),
     }

@@ -41,6 +41,7 @@ fn task<R: Abort + AllocGlobal>(rt: &R, plan: Plan, from: &[u32]) -> Result<Task
     Ok(TaskDef {
         name: line(rt, b"t")?,
         plan,
+        custom: None,
         from,
     })
 }

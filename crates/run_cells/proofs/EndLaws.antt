@@ -6,13 +6,19 @@ use Rattle.handoff_data.specs.declared.shape.Shape.{Shape}
 use Rattle.handoff_data.specs.declared.state.State.{State}
 use Rattle.pipe_bodies.specs.Bodies.{Lasting, BodyView}
 use Rattle.pipe_bodies.specs.Lastings.{lasting_code}
+use Rattle.pipe_bodies.specs.Lastings.{lasting_of as kept_in}
 use Rattle.pipe_bodies.specs.Nets.{HasEnded, lasting_of}
-use Rattle.run_cells.specs.Ends.{body_of, AllDied}
+use Rattle.run_cells.specs.Ends.{body_of, kept_of, AllDied}
 use Rattle.run_cells.specs.declared.cell.Cell.{Cell}
 use Rattle.task_words.specs.Closing.{AllDead, DeadHaveEnded, DeathsAreOfDead}
 
 pub are_dead : (shape : Shape) (j : History) (states : List State) → AllDied j shape.tasks → DeathsAreOfDead j states → AllDead shape states
 are_dead shape j states died dead t low = dead t (died t low).0 (died t low).1 (died t low).2
+
+-- what bodies keep comes back from its numbers
+pub kept_back : ((l : Lasting) → kept_in (lasting_code l) ≡ l) → (ls : List Lasting) → kept_of (map lasting_code ls) ≡ ls
+kept_back law [] = refl
+kept_back law (l ∷ ls) = λ i. law l i ∷ kept_back law ls i
 
 module _ {W : Type 0} where
   pub have_ended : (shape : Shape) (cells : List (Cell W)) (states : List State) → length cells ≡ shape.tasks

@@ -97,7 +97,7 @@ fn inputs_of_all(alloc: Global, tasks: &[TaskDef]) -> Result<Vec<Inputs>, NoMemo
 impl NetMap {
     /// The map of a script, whose tasks read earlier tasks and which has two conditions a task; or NoMemory.
     pub fn of(alloc: Global, script: &Script) -> Result<NetMap, NoMemory>
-        requires script { (bytes : List ℕ) × IsScript bytes script.now }
+        requires script { (customs : ℕ) × (bytes : List ℕ) × IsScript customs bytes script.now }
         ensures inputs { IfOk result (λ n. n ≡ map inputs_of script.now.tasks) }
         ensures map { IfOk result (λ n. IsNetMap n script.now.shape) }
     {

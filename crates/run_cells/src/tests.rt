@@ -23,11 +23,11 @@ fn find(net: &NetMap, t: TaskNo) -> Option<Inputs> {
 
 // The map of the script, and how many of its bodies come back out of their cells without having ended.
 fn map_and_bodies(alloc: Global) -> Result<(NetMap, usize), NoMemory> {
-    let Ok(script) = read_script(alloc, SCRIPT.as_bytes()) else {
+    let Ok(script) = read_script(alloc, SCRIPT.as_bytes(), 0) else {
         return Err(NoMemory);
     };
     let net = NetMap::of(alloc, &script)?;
-    let bodies: Vec<Body<NoWork>> = Net::build(alloc, &script)?;
+    let bodies: Vec<Body<NoWork>> = Net::build(alloc, &script, Vec::new(alloc))?;
     let bodies = into_bodies(alloc, into_cells(alloc, bodies)?)?;
     let count = bodies.iter().filter(|body| !body.has_ended()).count();
     Ok((net, count))

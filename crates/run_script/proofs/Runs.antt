@@ -2,7 +2,7 @@
 use Rattle.std.proofs.Common.{◌≡◌, ◌<◌, ◌+◌, ◌∙◌, ℕ, ◌++◌, ◌∷◌, [], List, map, length, get_or, refl, sym, subst, ap, All, arith}
 use Rattle.std.specs.Prelude.{Option}
 use Rattle.std.specs.List.{Contains}
-use Rattle.std.proofs.lemmas.List.{append-nil, length-map, get_or-map}
+use Rattle.std.proofs.lemmas.List.{append-nil, length-map, get_or-map, get_or_default}
 use Rattle.std.proofs.lemmas.List.Elements.{All-map, All-contains}
 use Rattle.handoff_data.specs.declared.entry.Entry.{Entry}
 use Rattle.handoff_data.specs.declared.entry.Entry.TheVariants as entry
@@ -14,7 +14,7 @@ use Rattle.run_script.proofs.Homes.{passes_are, seats_count, firsts_kept, number
 use Rattle.run_script.proofs.Journals.{journals_are, told_somewhere, all_seats}
 use Rattle.run_script.specs.Ran.{HasRun}
 use Rattle.run_script.specs.Seated.{pass_of, gates_in, AreSeated, gates_left, gates_by, AreOver}
-use Rattle.run_script.specs.Told.{AreTold}
+use Rattle.run_script.specs.Told.{AreTold, WereTold}
 use Rattle.run_turns.specs.Deaths.{HasDied}
 use Rattle.task_words.specs.Closing.{first_passes, IsDone, journals_in}
 use Rattle.task_words.specs.Views.{PassView, TurnView, IsOf}
@@ -33,6 +33,10 @@ done_of wk seat ready idle = record {
   clear = ready.rest.steady.clear;
 }
 
+-- nobody was told anything
+pub none_told : {G : Type 0} (told : G → Option (List Entry)) (seats : ℕ) (gs : List G) → WereTold told seats gs gs
+none_told told seats gs = record { entries = []; few = omega arith; each = λ i d e lt. ap told (get_or_default gs i e d lt) }
+
 module _ {G : Type 0} (told : G → Option (List Entry)) (wk : WordsView) (ps : List PassView) (gs : List G) (xs ys : List (Seat G))
     (firsts : ps ≡ first_passes wk.name wk.shape wk.lasting wk.shape.cpus) (are : AreSeated ps gs xs) (goes : GoOn told xs ys) where
   kept : All (IsKept told (gates_by told gs)) ys
@@ -49,6 +53,17 @@ module _ {G : Type 0} (told : G → Option (List Entry)) (wk : WordsView) (ps : 
 
   pub many_gates : length (gates_in ys) + length (gates_left ps gs) ≡ length gs
   many_gates = as_many_home ps gs ys many_seats there
+
+  -- whatever came of the run
+  pub were_told : (new : List G) → new ≡ gates_in ys ++ gates_left ps gs → WereTold told (wk.shape.cpus + wk.shape.agents) gs new
+  were_told new is = record {
+    entries = map (λ (seat : Seat G). seat.pass.told) ys;
+    few = (let many : length (map (λ (seat : Seat G). seat.pass.told) ys) ≡ wk.shape.cpus =
+        length-map ys (λ (seat : Seat G). seat.pass.told) ∙ as_many told xs ys goes ∙ seats_count wk wk.shape.cpus ps gs xs firsts are in
+        omega (arith, many));
+    each = subst (AreTold told (map (λ (seat : Seat G). seat.pass.told) ys) gs) (sym is)
+        (told_home told ps gs ys many_seats there (are_telling told gs ys places kept));
+  }
 
   module _ (agents : wk.shape.agents ≡ 0) (ready : All (IsReady wk) ys) (over : AreOver wk.shape.tasks ys)
       (tied : All (λ p. journal p.seat p.trace ≡ p.told ++ p.turn.entries) (map pass_of ys)) where

@@ -1,5 +1,5 @@
 -- What the gates of a run were told.
-use Rattle.std.specs.Prelude.{◌≡◌, ◌<◌, ◌+◌, ℕ, List, Option, Some, None, length, slice_get, slice_index_or}
+use Rattle.std.specs.Prelude.{◌≡◌, ◌<◌, ◌≤◌, ◌+◌, ℕ, List, Option, Some, None, length, slice_get, slice_index_or}
 use Rattle.handoff_data.specs.History.{History}
 use Rattle.handoff_data.specs.Legal.{IsLegal}
 use Rattle.handoff_data.specs.declared.entry.Entry.{Entry}
@@ -17,6 +17,12 @@ abbrev pub AreTold :
 AreTold {G} told journals old new =
     (i : ℕ) (d e : G) → i < length old
     → told (slice_index_or new i e) ≡ told_for (slice_get journals i) (told (slice_index_or old i d))
+
+-- each gate of one of so many seats was told some entries, and one beyond them none
+pub record WereTold {G : Type 0} (told : G → Option (List Entry)) (seats : ℕ) (old new : List G) : Type 0 where
+  pub entries : List (List Entry)
+  pub few : length entries ≤ seats
+  pub each : AreTold told entries old new
 
 -- Each gate was told the journal of its seat, and these are the journals of one legal history of the script's tasks.
 pub record TellsRun {G : Type 0} (told : G → Option (List Entry)) (script : Script) (old new : List G) : Type 0 where

@@ -26,10 +26,10 @@ const HELLO: &str =
 
 #[tactic(auto, using(crate::proofs::TestScripts::some_script))]
 fn script_of(alloc: Global, text: &str) -> Result<Script, NoMemory>
-    ensures script { IfOk result (λ s. (bytes : List ℕ) × IsScript bytes s) }
+    ensures script { IfOk result (λ s. (bytes : List ℕ) × IsScript 0 bytes s) }
     ensures forest { IfOk result (λ s. IsForest s.tasks) }
 {
-    match read_script(alloc, text.as_bytes()) {
+    match read_script(alloc, text.as_bytes(), 0) {
         Ok(script) => Ok(script),
         Err(_) => Err(NoMemory),
     }
@@ -111,11 +111,18 @@ fn expect_run<R: Abort + AllocGlobal + Threads + Wait + Sync>(
     workers: u32,
     expected: &[&str],
 ) -> Result<(), NoMemory>
-    requires { (bytes : List ℕ) × IsScript bytes script.now }
+    requires { (bytes : List ℕ) × IsScript 0 bytes script.now }
 {
     assert!(rt; 0 < workers && workers <= 16);
     let mut gates = list_gates(rt.alloc(), script.shape.cpus)?;
-    let lines = run_script::<NoWork, ListGate, R>(rt, rt.alloc(), script, workers, &mut gates)?;
+    let lines = run_script::<NoWork, ListGate, R>(
+        rt,
+        rt.alloc(),
+        script,
+        workers,
+        &mut gates,
+        Vec::new(rt.alloc()),
+    )?;
     expect_lines(rt, lines.as_slice(), expected, text, workers);
     let plain = run_forest(rt.alloc(), script_of(rt.alloc(), text)?)?;
     assert_eq!(rt; lines.len(), plain.len(), "{workers} workers, {text}");
@@ -224,12 +231,20 @@ fn runs_with<R: Abort + AllocGlobal + Threads + Wait + Sync>(
     gates: (u32, u32),
     call: u64,
 ) -> Result<bool, NoMemory>
-    requires { (bytes : List ℕ) × IsScript bytes script.now }
+    requires { (bytes : List ℕ) × IsScript 0 bytes script.now }
 {
     assert!(rt; 0 < workers && workers <= 16);
     let (count, which) = gates;
     let mut gates = refusers(rt.alloc(), count, which, call)?;
-    let run = run_script::<NoWork, Refuser, R>(rt, rt.alloc(), script, workers, &mut gates);
+    let customs = Vec::new(rt.alloc());
+    let run = run_script::<NoWork, Refuser, R>(
+        rt,
+        rt.alloc(),
+        script,
+        workers,
+        &mut gates,
+        customs,
+    );
     assert_eq!(rt; gates.len(), count as usize);
     for number in 0..count {
         assert_eq!(rt;
@@ -286,6 +301,7 @@ fn a_missing_gate_is_not_told_and_the_others_are(rt: HostRuntime) -> Result<(), 
             &script,
             workers,
             &mut gates,
+            Vec::new(rt.alloc()),
         )?;
         expect_lines(&rt, lines.as_slice(), &["1", "1", "1"], text, workers);
         assert_eq!(rt; gates.len(), 2);
@@ -383,7 +399,8 @@ fn make_meeting(alloc: Global) -> Result<Vec<Meeting>, NoMemory> {
 fn two_workers_meet(rt: HostRuntime) -> Result<(), Fail> {
     let script = script_of(rt.alloc(), "cpus 2\ntask a count 1\ntask b count 1\nend\n")?;
     let mut gates = make_meeting(rt.alloc())?;
-    run_script::<NoWork, Meeting, HostRuntime>(&rt, rt.alloc(), &script, 2, &mut gates)?;
+    let customs = Vec::new(rt.alloc());
+    run_script::<NoWork, Meeting, HostRuntime>(&rt, rt.alloc(), &script, 2, &mut gates, customs)?;
     for gate in gates {
         assert!(rt; gate.has_looked && gate.has_met);
     }

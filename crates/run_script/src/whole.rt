@@ -1,11 +1,11 @@
 //! The run of a script.
-ghost use Rattle.std.specs.Prelude.{◌≡◌, ◌<◌, ◌≤◌, ℕ, List, All, IfOk, OnOk, length};
-ghost use Rattle.pipe_tasks.specs.Tasks.{forest_lines};
+ghost use Rattle.std.specs.Prelude.{◌≡◌, ◌<◌, ◌≤◌, ◌+◌, ℕ, List, All, IfOk, OnOk, length, map};
+ghost use Rattle.pipe_tasks.specs.Tasks.{forest_lines, meant_tasks};
 ghost use Rattle.run_cells.specs.NetMaps.{IsNetMap};
 ghost use Rattle.run_rounds.specs.Seats.{IsReady, GoOn};
 ghost use Rattle.run_script.specs.Ran.{HasRun};
 ghost use Rattle.run_script.specs.Seated.{AreOver};
-ghost use Rattle.run_script.specs.Told.{TellsRun};
+ghost use Rattle.run_script.specs.Told.{TellsRun, WereTold};
 ghost use Rattle.task_script.specs.Script.{IsScript};
 ghost use Rattle.task_words.specs.Closing.{first_passes};
 
@@ -13,7 +13,7 @@ use crate::dealing::{deal, gather, workers_of};
 use crate::seats::{leave, put_rest, sit};
 use crate::starts::start_all;
 use handoff_data::{Lines, NoMemory};
-use pipe_bodies::{Body, Net, Work};
+use pipe_bodies::{Body, Net, Work, law_lastings};
 use run_cells::{Cell, Gate, NetMap, finish_run, into_cells};
 use run_rounds::{Seat, Shared, run_rounds};
 use std::alloc::Global;
@@ -73,6 +73,7 @@ fn run_seats<W: Work, G: Gate + Send, R: Threads + Wait + Sync>(
 }
 
 // Runs the tasks of a new table, whose passes these are, and gives the passes back, in their order.
+#[tactic(auto, using(crate::proofs::Runs::none_told))]
 fn run_gates<W: Work, G: Gate + Send, R: Threads + Wait + Sync>(
     rt: &R,
     alloc: Global,
@@ -87,6 +88,7 @@ fn run_gates<W: Work, G: Gate + Send, R: Threads + Wait + Sync>(
     requires agents { wk.now.shape.agents ≡ 0 }
     requires passes { passes.items ≡ first_passes wk.now.name wk.now.shape wk.now.lasting wk.now.shape.cpus }
     ensures count { length gates.new.items ≡ length gates.old.items }
+    ensures part { WereTold G.told (wk.now.shape.cpus + wk.now.shape.agents) gates.old.items gates.new.items }
     ensures ran { IfOk result (λ r. HasRun G.told wk.now gates.old.items gates.new.items r.items) }
 {
     // All memory for the way back is taken before a gate is moved.
@@ -103,7 +105,8 @@ fn run_gates<W: Work, G: Gate + Send, R: Threads + Wait + Sync>(
 }
 
 /// Runs a script on the scheduler, and answers the lines of each task that no other reads, with no lines in the place
-/// of a task that is read: those of the plain run.
+/// of a task that is read: those of the plain run, where the plan of a task of `custom` is what the work of its number
+/// means as it is handed in. The work is moved into the body of the task, and dropped with it.
 ///
 /// Task t is started on processor t mod processors, in the order of the script. Then at most so many workers, each in a
 /// thread of its own where one can be made, drive the processors until every task has died: worker w those with a
@@ -111,24 +114,30 @@ fn run_gates<W: Work, G: Gate + Send, R: Threads + Wait + Sync>(
 /// processor makes the next call. A processor beyond the gates tells nobody, and a gate beyond the processors is told
 /// nothing.
 ///
-/// NoMemory comes where memory ends, or a gate or a body refuses. All workers are joined, and each gate is back at its
-/// place, also then.
+/// NoMemory comes where memory ends, or a gate, a body or a work refuses. All workers are joined, and each gate is back
+/// at its place, also then.
+#[tactic(auto, using(crate::proofs::Runs::none_told))]
 pub fn run_script<W: Work, G: Gate + Send, R: Threads + Wait + Sync>(
     rt: &R,
     alloc: Global,
     script: &Script,
     workers: u32,
     gates: &mut Vec<G>,
+    customs: Vec<W>,
 ) -> Result<Vec<Lines>, NoMemory>
-    requires script { (bytes : List ℕ) × IsScript bytes script.now }
+    requires script { (bytes : List ℕ) × IsScript (length customs.items) bytes script.now }
     requires workers { (0 < workers) × (workers ≤ 16) }
-    ensures lines { IfOk result (λ r. r.items ≡ forest_lines script.now.tasks) }
+    ensures lines { IfOk result (λ r. r.items
+        ≡ forest_lines (meant_tasks (map W.meaning customs.items) script.now.tasks)) }
     ensures told { OnOk result (TellsRun G.told script.now gates.old.items gates.new.items) }
     ensures gates { length gates.new.items ≡ length gates.old.items }
+    // Also where memory is refused each gate is back, and was told some of what its seat did.
+    ensures part { WereTold G.told (script.now.shape.cpus + script.now.shape.agents) gates.old.items gates.new.items }
 {
     law_script();
+    law_lastings();
     let net = NetMap::of(alloc, script)?;
-    let bodies: Vec<Body<W>> = Net::build(alloc, script)?;
+    let bodies: Vec<Body<W>> = Net::build(alloc, script, customs)?;
     let (wk, passes) = Wk::new(alloc, &script.shape, into_cells(alloc, bodies)?)?;
     let passes = run_gates(rt, alloc, &wk, &net, workers, passes, gates)?;
     finish_run(alloc, script.tasks.as_slice(), wk, passes)

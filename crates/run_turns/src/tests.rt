@@ -77,12 +77,12 @@ fn begin(alloc: Global, text: &str) -> Result<(Wk<Cell<NoWork>>, Vec<Pass>, NetM
     ensures rest { IfOk result (λ r. All IsAtRest r.1.items) }
     ensures net { IfOk result (λ r. IsNetMap r.2 r.0.shape) }
 {
-    let Ok(script) = read_script(alloc, text.as_bytes()) else {
+    let Ok(script) = read_script(alloc, text.as_bytes(), 0) else {
         return Err(NoMemory);
     };
     law_script();
     let net = NetMap::of(alloc, &script)?;
-    let bodies: Vec<Body<NoWork>> = Net::build(alloc, &script)?;
+    let bodies: Vec<Body<NoWork>> = Net::build(alloc, &script, Vec::new(alloc))?;
     let cells = into_cells(alloc, bodies)?;
     if cells.len() != script.shape.tasks as usize {
         return Err(NoMemory);

@@ -12,7 +12,7 @@ use Rattle.task_script.specs.Forest.{IsForest}
 use Rattle.task_script.specs.Lines.{input_lines}
 use Rattle.task_script.specs.Forms.{Form, cpus_line, caches_line, room_line, is_within}
 use Rattle.task_script.specs.Script.{given, cpus_in, caches_in, room_in, shape_of, script_of, so_far, AreFaultless, IsScript}
-use Rattle.task_script.specs.Valid.{IsText, IsWord, IsMachine, IsRoom, AreNames, names_of, AllBegin}
+use Rattle.task_script.specs.Valid.{IsText, IsWord, IsMachine, IsRoom, AreNames, names_of, AllBegin, AreCustoms}
 use Rattle.script_writer.specs.Spelling.{spaced, spelled_setting, kind_words, source_words, task_words, spelled_text, spelled_task, texts_in, text_of, spelling, spelled, IsWithin}
 use Rattle.script_writer.proofs.WordLaws.{spaced_line}
 use Rattle.script_writer.proofs.NumberLaws.{number_word, plain_word, value_back, within_back}
@@ -50,13 +50,14 @@ texts_are_lines (text ∷ texts) h = (text_is_line text (h 0 text (omega arith))
 end_is_line : IsLine (codes "end")
 end_is_line = spaced_line (codes "end") [] (plain_word (codes "end") (omega arith) refl) tt
 
-tasks_are_lines : (tasks : List TaskDef) → AreTasks tasks → (done more : List TaskDef) → done ++ more ≡ tasks → AllByRecursion IsLine (lines_from tasks more)
-tasks_are_lines tasks are done [] e = (end_is_line, tt)
-tasks_are_lines tasks are done (d ∷ more) e =
-    let stands = stands_at tasks done d more e are in (
-      spaced_line (codes "task") (d.name ∷ (kind_words d.plan ++ source_words (sources tasks d))) task_word (task_are_words d.name d.plan (sources tasks d) stands.named stands.begins stands.known),
+tasks_are_lines : (customs : ℕ) (tasks : List TaskDef) → AreTasks customs tasks → (done more : List TaskDef) → done ++ more ≡ tasks → AllByRecursion IsLine (lines_from tasks more)
+tasks_are_lines customs tasks are done [] e = (end_is_line, tt)
+tasks_are_lines customs tasks are done (d ∷ more) e =
+    let stands = stands_at customs tasks done d more e are in (
+      spaced_line (codes "task") (d.name ∷ (kind_words d.custom d.plan ++ source_words (sources tasks d))) task_word (task_are_words d.name d.custom d.plan (sources tasks d) stands.named stands.low
+          stands.begins stands.known),
       lines_append (map spelled_text (texts_in d.plan)) (lines_from tasks more) (texts_are_lines (texts_in d.plan) (are_texts d.plan stands.begins))
-          (tasks_are_lines tasks are (done ++ d ∷ []) more (append_assoc done (d ∷ []) more ∙ e)),
+          (tasks_are_lines customs tasks are (done ++ d ∷ []) more (append_assoc done (d ∷ []) more ∙ e)),
     )
 
 -- the tasks' lines and the end, as they are spelled
@@ -77,14 +78,14 @@ all_lines c g r tasks =
 abbrev all_forms : ℕ → ℕ → ℕ → List TaskDef → List Form
 all_forms c g r tasks = cpus_line (digits_of c) ∷ caches_line (digits_of g) ∷ room_line (digits_of r) ∷ forms_from tasks tasks
 
-module _ (c g r : ℕ) (tasks : List TaskDef) (low_c : 1 ≤ c) (high_c : c ≤ 16) (low_g : 1 ≤ g) (high_g : g ≤ c) (low_r : 1 ≤ r) (high_r : r ≤ 64) (are : AreTasks tasks) where
+module _ (c g r customs : ℕ) (tasks : List TaskDef) (low_c : 1 ≤ c) (high_c : c ≤ 16) (low_g : 1 ≤ g) (high_g : g ≤ c) (low_r : 1 ≤ r) (high_r : r ≤ 64) (are : AreTasks customs tasks) where
   abbrev lines : List (List ℕ)
   lines = all_lines c g r tasks
 
   abbrev forms : List Form
   forms = all_forms c g r tasks
 
-  cpus_good : IsGood (so_far []) (cpus_line (digits_of c))
+  cpus_good : IsGood (so_far customs []) (cpus_line (digits_of c))
   cpus_good = record {
     numbers = ap not (within_back 1 16 c low_c high_c (omega arith));
     named = refl;
@@ -93,10 +94,11 @@ module _ (c g r : ℕ) (tasks : List TaskDef) (low_c : 1 ≤ c) (high_c : c ≤ 
     unread = refl;
     few = refl;
     ordered = refl;
+    brought = refl;
     behind = refl;
   }
 
-  caches_good : IsGood (so_far (cpus_line (digits_of c) ∷ [])) (caches_line (digits_of g))
+  caches_good : IsGood (so_far customs (cpus_line (digits_of c) ∷ [])) (caches_line (digits_of g))
   caches_good = record {
     numbers = ap (λ (n : ℕ). not (is_within 1 n (digits_of g))) (value_back c (omega arith)) ∙ ap not (within_back 1 c g low_g high_g (omega arith));
     named = refl;
@@ -105,10 +107,11 @@ module _ (c g r : ℕ) (tasks : List TaskDef) (low_c : 1 ≤ c) (high_c : c ≤ 
     unread = refl;
     few = refl;
     ordered = refl;
+    brought = refl;
     behind = refl;
   }
 
-  room_good : IsGood (so_far (cpus_line (digits_of c) ∷ caches_line (digits_of g) ∷ [])) (room_line (digits_of r))
+  room_good : IsGood (so_far customs (cpus_line (digits_of c) ∷ caches_line (digits_of g) ∷ [])) (room_line (digits_of r))
   room_good = record {
     numbers = ap not (within_back 1 64 r low_r high_r (omega arith));
     named = refl;
@@ -117,30 +120,31 @@ module _ (c g r : ℕ) (tasks : List TaskDef) (low_c : 1 ≤ c) (high_c : c ≤ 
     unread = refl;
     few = refl;
     ordered = refl;
+    brought = refl;
     behind = refl;
   }
 
   abbrev machine : List Form
   machine = cpus_line (digits_of c) ∷ caches_line (digits_of g) ∷ room_line (digits_of r) ∷ []
 
-  machine_at : so_far machine ≡ at_tasks c g r [] [] false
+  machine_at : so_far customs machine ≡ at_tasks c g r customs [] [] [] false
   machine_at =
       let cpus = value_back c (omega arith) in
       let caches = value_back g (omega arith) in
       let room = value_back r (omega arith) in
-      λ i. at_tasks (cpus i) (caches i) (room i) [] [] false
+      λ i. at_tasks (cpus i) (caches i) (room i) customs [] [] [] false
 
-  all_faultless : AllByRecursion IsShort lines → AreFaultless [] lines forms
+  all_faultless : AllByRecursion IsShort lines → AreFaultless customs [] lines forms
   all_faultless short =
       let cpus = cpus_line (digits_of c) in
       let caches = caches_line (digits_of g) in
       let room = room_line (digits_of r) in (
-        good_line [] (so_far []) (spelled_setting (codes "cpus") c) cpus refl (cpus_back c (omega arith)) short.0 refl cpus_good,
+        good_line customs [] (so_far customs []) (spelled_setting (codes "cpus") c) cpus refl (cpus_back c (omega arith)) short.0 refl cpus_good,
         (
-          good_line (cpus ∷ []) (so_far (cpus ∷ [])) (spelled_setting (codes "caches") g) caches refl (caches_back g (omega arith)) short.1.0 refl caches_good,
+          good_line customs (cpus ∷ []) (so_far customs (cpus ∷ [])) (spelled_setting (codes "caches") g) caches refl (caches_back g (omega arith)) short.1.0 refl caches_good,
           (
-            good_line (cpus ∷ caches ∷ []) (so_far (cpus ∷ caches ∷ [])) (spelled_setting (codes "room") r) room refl (room_back r (omega arith)) short.1.1.0 refl room_good,
-            tasks_faultless c g r tasks are [] tasks refl machine false machine_at short.1.1.1,
+            good_line customs (cpus ∷ caches ∷ []) (so_far customs (cpus ∷ caches ∷ [])) (spelled_setting (codes "room") r) room refl (room_back r (omega arith)) short.1.1.0 refl room_good,
+            tasks_faultless c g r customs tasks are [] tasks refl machine false machine_at short.1.1.1,
           ),
         ),
       )
@@ -153,7 +157,7 @@ module _ (c g r : ℕ) (tasks : List TaskDef) (low_c : 1 ≤ c) (high_c : c ≤ 
     setting_line (codes "cpus") c (plain_word (codes "cpus") (omega arith) refl) (omega arith),
     (
       setting_line (codes "caches") g (plain_word (codes "caches") (omega arith) refl) (omega arith),
-      (setting_line (codes "room") r (plain_word (codes "room") (omega arith) refl) (omega arith), tasks_are_lines tasks are [] tasks refl),
+      (setting_line (codes "room") r (plain_word (codes "room") (omega arith) refl) (omega arith), tasks_are_lines customs tasks are [] tasks refl),
     ),
   )
 
@@ -163,19 +167,19 @@ module _ (c g r : ℕ) (tasks : List TaskDef) (low_c : 1 ≤ c) (high_c : c ≤ 
 
   cpus_given : given cpus_in forms ≡ Some c
   cpus_given = one_given cpus_in c
-      ((λ i. value_back c (omega arith) i ∷ none_set cpus_in ((λ name plan names. refl), (λ text. refl), refl) tasks tasks i))
+      ((λ i. value_back c (omega arith) i ∷ none_set cpus_in ((λ name custom plan names. refl), (λ text. refl), refl) tasks tasks i))
 
   caches_given : given caches_in forms ≡ Some g
   caches_given = one_given caches_in g
-      ((λ i. value_back g (omega arith) i ∷ none_set caches_in ((λ name plan names. refl), (λ text. refl), refl) tasks tasks i))
+      ((λ i. value_back g (omega arith) i ∷ none_set caches_in ((λ name custom plan names. refl), (λ text. refl), refl) tasks tasks i))
 
   room_given : given room_in forms ≡ Some r
   room_given = one_given room_in r
-      ((λ i. value_back r (omega arith) i ∷ none_set room_in ((λ name plan names. refl), (λ text. refl), refl) tasks tasks i))
+      ((λ i. value_back r (omega arith) i ∷ none_set room_in ((λ name custom plan names. refl), (λ text. refl), refl) tasks tasks i))
 
   script_back : script_of forms ≡ record { shape = shape_of c (Some g) (length tasks); room = r; tasks = tasks }
   script_back =
-      let said = tasks_back tasks [] tasks refl are in
+      let said = tasks_back customs tasks [] tasks refl are in
       λ i. record {
         shape = shape_of (unwrap_or (cpus_given i) 1) (caches_given i) (length (said i));
         room = unwrap_or (room_given i) 4;
@@ -191,12 +195,13 @@ same_script s m =
     let agents = sym m.agents in
     λ i. record { shape = record { cpus = s.shape.cpus; caches = s.shape.caches; tasks = tasks i; conds = conds i; agents = agents i }; room = s.room; tasks = s.tasks }
 
-pub spelled_is_script : (s : Script) → IsMachine s.shape s.tasks → IsRoom s.room → IsForest s.tasks → AreNames (names_of s.tasks) → AllBegin s.tasks → IsWithin s → IsScript (spelled s) s
-spelled_is_script s m room forest names begin within =
+pub spelled_is_script : (customs : ℕ) (s : Script) → IsMachine s.shape s.tasks → IsRoom s.room → IsForest s.tasks → AreNames (names_of s.tasks) → AllBegin s.tasks → AreCustoms customs s.tasks
+    → IsWithin s → IsScript customs (spelled s) s
+spelled_is_script customs s m room forest names begin works within =
     let valid = m.valid in
     let counted = m.counted in
     let few = valid.few_tasks in
-    let are : AreTasks s.tasks = record { forest = forest; names = names; begin = begin; few = omega arith } in
+    let are : AreTasks customs s.tasks = record { forest = forest; names = names; begin = begin; few = omega arith; works = works } in
     let lines = all_lines s.shape.cpus s.shape.caches s.room s.tasks in
     let forms = all_forms s.shape.cpus s.shape.caches s.room s.tasks in
     let spelt : spelling s ≡ lines =
@@ -205,22 +210,22 @@ spelled_is_script s m room forest names begin within =
     let read : input_lines (spelled s) ≡ lines =
     ap (λ (ls : List (List ℕ)). input_lines (text_of ls)) spelt
     ∙ lines_back lines
-    (lines_are_lines s.shape.cpus s.shape.caches s.room s.tasks valid.some_cpu valid.few_cpus valid.some_cache valid.few_caches room.0 room.1 are) in
+    (lines_are_lines s.shape.cpus s.shape.caches s.room customs s.tasks valid.some_cpu valid.few_cpus valid.some_cache valid.few_caches room.0 room.1 are) in
     let short = recursion_from_All IsShort lines (subst (All IsShort) spelt within.lines) in
-    let faultless = all_faultless s.shape.cpus s.shape.caches s.room s.tasks valid.some_cpu valid.few_cpus valid.some_cache valid.few_caches room.0 room.1 are short in
-    let back = script_back s.shape.cpus s.shape.caches s.room s.tasks valid.some_cpu valid.few_cpus valid.some_cache valid.few_caches room.0 room.1 are in
+    let faultless = all_faultless s.shape.cpus s.shape.caches s.room customs s.tasks valid.some_cpu valid.few_cpus valid.some_cache valid.few_caches room.0 room.1 are short in
+    let back = script_back s.shape.cpus s.shape.caches s.room customs s.tasks valid.some_cpu valid.few_cpus valid.some_cache valid.few_caches room.0 room.1 are in
     record {
       within = within.whole;
       forms = forms;
-      faultless = subst (λ (ls : List (List ℕ)). AreFaultless [] ls forms) (sym read) faultless;
+      faultless = subst (λ (ls : List (List ℕ)). AreFaultless customs [] ls forms) (sym read) faultless;
       ended = ends s.tasks s.tasks;
       says = sym (same_script s m) ∙ sym back;
     }
 
 -- scripts that their spellings are, where bytes are at most one script
-module _ (one : (bytes : List ℕ) (s t : Script) → IsScript bytes s → IsScript bytes t → t ≡ s) where
-  pub only_script : (s t : Script) → IsScript (spelled s) s → IsScript (spelled s) t → t ≡ s
-  only_script s t back read = one (spelled s) s t back read
+module _ (one : (customs others : ℕ) (bytes : List ℕ) (s t : Script) → IsScript customs bytes s → IsScript others bytes t → t ≡ s) where
+  pub only_script : (customs : ℕ) (s t : Script) → IsScript customs (spelled s) s → IsScript customs (spelled s) t → t ≡ s
+  only_script customs s t back read = one customs customs (spelled s) s t back read
 
-  pub one_spelling : (s t : Script) → IsScript (spelled s) s → IsScript (spelled t) t → spelled s ≡ spelled t → s ≡ t
-  one_spelling s t back other same = one (spelled t) t s other (subst (λ (bytes : List ℕ). IsScript bytes s) same back)
+  pub one_spelling : (customs others : ℕ) (s t : Script) → IsScript customs (spelled s) s → IsScript others (spelled t) t → spelled s ≡ spelled t → s ≡ t
+  one_spelling customs others s t back other same = one others customs (spelled t) t s other (subst (λ (bytes : List ℕ). IsScript customs bytes s) same back)

@@ -1,10 +1,10 @@
 -- The one canonical spelling of a script.
-use Rattle.std.specs.Prelude.{◌≤◌, ◌++◌, ℕ, List, [], ◌∷◌, length, map, get_or, codes, All}
+use Rattle.std.specs.Prelude.{◌≤◌, ◌++◌, ℕ, List, [], ◌∷◌, Option, unwrap_or, length, map, get_or, codes, All}
 use Rattle.std.specs.Fmt.{decimal}
 use Rattle.std.specs.List.{flat_map}
 use Rattle.task_script.specs.declared.plan.Plan.{Plan}
 use Rattle.task_script.specs.declared.plan.Plan.TheVariants.{Lines, Count, Upper, Number, Keep, Drop, Tally, Cat, Weave}
-use Rattle.task_script.specs.declared.plan.Plan.TheVariants.{Pin}
+use Rattle.task_script.specs.declared.plan.Plan.TheVariants.{Pin, Table}
 use Rattle.task_script.specs.declared.script.TaskDef.{TaskDef}
 use Rattle.task_script.specs.declared.script.Script.{Script}
 use Rattle.task_script.specs.Valid.{names_of}
@@ -25,18 +25,19 @@ spelled_setting word number = spaced (word ∷ decimal number ∷ [])
 
 -- ---- a task
 
--- the words that say what kind of task it is
-abbrev pub kind_words : Plan → List (List ℕ)
-kind_words (Lines left) = codes "lines" ∷ []
-kind_words (Count next last) = codes "count" ∷ decimal last ∷ []
-kind_words Upper = codes "upper" ∷ []
-kind_words (Number next) = codes "number" ∷ []
-kind_words (Keep prefix) = codes "keep" ∷ prefix ∷ []
-kind_words (Drop prefix) = codes "drop" ∷ prefix ∷ []
-kind_words (Tally n) = codes "tally" ∷ []
-kind_words (Cat side) = codes "cat" ∷ []
-kind_words (Weave side ended) = codes "weave" ∷ []
-kind_words (Pin left on) = codes "pin" ∷ decimal left ∷ []
+-- the words that say what kind of task it is; the number is that of its work, if it has one
+abbrev pub kind_words : Option ℕ → Plan → List (List ℕ)
+kind_words number (Lines left) = codes "lines" ∷ []
+kind_words number (Count next last) = codes "count" ∷ decimal last ∷ []
+kind_words number Upper = codes "upper" ∷ []
+kind_words number (Number next) = codes "number" ∷ []
+kind_words number (Keep prefix) = codes "keep" ∷ prefix ∷ []
+kind_words number (Drop prefix) = codes "drop" ∷ prefix ∷ []
+kind_words number (Tally n) = codes "tally" ∷ []
+kind_words number (Cat side) = codes "cat" ∷ []
+kind_words number (Weave side ended) = codes "weave" ∷ []
+kind_words number (Pin left on) = codes "pin" ∷ decimal left ∷ []
+kind_words number (Table map last) = codes "custom" ∷ decimal (unwrap_or number 0) ∷ []
 
 -- the name of the task of this number
 abbrev pub name_of : List TaskDef → ℕ → List ℕ
@@ -49,7 +50,7 @@ source_words (name ∷ names) = codes "from" ∷ name ∷ names
 
 -- the words of its line
 abbrev pub task_words : List TaskDef → TaskDef → List (List ℕ)
-task_words tasks d = codes "task" ∷ d.name ∷ (kind_words d.plan ++ source_words (map (name_of tasks) d.from))
+task_words tasks d = codes "task" ∷ d.name ∷ (kind_words d.custom d.plan ++ source_words (map (name_of tasks) d.from))
 
 -- a text: a bar, and where the text isn't empty a space and the text
 abbrev pub spelled_text : List ℕ → List ℕ

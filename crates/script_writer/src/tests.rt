@@ -6,7 +6,7 @@ use task_script::{Script, ScriptError, read_script};
 
 // What reading these bytes and writing them gives.
 fn rewritten<R: Abort + AllocGlobal>(rt: &R, bytes: &[u8]) -> Result<Vec<u8>, NoMemory> {
-    match read_script(rt.alloc(), bytes) {
+    match read_script(rt.alloc(), bytes, 2) {
         Ok(script) => write_script(rt.alloc(), &script),
         Err(ScriptError::Bad(fault)) => panic!(rt; "line {} code {}", fault.line, fault.code),
         Err(ScriptError::NoMemory) => Err(NoMemory),
@@ -25,8 +25,8 @@ fn assert_spelled<R: Abort + AllocGlobal>(rt: &R, text: &str, expected: &str) ->
         expected.as_bytes(),
         "{text}"
     );
-    let script: Script = read_script(rt.alloc(), text.as_bytes())?;
-    let again: Script = read_script(rt.alloc(), expected.as_bytes())?;
+    let script: Script = read_script(rt.alloc(), text.as_bytes(), 2)?;
+    let again: Script = read_script(rt.alloc(), expected.as_bytes(), 2)?;
     assert!(rt; again.equals(&script), "{text}");
     Ok(())
 }
@@ -94,7 +94,7 @@ fn a_spelling_may_be_past_the_limit_of_a_line(rt: HostRuntime) -> Result<(), Fai
         let written = rewritten(&rt, text.as_slice())?;
         // Beside the letters: 7 + 9 + 7 + 13 + 3 + 4 bytes.
         assert_eq!(rt; written.len(), letters + 43);
-        let fault = match read_script(rt.alloc(), written.as_slice()) {
+        let fault = match read_script(rt.alloc(), written.as_slice(), 2) {
             Ok(_) => (0, 0),
             Err(ScriptError::Bad(fault)) => (fault.line, fault.code),
             Err(ScriptError::NoMemory) => (0, 99),

@@ -57,10 +57,11 @@ fn push_count(bytes: &mut Vec<u8>, word: &[u8], number: u64) -> Result<(), NoMem
 }
 
 // The words of a kind, each behind a space.
-fn push_kind(bytes: &mut Vec<u8>, plan: &Plan) -> Result<(), NoMemory>
-    ensures { OnOk result (bytes.new.items ≡ bytes.old.items ++ flat_map behind_space (kind_words plan.now)) }
+fn push_kind(bytes: &mut Vec<u8>, task: &TaskDef) -> Result<(), NoMemory>
+    ensures { OnOk result (bytes.new.items ≡ bytes.old.items
+        ++ flat_map behind_space (kind_words task.now.custom task.now.plan)) }
 {
-    match plan {
+    match &task.plan {
         Plan::Lines { .. } => push_word(bytes, b"lines"),
         Plan::Count { last, .. } => push_count(bytes, b"count", *last),
         Plan::Upper => push_word(bytes, b"upper"),
@@ -71,6 +72,7 @@ fn push_kind(bytes: &mut Vec<u8>, plan: &Plan) -> Result<(), NoMemory>
         Plan::Cat { .. } => push_word(bytes, b"cat"),
         Plan::Weave { .. } => push_word(bytes, b"weave"),
         Plan::Pin { left, .. } => push_count(bytes, b"pin", *left),
+        Plan::Table { .. } => push_count(bytes, b"custom", u64::from(task.custom.unwrap_or(0))),
     }
 }
 
@@ -138,7 +140,7 @@ fn push_task(bytes: &mut Vec<u8>, tasks: &[TaskDef], task: &TaskDef) -> Result<(
 {
     bytes.extend_from_slice(b"task")?;
     push_word(bytes, task.name.as_slice())?;
-    push_kind(bytes, &task.plan)?;
+    push_kind(bytes, task)?;
     push_sources(bytes, tasks, task.from.as_slice())?;
     bytes.push(b'\n')?;
     match &task.plan {

@@ -18,7 +18,8 @@ use Rattle.task_script.specs.declared.script.TaskDef.{TaskDef}
 use Rattle.task_script.specs.declared.script.Script.{Script}
 use Rattle.task_script.specs.Plan.{sides}
 use Rattle.task_script.specs.Forest.{IsForest, reads as read_tasks}
-use Rattle.task_script.specs.Forms.{Kind, lines_kind, count_kind, upper_kind, number_kind, keep_kind, drop_kind, tally_kind, pin_kind, cat_kind, weave_kind, reads, Form, skip_line, cpus_line}
+use Rattle.task_script.specs.Forms.{Kind, lines_kind, count_kind, upper_kind, number_kind, keep_kind, drop_kind, tally_kind, pin_kind, custom_kind, cat_kind, weave_kind, reads, Form, skip_line}
+use Rattle.task_script.specs.Forms.{cpus_line}
 use Rattle.task_script.specs.Forms.{caches_line, room_line, task_line, text_line, end_line}
 use Rattle.task_script.specs.Script.{number_of, plan_of, task_of, tasks_of, texts_of, named_in, read_in, so_far, lacks_task, reads_again, AreFaultless, IsScript}
 use Rattle.task_script.proofs.FormLaws.{is_good}
@@ -210,6 +211,7 @@ sides_are (keep_kind prefix source) texts = refl
 sides_are (drop_kind prefix source) texts = refl
 sides_are (tally_kind source) texts = refl
 sides_are (pin_kind number source) texts = refl
+sides_are (custom_kind number source) texts = refl
 sides_are (cat_kind first second) texts = refl
 sides_are (weave_kind first second) texts = refl
 
@@ -275,31 +277,31 @@ passed : (before : List Form) (form : Form) (done : List TaskDef) (forms : List 
 passed before form done forms none skips ends =
     subst (λ (z : List TaskDef). IsForest (done ++ z)) (ap (λ (z : Names). tasks_of z forms) (names-same before form none) ∙ sym skips) ends
 
-forest-on : (before : List Form) (done : List TaskDef) (lines : Names) (forms : List Form) → GrownAfter before done → AreFaultless before lines forms → Ends before done forms
-forest-on before done [] [] g all = subst (λ (z : List TaskDef). IsForest z) (sym (append-nil done)) g.forest
-forest-on before done [] (form ∷ forms) g all = absurd all
-forest-on before done (line ∷ lines) [] g all = absurd all
-forest-on before done (line ∷ lines) (skip_line ∷ forms) g all =
-    passed before skip_line done forms refl refl (forest-on (before ++ skip_line ∷ []) done lines forms (grown-same before skip_line done refl refl g) all.1)
-forest-on before done (line ∷ lines) (cpus_line n ∷ forms) g all =
-    passed before (cpus_line n) done forms refl refl (forest-on (before ++ cpus_line n ∷ []) done lines forms (grown-same before (cpus_line n) done refl refl g) all.1)
-forest-on before done (line ∷ lines) (caches_line n ∷ forms) g all =
-    passed before (caches_line n) done forms refl refl (forest-on (before ++ caches_line n ∷ []) done lines forms (grown-same before (caches_line n) done refl refl g) all.1)
-forest-on before done (line ∷ lines) (room_line n ∷ forms) g all =
-    passed before (room_line n) done forms refl refl (forest-on (before ++ room_line n ∷ []) done lines forms (grown-same before (room_line n) done refl refl g) all.1)
-forest-on before done (line ∷ lines) (text_line t ∷ forms) g all =
-    passed before (text_line t) done forms refl refl (forest-on (before ++ text_line t ∷ []) done lines forms (grown-same before (text_line t) done refl refl g) all.1)
-forest-on before done (line ∷ lines) (end_line ∷ forms) g all =
-    passed before end_line done forms refl refl (forest-on (before ++ end_line ∷ []) done lines forms (grown-same before end_line done refl refl g) all.1)
-forest-on before done (line ∷ lines) (task_line name kind ∷ forms) g all =
+forest-on : (customs : ℕ) (before : List Form) (done : List TaskDef) (lines : Names) (forms : List Form) → GrownAfter before done → AreFaultless customs before lines forms → Ends before done forms
+forest-on customs before done [] [] g all = subst (λ (z : List TaskDef). IsForest z) (sym (append-nil done)) g.forest
+forest-on customs before done [] (form ∷ forms) g all = absurd all
+forest-on customs before done (line ∷ lines) [] g all = absurd all
+forest-on customs before done (line ∷ lines) (skip_line ∷ forms) g all =
+    passed before skip_line done forms refl refl (forest-on customs (before ++ skip_line ∷ []) done lines forms (grown-same before skip_line done refl refl g) all.1)
+forest-on customs before done (line ∷ lines) (cpus_line n ∷ forms) g all =
+    passed before (cpus_line n) done forms refl refl (forest-on customs (before ++ cpus_line n ∷ []) done lines forms (grown-same before (cpus_line n) done refl refl g) all.1)
+forest-on customs before done (line ∷ lines) (caches_line n ∷ forms) g all =
+    passed before (caches_line n) done forms refl refl (forest-on customs (before ++ caches_line n ∷ []) done lines forms (grown-same before (caches_line n) done refl refl g) all.1)
+forest-on customs before done (line ∷ lines) (room_line n ∷ forms) g all =
+    passed before (room_line n) done forms refl refl (forest-on customs (before ++ room_line n ∷ []) done lines forms (grown-same before (room_line n) done refl refl g) all.1)
+forest-on customs before done (line ∷ lines) (text_line t ∷ forms) g all =
+    passed before (text_line t) done forms refl refl (forest-on customs (before ++ text_line t ∷ []) done lines forms (grown-same before (text_line t) done refl refl g) all.1)
+forest-on customs before done (line ∷ lines) (end_line ∷ forms) g all =
+    passed before end_line done forms refl refl (forest-on customs (before ++ end_line ∷ []) done lines forms (grown-same before end_line done refl refl g) all.1)
+forest-on customs before done (line ∷ lines) (task_line name kind ∷ forms) g all =
     let names = flat_map named_in before in
-    let good = is_good (so_far before) (task_line name kind) (form_good (so_far before) line (task_line name kind) all.0.formed all.0.good) in
+    let good = is_good (so_far customs before) (task_line name kind) (form_good (so_far customs before) line (task_line name kind) all.0.formed all.0.good) in
     let d = task_of names name kind (texts_of forms) in
     let grown : GrownAfter (before ++ task_line name kind ∷ []) (done ++ d ∷ []) =
     subst (λ (z : Names). Grown z (flat_map read_in (before ++ task_line name kind ∷ [])) (done ++ d ∷ [])) (sym (flat_push named_in before (task_line name kind)))
     (subst (λ (z : Names). Grown (names ++ name ∷ []) z (done ++ d ∷ [])) (sym (flat_push read_in before (task_line name kind)))
     (grown-task names (flat_map read_in before) done name kind (texts_of forms) g good.found good.unread)) in
-    let ends = forest-on (before ++ task_line name kind ∷ []) (done ++ d ∷ []) lines forms grown all.1 in
+    let ends = forest-on customs (before ++ task_line name kind ∷ []) (done ++ d ∷ []) lines forms grown all.1 in
     subst (λ (z : List TaskDef). IsForest z) (append_assoc done (d ∷ []) (tasks_of (names ++ name ∷ []) forms))
     (subst (λ (z : Names). IsForest ((done ++ d ∷ []) ++ tasks_of z forms)) (flat_push named_in before (task_line name kind)) ends)
 
@@ -311,6 +313,6 @@ nothing = record {
 }
 
 -- the tasks of a script are a forest
-pub script-forest : (bytes : List ℕ) (script : Script) → IsScript bytes script → IsForest script.tasks
-script-forest bytes script is =
-    subst (λ (s : Script). IsForest s.tasks) (sym is.says) (forest-on [] [] _ is.forms nothing is.faultless)
+pub script-forest : (customs : ℕ) (bytes : List ℕ) (script : Script) → IsScript customs bytes script → IsForest script.tasks
+script-forest customs bytes script is =
+    subst (λ (s : Script). IsForest s.tasks) (sym is.says) (forest-on customs [] [] _ is.forms nothing is.faultless)

@@ -1,6 +1,6 @@
 -- What a form's texts and words are, and what a form without fault can be kept as.
 use Rattle.std.proofs.Common.{◌≡◌, ◌≢◌, ℕ, zero, suc, ◌≤◌, ◌==◌, Bool, true, false, cond, ◌&&◌, ◌||◌, List, [], ◌∷◌, length, Option, Some, None, refl, subst, All, arith}
-use Rattle.std.specs.List.{slice_split, onto_first, filter}
+use Rattle.std.specs.List.{slice_split, onto_first, filter, list_any}
 use Rattle.std.specs.Option.{IsSomeAnd, is_some, is_none}
 use Rattle.std.specs.Prelude.{codes, nat_le, ⊤}
 use Rattle.std.specs.Str.{bytes_eq}
@@ -8,11 +8,13 @@ use Rattle.std.proofs.lemmas.Bool.{and_parts, or_parts, not-false, leb-true, leb
 use Rattle.handoff_data.specs.Line.{IsLine}
 use Rattle.task_script.specs.Lines.{input_lines, before_returns, without_returns, is_blank, skip_blanks, has_bytes, words}
 use Rattle.task_script.specs.Forms.{AreLines, HasLinePrefix, HasLineText, value_of, is_number, is_within, Kind, reads, lines_kind, count_kind, upper_kind, number_kind, keep_kind, drop_kind}
-use Rattle.task_script.specs.Forms.{tally_kind, pin_kind, cat_kind, weave_kind, Form, skip_line, cpus_line, caches_line, room_line, task_line, text_line, end_line, setting_form, reader_form}
+use Rattle.task_script.specs.Forms.{tally_kind, pin_kind, custom_kind, cat_kind, weave_kind, Form, skip_line, cpus_line, caches_line, room_line, task_line, text_line, end_line, setting_form}
+use Rattle.task_script.specs.Forms.{reader_form}
 use Rattle.task_script.specs.Forms.{joining_form, choosing_form, long_form, worded_form, text_of, bare_form, form_of}
-use Rattle.task_script.specs.Script.{SoFar, faults, lowest, form_code, is_bad_group, is_kept, has_tasks, bad_number, bad_name, name_twice, no_such_task, already_read, too_many, bad_order}
+use Rattle.task_script.specs.Script.{SoFar, faults, lowest, form_code, is_bad_group, is_kept, has_tasks, bad_number, bad_name, name_twice, no_such_task, already_read, too_many, bad_order, custom_in}
+use Rattle.task_script.specs.Script.{is_no_work, bad_custom}
 use Rattle.task_script.specs.Script.{text_without_task}
-use Rattle.task_script.specs.Reading.{CanSettle}
+use Rattle.task_script.specs.Reading.{IsBelow, CanSettle}
 use Rattle.task_script.specs.Valid.{IsText, IsWord}
 
 -- P of each
@@ -150,13 +152,16 @@ joining_text name kind first second form n a b e =
 choosing_text : (name kind word source : List ℕ) (form : Form) → IsWord name → IsWord word → IsWord source → choosing_form name kind word source ≡ Some form → HasWords form
 choosing_text name kind word source form n w s e =
     pick (bytes_eq kind (codes "keep")) (task_line name (keep_kind word source))
-    (cond (bytes_eq kind (codes "drop")) (Some (task_line name (drop_kind word source))) (cond (bytes_eq kind (codes "pin")) (Some (task_line name (pin_kind word source))) None)) form e (
-      n,
-      w,
-      (s, tt),
-    )
-    (λ d. pick (bytes_eq kind (codes "drop")) (task_line name (drop_kind word source)) (cond (bytes_eq kind (codes "pin")) (Some (task_line name (pin_kind word source))) None) form d (n, w, (s, tt))
-    (λ p. pick (bytes_eq kind (codes "pin")) (task_line name (pin_kind word source)) None form p (n, tt, (s, tt)) (none_text form)))
+    (cond (bytes_eq kind (codes "drop")) (Some (task_line name (drop_kind word source))) pinned) form e (n, w, (s, tt))
+    (λ d. pick (bytes_eq kind (codes "drop")) (task_line name (drop_kind word source)) pinned form d (n, w, (s, tt))
+    (λ p. pick (bytes_eq kind (codes "pin")) (task_line name (pin_kind word source)) brought form p (n, tt, (s, tt))
+    (λ c. pick (bytes_eq kind (codes "custom")) (task_line name (custom_kind word source)) None form c (n, tt, (s, tt)) (none_text form))))
+  where
+    brought : Option Form
+    brought = cond (bytes_eq kind (codes "custom")) (Some (task_line name (custom_kind word source))) None
+
+    pinned : Option Form
+    pinned = cond (bytes_eq kind (codes "pin")) (Some (task_line name (pin_kind word source))) brought
 
 long_text : (name kind third fourth fifth : List ℕ) (form : Form) → IsWord name → IsWord third → IsWord fourth → IsWord fifth
     → long_form name kind third fourth fifth ≡ Some form → HasWords form
@@ -231,6 +236,7 @@ prefix_line (keep_kind prefix source) h = word_line prefix h
 prefix_line (drop_kind prefix source) h = word_line prefix h
 prefix_line (tally_kind source) h = tt
 prefix_line (pin_kind number source) h = tt
+prefix_line (custom_kind number source) h = tt
 prefix_line (cat_kind first second) h = tt
 prefix_line (weave_kind first second) h = tt
 
@@ -253,17 +259,18 @@ unended true o e = absurd cc
 unended false o e = e
 
 -- no code comes
-eight : (a b c d e f g h : Bool) → lowest ((3, a) ∷ (4, b) ∷ (5, c) ∷ (6, d) ∷ (7, e) ∷ (8, f) ∷ (10, g) ∷ (14, h) ∷ []) ≡ None
-    → (a ≡ false) × (b ≡ false) × (c ≡ false) × (d ≡ false) × (e ≡ false) × (f ≡ false) × (g ≡ false) × (h ≡ false)
-eight true b c d e f g h is = absurd cc
-eight false true c d e f g h is = absurd cc
-eight false false true d e f g h is = absurd cc
-eight false false false true e f g h is = absurd cc
-eight false false false false true f g h is = absurd cc
-eight false false false false false true g h is = absurd cc
-eight false false false false false false true h is = absurd cc
-eight false false false false false false false true is = absurd cc
-eight false false false false false false false false is = (refl, refl, refl, refl, refl, refl, refl, refl)
+nine : (a b c d e f g h i : Bool) → lowest ((3, a) ∷ (4, b) ∷ (5, c) ∷ (6, d) ∷ (7, e) ∷ (8, f) ∷ (10, g) ∷ (13, h) ∷ (14, i) ∷ []) ≡ None
+    → (a ≡ false) × (b ≡ false) × (c ≡ false) × (d ≡ false) × (e ≡ false) × (f ≡ false) × (g ≡ false) × (h ≡ false) × (i ≡ false)
+nine true b c d e f g h i is = absurd cc
+nine false true c d e f g h i is = absurd cc
+nine false false true d e f g h i is = absurd cc
+nine false false false true e f g h i is = absurd cc
+nine false false false false true f g h i is = absurd cc
+nine false false false false false true g h i is = absurd cc
+nine false false false false false false true h i is = absurd cc
+nine false false false false false false false true i is = absurd cc
+nine false false false false false false false false true is = absurd cc
+nine false false false false false false false false false is = (refl, refl, refl, refl, refl, refl, refl, refl, refl)
 
 pub record IsGood (s : SoFar) (form : Form) : Type 0 where
   pub numbers : bad_number s form ≡ false
@@ -273,13 +280,14 @@ pub record IsGood (s : SoFar) (form : Form) : Type 0 where
   pub unread : already_read s form ≡ false
   pub few : too_many s form ≡ false
   pub ordered : bad_order s form ≡ false
+  pub work : bad_custom s form ≡ false
   pub behind : text_without_task s form ≡ false
 
 pub is_good : (s : SoFar) (form : Form) → form_code s (Some form) ≡ None → IsGood s form
 is_good s form e =
-    let h = eight (bad_number s form) (bad_name form) (name_twice s form) (no_such_task s form) (already_read s form) (too_many s form) (bad_order s form) (text_without_task s form)
+    let h = nine (bad_number s form) (bad_name form) (name_twice s form) (no_such_task s form) (already_read s form) (too_many s form) (bad_order s form) (bad_custom s form) (text_without_task s form)
     (unended (s.ended && is_kept form) (lowest (faults s form)) e) in
-    record { numbers = h.0; named = h.1; fresh = h.2; found = h.3; unread = h.4; few = h.5; ordered = h.6; behind = h.7 }
+    record { numbers = h.0; named = h.1; fresh = h.2; found = h.3; unread = h.4; few = h.5; ordered = h.6; work = h.7; behind = h.8 }
 
 within_high : (low high : ℕ) (number : List ℕ) → is_within low high number ≡ true → value_of number ≤ high
 within_high low high number e = leb-true (value_of number) high (and_parts (is_number number && nat_le low (value_of number)) (nat_le (value_of number) high) e).1
@@ -287,6 +295,10 @@ within_high low high number e = leb-true (value_of number) high (and_parts (is_n
 group_fits : (cpus : Option ℕ) (number : List ℕ) → is_bad_group cpus number ≡ false → is_none cpus ≡ false → IsSomeAnd cpus (λ n. value_of number ≤ n)
 group_fits None number bad none = absurd cc
 group_fits (Some n) number bad none = within_high 1 n number (not-false _ bad)
+
+below_customs : (s : SoFar) (number : Option ℕ) → is_no_work s number ≡ false → IsBelow s.customs number
+below_customs s None e = tt
+below_customs s (Some n) e = leb-false s.customs n (or_parts (nat_le s.customs n) (list_any (λ other. other == n) s.works) e).0
 
 pub can_settle : (s : SoFar) (form : Form) → form_code s (Some form) ≡ None → CanSettle s form
 can_settle s skip_line e = tt
@@ -302,6 +314,6 @@ can_settle s (room_line number) e =
     let top : value_of number ≤ 64 = within_high 1 64 number (not-false _ good.numbers) in omega arith
 can_settle s (task_line name kind) e =
     let good = is_good s (task_line name kind) e in
-    (not-false _ good.named, leb-false 200 (length s.names) good.few)
+    (not-false _ good.named, leb-false 200 (length s.names) good.few, below_customs s (custom_in kind) good.work)
 can_settle s (text_line text) e = tt
 can_settle s end_line e = tt

@@ -4,5 +4,7 @@ pub mod SoFarLaws
 pub mod ScriptLaws
 pub mod ForestLaws
 pub mod NameLaws
+pub mod WorkLaws
 pub mod ValidLaws
 pub mod EqualLaws
+pub mod MapLaws

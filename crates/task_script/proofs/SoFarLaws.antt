@@ -9,9 +9,10 @@ use Rattle.std.proofs.lemmas.List.Folds.{list_any-append}
 use Rattle.std.proofs.lemmas.Grind.{flat_map-append}
 use Rattle.task_script.specs.declared.reader.Source.{Source}
 use Rattle.task_script.specs.declared.script.TaskDef.{TaskDef}
-use Rattle.task_script.specs.Forms.{Kind, lines_kind, count_kind, upper_kind, number_kind, keep_kind, drop_kind, tally_kind, pin_kind, cat_kind, weave_kind, reads, value_of, Form, skip_line}
+use Rattle.task_script.specs.Forms.{Kind, lines_kind, count_kind, upper_kind, number_kind, keep_kind, drop_kind, tally_kind, pin_kind, custom_kind, cat_kind, weave_kind, reads, value_of, Form}
+use Rattle.task_script.specs.Forms.{skip_line}
 use Rattle.task_script.specs.Forms.{cpus_line, caches_line, room_line, task_line, text_line, end_line}
-use Rattle.task_script.specs.Script.{task_of, tasks_of, texts_of, given, cpus_in, caches_in, room_in, named_in, read_in, is_kept, is_end, takes_text, SoFar, so_far, form_code}
+use Rattle.task_script.specs.Script.{task_of, tasks_of, texts_of, given, cpus_in, caches_in, room_in, custom_in, named_in, read_in, works_in, is_kept, is_end, takes_text, SoFar, so_far, form_code}
 use Rattle.task_script.specs.Reading.{State, held, source_task, all_tasks, opened, added, with_text, next}
 use Rattle.task_script.proofs.FormLaws.{is_good}
 
@@ -27,11 +28,12 @@ given_some : (number : Form → Option ℕ) (before : List Form) (form : Form) (
 given_some number before form n one =
     ap (last_or None) (filter_map-append number before (form ∷ []) ∙ ap (λ (ns : List ℕ). filter_map number before ++ ns) one) ∙ last_push None (filter_map number before) n
 
-flat_push : (names : Form → List (List ℕ)) (before : List Form) (form : Form) → flat_map names (before ++ form ∷ []) ≡ flat_map names before ++ names form
-flat_push names before form = flat_map-append names before (form ∷ []) ∙ ap (λ (ns : List (List ℕ)). flat_map names before ++ ns) (append-nil (names form))
+module _ {A : Type 0} where
+  flat_push : (names : Form → List A) (before : List Form) (form : Form) → flat_map names (before ++ form ∷ []) ≡ flat_map names before ++ names form
+  flat_push names before form = flat_map-append names before (form ∷ []) ∙ ap (λ (ns : List A). flat_map names before ++ ns) (append-nil (names form))
 
-flat_none : (names : Form → List (List ℕ)) (before : List Form) (form : Form) → names form ≡ [] → flat_map names (before ++ form ∷ []) ≡ flat_map names before
-flat_none names before form none = flat_push names before form ∙ ap (λ (ns : List (List ℕ)). flat_map names before ++ ns) none ∙ append-nil _
+  flat_none : (names : Form → List A) (before : List Form) (form : Form) → names form ≡ [] → flat_map names (before ++ form ∷ []) ≡ flat_map names before
+  flat_none names before form none = flat_push names before form ∙ ap (λ (ns : List A). flat_map names before ++ ns) none ∙ append-nil _
 
 or_false : (b : Bool) → (b || false) ≡ b
 or_false true = refl
@@ -41,11 +43,11 @@ or_true : (b : Bool) → (b || true) ≡ true
 or_true true = refl
 or_true false = refl
 
-same_so_far : (s : State) (forms : List Form) → s.cpus ≡ given cpus_in forms → s.caches ≡ given caches_in forms → s.room ≡ given room_in forms
+same_so_far : (customs : ℕ) (s : State) (forms : List Form) → s.cpus ≡ given cpus_in forms → s.caches ≡ given caches_in forms → s.room ≡ given room_in forms
     → s.names ≡ flat_map named_in forms → s.sources ≡ flat_map read_in forms → is_some s.source ≡ takes_text (last_or None (filter is_kept forms))
-    → s.ended ≡ list_any is_end forms → held s ≡ so_far forms
-same_so_far s forms a b c d e f g =
-    λ i. record { cpus = a i; caches = b i; room = c i; names = d i; sources = e i; texts = f i; ended = g i }
+    → s.ended ≡ list_any is_end forms → s.customs ≡ customs → s.works ≡ flat_map works_in forms → held s ≡ so_far customs forms
+same_so_far customs s forms a b c d e f g h w =
+    λ i. record { cpus = a i; caches = b i; room = c i; names = d i; sources = e i; texts = f i; ended = g i; customs = h i; works = w i }
 
 opened_takes : (name : List ℕ) (kind : Kind) → is_some (opened name kind) ≡ takes_text (Some (task_line name kind))
 opened_takes name lines_kind = refl
@@ -56,6 +58,7 @@ opened_takes name (keep_kind prefix source) = refl
 opened_takes name (drop_kind prefix source) = refl
 opened_takes name (tally_kind source) = refl
 opened_takes name (pin_kind number source) = refl
+opened_takes name (custom_kind number source) = refl
 opened_takes name (cat_kind first second) = refl
 opened_takes name (weave_kind first second) = refl
 
@@ -66,7 +69,7 @@ with_text_some : (source : Option Source) (text : List ℕ) → is_some (with_te
 with_text_some None text = refl
 with_text_some (Some source) text = refl
 
-module _ (s : State) (before : List Form) (f : held s ≡ so_far before) where
+module _ (customs : ℕ) (s : State) (before : List Form) (f : held s ≡ so_far customs before) where
   cpus_stay : (form : Form) → filter_map cpus_in (form ∷ []) ≡ [] → s.cpus ≡ given cpus_in (before ++ form ∷ [])
   cpus_stay form e = ap (λ (r : SoFar). r.cpus) f ∙ sym (given_none cpus_in before form e)
 
@@ -82,6 +85,12 @@ module _ (s : State) (before : List Form) (f : held s ≡ so_far before) where
   sources_stay : (form : Form) → read_in form ≡ [] → s.sources ≡ flat_map read_in (before ++ form ∷ [])
   sources_stay form e = ap (λ (r : SoFar). r.sources) f ∙ sym (flat_none read_in before form e)
 
+  works_stay : (form : Form) → works_in form ≡ [] → s.works ≡ flat_map works_in (before ++ form ∷ [])
+  works_stay form e = ap (λ (r : SoFar). r.works) f ∙ sym (flat_none works_in before form e)
+
+  customs_stay : s.customs ≡ customs
+  customs_stay = ap (λ (r : SoFar). r.customs) f
+
   ended_stays : (form : Form) → is_end form ≡ false → s.ended ≡ list_any is_end (before ++ form ∷ [])
   ended_stays form e =
       ap (λ (r : SoFar). r.ended) f ∙ sym (list_any-append is_end before (form ∷ []) ∙ ap (λ (b : Bool). list_any is_end before || (b || false)) e ∙ or_false _)
@@ -91,39 +100,40 @@ module _ (s : State) (before : List Form) (f : held s ≡ so_far before) where
       sym (ap (λ (fs : List Form). takes_text (last_or None fs)) (filter-append is_kept before (form ∷ []) ∙ ap (λ (fs : List Form). filter is_kept before ++ fs) e)
       ∙ ap takes_text (last_push None (filter is_kept before) form))
 
-  pub held_next : (form : Form) → form_code (held s) (Some form) ≡ None → held (next s form) ≡ so_far (before ++ form ∷ [])
+  pub held_next : (form : Form) → form_code (held s) (Some form) ≡ None → held (next s form) ≡ so_far customs (before ++ form ∷ [])
   held_next skip_line e =
-      same_so_far s (before ++ skip_line ∷ []) (cpus_stay skip_line refl) (caches_stay skip_line refl) (room_stays skip_line refl) (names_stay skip_line refl) (sources_stay skip_line refl)
+      same_so_far customs s (before ++ skip_line ∷ []) (cpus_stay skip_line refl) (caches_stay skip_line refl) (room_stays skip_line refl) (names_stay skip_line refl) (sources_stay skip_line refl)
       (ap (λ (r : SoFar). r.texts) f ∙ sym (ap (λ (fs : List Form). takes_text (last_or None fs)) (filter-append is_kept before (skip_line ∷ []) ∙ append-nil _)))
-      (ended_stays skip_line refl)
+      (ended_stays skip_line refl) customs_stay (works_stay skip_line refl)
   held_next (cpus_line number) e =
       let form = cpus_line number in
-      same_so_far (next s form) (before ++ form ∷ []) (sym (given_some cpus_in before form (value_of number) refl)) (caches_stay form refl) (room_stays form refl) (names_stay form refl)
+      same_so_far customs (next s form) (before ++ form ∷ []) (sym (given_some cpus_in before form (value_of number) refl)) (caches_stay form refl) (room_stays form refl) (names_stay form refl)
       (sources_stay form refl)
-      (texts_then form refl) (ended_stays form refl)
+      (texts_then form refl) (ended_stays form refl) customs_stay (works_stay form refl)
   held_next (caches_line number) e =
       let form = caches_line number in
-      same_so_far (next s form) (before ++ form ∷ []) (cpus_stay form refl) (sym (given_some caches_in before form (value_of number) refl)) (room_stays form refl) (names_stay form refl)
+      same_so_far customs (next s form) (before ++ form ∷ []) (cpus_stay form refl) (sym (given_some caches_in before form (value_of number) refl)) (room_stays form refl) (names_stay form refl)
       (sources_stay form refl)
-      (texts_then form refl) (ended_stays form refl)
+      (texts_then form refl) (ended_stays form refl) customs_stay (works_stay form refl)
   held_next (room_line number) e =
       let form = room_line number in
-      same_so_far (next s form) (before ++ form ∷ []) (cpus_stay form refl) (caches_stay form refl) (sym (given_some room_in before form (value_of number) refl)) (names_stay form refl)
+      same_so_far customs (next s form) (before ++ form ∷ []) (cpus_stay form refl) (caches_stay form refl) (sym (given_some room_in before form (value_of number) refl)) (names_stay form refl)
       (sources_stay form refl)
-      (texts_then form refl) (ended_stays form refl)
+      (texts_then form refl) (ended_stays form refl) customs_stay (works_stay form refl)
   held_next (task_line name kind) e =
       let form = task_line name kind in
-      same_so_far (next s form) (before ++ form ∷ []) (cpus_stay form refl) (caches_stay form refl) (room_stays form refl)
+      same_so_far customs (next s form) (before ++ form ∷ []) (cpus_stay form refl) (caches_stay form refl) (room_stays form refl)
       (ap (λ (r : SoFar). r.names ++ name ∷ []) f ∙ sym (flat_push named_in before form)) (ap (λ (r : SoFar). r.sources ++ reads kind) f ∙ sym (flat_push read_in before form))
-      (opened_takes name kind ∙ texts_then form refl) (ended_stays form refl)
+      (opened_takes name kind ∙ texts_then form refl) (ended_stays form refl) customs_stay
+      (ap (λ (r : SoFar). r.works ++ option_to_list (custom_in kind)) f ∙ sym (flat_push works_in before form))
   held_next (text_line text) e =
       let form = text_line text in
-      same_so_far (next s form) (before ++ form ∷ []) (cpus_stay form refl) (caches_stay form refl) (room_stays form refl) (names_stay form refl) (sources_stay form refl)
-      (with_text_some s.source text ∙ texts_good (held s) text e ∙ texts_then form refl) (ended_stays form refl)
+      same_so_far customs (next s form) (before ++ form ∷ []) (cpus_stay form refl) (caches_stay form refl) (room_stays form refl) (names_stay form refl) (sources_stay form refl)
+      (with_text_some s.source text ∙ texts_good (held s) text e ∙ texts_then form refl) (ended_stays form refl) customs_stay (works_stay form refl)
   held_next end_line e =
       let form = end_line in
-      same_so_far (next s form) (before ++ form ∷ []) (cpus_stay form refl) (caches_stay form refl) (room_stays form refl) (names_stay form refl) (sources_stay form refl)
-      (texts_then form refl) (sym (list_any-append is_end before (end_line ∷ []) ∙ or_true _))
+      same_so_far customs (next s form) (before ++ form ∷ []) (cpus_stay form refl) (caches_stay form refl) (room_stays form refl) (names_stay form refl) (sources_stay form refl)
+      (texts_then form refl) (sym (list_any-append is_end before (end_line ∷ []) ∙ or_true _)) customs_stay (works_stay form refl)
 
 -- ---- the tasks that the reader and the lines to come say
 
@@ -150,6 +160,7 @@ added_said names name (keep_kind prefix source) forms = refl
 added_said names name (drop_kind prefix source) forms = refl
 added_said names name (tally_kind source) forms = refl
 added_said names name (pin_kind number source) forms = refl
+added_said names name (custom_kind number source) forms = refl
 added_said names name (cat_kind first second) forms = refl
 added_said names name (weave_kind first second) forms = refl
 

@@ -52,6 +52,7 @@ pub data Kind : Type 0 where
   drop_kind : List ℕ → List ℕ → Kind
   tally_kind : List ℕ → Kind
   pin_kind : List ℕ → List ℕ → Kind
+  custom_kind : List ℕ → List ℕ → Kind
   cat_kind : List ℕ → List ℕ → Kind
   weave_kind : List ℕ → List ℕ → Kind
 
@@ -65,6 +66,7 @@ reads (keep_kind prefix source) = source ∷ []
 reads (drop_kind prefix source) = source ∷ []
 reads (tally_kind source) = source ∷ []
 reads (pin_kind number source) = source ∷ []
+reads (custom_kind number source) = source ∷ []
 reads (cat_kind first second) = first ∷ second ∷ []
 reads (weave_kind first second) = first ∷ second ∷ []
 
@@ -107,6 +109,7 @@ choosing_form name kind word source =
     if bytes_eq kind (codes "keep") then Some (task_line name (keep_kind word source))
     else if bytes_eq kind (codes "drop") then Some (task_line name (drop_kind word source))
     else if bytes_eq kind (codes "pin") then Some (task_line name (pin_kind word source))
+    else if bytes_eq kind (codes "custom") then Some (task_line name (custom_kind word source))
     else None
 
 -- a kind of three words: of two tasks, or of a word and a task
@@ -159,6 +162,7 @@ kind_of (kind.TheVariants.Keep prefix source) = keep_kind prefix.now source.now
 kind_of (kind.TheVariants.Drop prefix source) = drop_kind prefix.now source.now
 kind_of (kind.TheVariants.Tally source) = tally_kind source.now
 kind_of (kind.TheVariants.Pin number source) = pin_kind number.now source.now
+kind_of (kind.TheVariants.Custom number source) = custom_kind number.now source.now
 kind_of (kind.TheVariants.Cat first second) = cat_kind first.now second.now
 kind_of (kind.TheVariants.Weave first second) = weave_kind first.now second.now
 

@@ -1,3 +1,4 @@
+pub mod Maps
 pub mod Plan
 pub mod Forest
 pub mod Lines

@@ -1,7 +1,7 @@
 -- What the reader holds, and what one line does to it. `Script` says what a script is and which fault is the first; the
 -- two are shown to agree.
 use Rattle.std.specs.Prelude.{◌≡◌, ℕ, ◌+◌, ◌<◌, ◌≤◌, ◌^◌, Bool, true, false, IsTrue, if◌then◌else◌, List, [], ◌∷◌, ◌++◌}
-use Rattle.std.specs.Prelude.{length, Option, Some, None, Result, Ok, Err, unwrap_or, ⊤}
+use Rattle.std.specs.Prelude.{length, Option, Some, None, Result, Ok, Err, unwrap_or, IfSome, ⊤}
 use Rattle.std.specs.Option.{IsSomeAnd, is_some, option_map, option_to_list}
 use Rattle.task_script.specs.declared.reader.Source.{Source}
 use Rattle.task_script.specs.declared.reader.Reader.{Reader}
@@ -12,7 +12,7 @@ use Rattle.task_script.specs.declared.script.ScriptError.{ScriptError}
 use Rattle.task_script.specs.declared.script.ScriptError.TheVariants as errors
 use Rattle.task_script.specs.Forms.{value_of, is_name, Kind, lines_kind, reads, Form, skip_line, cpus_line, caches_line}
 use Rattle.task_script.specs.Forms.{room_line, task_line, text_line, end_line, form_of}
-use Rattle.task_script.specs.Script.{shape_of, task_of, SoFar, line_code, judged_lines, is_over}
+use Rattle.task_script.specs.Script.{shape_of, task_of, custom_in, SoFar, line_code, judged_lines, is_over}
 
 -- what the lines so far come to, and their tasks; a `lines` task whose texts may still come stands apart
 pub record State : Type 0 where
@@ -21,6 +21,8 @@ pub record State : Type 0 where
   pub room : Option ℕ
   pub names : List (List ℕ)
   pub sources : List (List ℕ)
+  pub customs : ℕ
+  pub works : List ℕ
   pub ended : Bool
   pub tasks : List TaskDef
   pub source : Option Source
@@ -33,18 +35,22 @@ state_of r =
       room = r.room;
       names = r.names;
       sources = r.sources;
+      customs = r.customs;
+      works = r.works.items;
       ended = r.ended;
       tasks = r.tasks.items;
       source = r.source;
     }
 
-abbrev pub start : State
-start = record {
+abbrev pub start : ℕ → State
+start customs = record {
   cpus = None;
   caches = None;
   room = None;
   names = [];
   sources = [];
+  customs = customs;
+  works = [];
   ended = false;
   tasks = [];
   source = None;
@@ -58,6 +64,8 @@ held s =
       room = s.room;
       names = s.names;
       sources = s.sources;
+      customs = s.customs;
+      works = s.works;
       texts = is_some s.source;
       ended = s.ended;
     }
@@ -91,6 +99,7 @@ settled s (task_line name kind) =
     record s {
       names = s.names ++ name ∷ [];
       sources = s.sources ++ reads kind;
+      works = s.works ++ option_to_list (custom_in kind);
       tasks = s.tasks ++ added s.names name kind;
       source = opened name kind;
     }
@@ -107,12 +116,16 @@ next s skip_line = s
 next s (text_line text) = record s { source = with_text s.source text }
 next s form = settled (closed s) form
 
+-- the number of a work, if there is one, is below the number of works
+abbrev pub IsBelow : ℕ → Option ℕ → Type 0
+IsBelow customs number = IfSome number (λ n. n < customs)
+
 -- numbers and names that the reader can keep
 abbrev pub CanSettle : SoFar → Form → Type 0
 CanSettle s (cpus_line number) = value_of number < 2 ^ 32
 CanSettle s (caches_line number) = IsSomeAnd s.cpus (λ cpus. value_of number ≤ cpus)
 CanSettle s (room_line number) = value_of number < 2 ^ 32
-CanSettle s (task_line name kind) = IsTrue (is_name name) × (length s.names < 200)
+CanSettle s (task_line name kind) = IsTrue (is_name name) × (length s.names < 200) × IsBelow s.customs (custom_in kind)
 CanSettle s _ = ⊤
 
 -- ---- a line, the lines, and the whole input
@@ -143,8 +156,9 @@ judged over lines (Ok s) =
     else if s.ended then Ok s
     else Err (fault_at (lines + 1) 11)
 
-unfoldable pub verdict : List ℕ → Result State ScriptFault
-verdict bytes = judged (is_over bytes) (length (judged_lines bytes)) (run 1 start (judged_lines bytes))
+unfoldable pub verdict : ℕ → List ℕ → Result State ScriptFault
+verdict customs bytes =
+    judged (is_over bytes) (length (judged_lines bytes)) (run 1 (start customs) (judged_lines bytes))
 
 -- what a function returned is what reading gives, seen by view, unless memory ran out
 abbrev pub Fails : {Y : Type 0} → ScriptError → Result Y ScriptFault → Type 0

@@ -2,7 +2,7 @@
 use Rattle.std.specs.Prelude.{◌≡◌, ℕ, ◌+◌, ◌*◌, ◌≤◌, Bool, true, false, ◌&&◌, ◌||◌, not, ◌==◌, if◌then◌else◌, nat_lt}
 use Rattle.std.specs.Prelude.{nat_le, List, [], ◌∷◌, ◌++◌, length, take, filter, Option, Some, None, unwrap_or, ⊤}
 use Rattle.std.specs.List.{last_or, position, filter_map, flat_map, list_any}
-use Rattle.std.specs.Option.{is_some, is_none}
+use Rattle.std.specs.Option.{is_some, is_none, option_to_list}
 use Rattle.std.specs.Str.{bytes_eq}
 use Rattle.handoff_data.specs.declared.shape.Shape.{Shape}
 use Rattle.task_script.specs.declared.plan.Plan.{Plan}
@@ -10,8 +10,10 @@ use Rattle.task_script.specs.declared.plan.Plan.TheVariants as plan
 use Rattle.task_script.specs.declared.script.TaskDef.{TaskDef}
 use Rattle.task_script.specs.declared.script.Script.{Script}
 use Rattle.task_script.specs.Lines.{input_lines}
+use Rattle.task_script.specs.Maps.{identity_map}
 use Rattle.task_script.specs.Forms.{is_number, value_of, is_within, is_name, Kind, lines_kind, count_kind, upper_kind}
-use Rattle.task_script.specs.Forms.{number_kind, keep_kind, drop_kind, tally_kind, pin_kind, cat_kind, weave_kind}
+use Rattle.task_script.specs.Forms.{number_kind, keep_kind, drop_kind, tally_kind, pin_kind, custom_kind, cat_kind}
+use Rattle.task_script.specs.Forms.{weave_kind}
 use Rattle.task_script.specs.Forms.{reads, Form, skip_line, cpus_line, caches_line, room_line, task_line, text_line}
 use Rattle.task_script.specs.Forms.{end_line, form_of}
 
@@ -37,13 +39,24 @@ plan_of (keep_kind prefix source) texts = plan.Keep prefix
 plan_of (drop_kind prefix source) texts = plan.Drop prefix
 plan_of (tally_kind source) texts = plan.Tally 0
 plan_of (pin_kind number source) texts = plan.Pin (value_of number) false
+plan_of (custom_kind number source) texts = plan.Table identity_map []
 plan_of (cat_kind first second) texts = plan.Cat 0
 plan_of (weave_kind first second) texts = plan.Weave 0 false
+
+-- the number of the work that a task of this kind has, if it has one
+abbrev pub custom_in : Kind → Option ℕ
+custom_in (custom_kind number source) = Some (value_of number)
+custom_in _ = None
 
 -- a task with these texts behind it, after tasks of these names
 abbrev pub task_of : List (List ℕ) → List ℕ → Kind → List (List ℕ) → TaskDef
 task_of names name kind texts =
-    record { name = name; plan = plan_of kind texts; from = filter_map (number_of names) (reads kind) }
+    record {
+      name = name;
+      plan = plan_of kind texts;
+      custom = custom_in kind;
+      from = filter_map (number_of names) (reads kind);
+    }
 
 -- the tasks of these lines, after tasks of these names
 abbrev pub tasks_of : List (List ℕ) → List Form → List TaskDef
@@ -84,7 +97,7 @@ script_of forms =
 
 -- ---- what the lines before a line come to
 
--- the names of the tasks, and the names that are read, by each line
+-- the names of the tasks, the names that are read, and the numbers of works, by each line
 abbrev pub named_in : Form → List (List ℕ)
 named_in (task_line name kind) = name ∷ []
 named_in _ = []
@@ -92,6 +105,10 @@ named_in _ = []
 abbrev pub read_in : Form → List (List ℕ)
 read_in (task_line name kind) = reads kind
 read_in _ = []
+
+abbrev pub works_in : Form → List ℕ
+works_in (task_line name kind) = option_to_list (custom_in kind)
+works_in _ = []
 
 abbrev pub is_kept : Form → Bool
 is_kept skip_line = false
@@ -114,19 +131,24 @@ pub record SoFar : Type 0 where
   -- the names of the tasks, and those that stand after a `from`
   pub names : List (List ℕ)
   pub sources : List (List ℕ)
+  -- how many works the caller brings, and the numbers of those that tasks have
+  pub customs : ℕ
+  pub works : List ℕ
   -- a text line may come next
   pub texts : Bool
   -- `end` has stood
   pub ended : Bool
 
-abbrev pub so_far : List Form → SoFar
-so_far forms =
+abbrev pub so_far : ℕ → List Form → SoFar
+so_far customs forms =
     record {
       cpus = given cpus_in forms;
       caches = given caches_in forms;
       room = given room_in forms;
       names = flat_map named_in forms;
       sources = flat_map read_in forms;
+      customs = customs;
+      works = flat_map works_in forms;
       texts = takes_text (last_or None (filter is_kept forms));
       ended = list_any is_end forms;
     }
@@ -136,6 +158,7 @@ so_far forms =
 abbrev pub has_bad_count : Kind → Bool
 has_bad_count (count_kind number) = not (is_within 0 1000000 number)
 has_bad_count (pin_kind number source) = not (is_within 1 1000000 number)
+has_bad_count (custom_kind number source) = not (is_number number)
 has_bad_count _ = false
 
 -- a cache group has 1 to all processors, and isn't judged by their number where that isn't given yet
@@ -196,6 +219,15 @@ bad_order s (task_line name kind) = is_none s.cpus
 bad_order s end_line = is_none s.cpus
 bad_order s _ = false
 
+-- the number of a work isn't below the number of works, or an earlier task has it
+abbrev pub is_no_work : SoFar → Option ℕ → Bool
+is_no_work s None = false
+is_no_work s (Some number) = nat_le s.customs number || list_any (λ other. other == number) s.works
+
+abbrev pub bad_custom : SoFar → Form → Bool
+bad_custom s (task_line name kind) = is_no_work s (custom_in kind)
+bad_custom s _ = false
+
 -- a text line stands elsewhere than behind a `lines` task or a text line
 abbrev pub text_without_task : SoFar → Form → Bool
 text_without_task s (text_line text) = not s.texts
@@ -205,7 +237,8 @@ text_without_task s _ = false
 abbrev pub faults : SoFar → Form → List (ℕ × Bool)
 faults s form =
     (3, bad_number s form) ∷ (4, bad_name form) ∷ (5, name_twice s form) ∷ (6, no_such_task s form)
-    ∷ (7, already_read s form) ∷ (8, too_many s form) ∷ (10, bad_order s form) ∷ (14, text_without_task s form) ∷ []
+    ∷ (7, already_read s form) ∷ (8, too_many s form) ∷ (10, bad_order s form) ∷ (13, bad_custom s form)
+    ∷ (14, text_without_task s form) ∷ []
 
 -- the lowest code that comes
 abbrev pub lowest : List (ℕ × Bool) → Option ℕ
@@ -221,32 +254,32 @@ form_code s (Some form) = if s.ended && is_kept form then Some 12 else lowest (f
 abbrev pub line_code : SoFar → List ℕ → Option ℕ
 line_code s line = if nat_lt 4096 (length line) then Some 1 else form_code s (form_of line)
 
--- ---- scripts and first faults
+-- ---- scripts and first faults, where the caller brings so many works
 
 -- a line is faultless after these lines, and has this form
-pub record IsFaultless (before : List Form) (line : List ℕ) (form : Form) : Type 0 where
+pub record IsFaultless (customs : ℕ) (before : List Form) (line : List ℕ) (form : Form) : Type 0 where
   pub formed : form_of line ≡ Some form
-  pub good : line_code (so_far before) line ≡ None
+  pub good : line_code (so_far customs before) line ≡ None
 
 -- each line is faultless after those before it, and these are the forms
-abbrev pub AreFaultless : List Form → List (List ℕ) → List Form → Type 0
-AreFaultless before [] [] = ⊤
-AreFaultless before [] (form ∷ forms) = ⊥
-AreFaultless before (line ∷ lines) [] = ⊥
-AreFaultless before (line ∷ lines) (form ∷ forms) =
-    IsFaultless before line form × AreFaultless (before ++ form ∷ []) lines forms
+abbrev pub AreFaultless : ℕ → List Form → List (List ℕ) → List Form → Type 0
+AreFaultless customs before [] [] = ⊤
+AreFaultless customs before [] (form ∷ forms) = ⊥
+AreFaultless customs before (line ∷ lines) [] = ⊥
+AreFaultless customs before (line ∷ lines) (form ∷ forms) =
+    IsFaultless customs before line form × AreFaultless customs (before ++ form ∷ []) lines forms
 
 -- the bytes are a script, and it is this one
-pub record IsScript (bytes : List ℕ) (script : Script) : Type 0 where
+pub record IsScript (customs : ℕ) (bytes : List ℕ) (script : Script) : Type 0 where
   pub within : length bytes ≤ 16777216
   pub forms : List Form
-  pub faultless : AreFaultless [] (input_lines bytes) forms
+  pub faultless : AreFaultless customs [] (input_lines bytes) forms
   pub ended : list_any is_end forms ≡ true
   pub says : script ≡ script_of forms
 
 -- the bytes are no script
-abbrev pub NotScript : List ℕ → Type 0
-NotScript bytes = (script : Script) → IsScript bytes script → ⊥
+abbrev pub NotScript : ℕ → List ℕ → Type 0
+NotScript customs bytes = (script : Script) → IsScript customs bytes script → ⊥
 
 -- the lines that are judged: where there are more bytes than a script may have, the one behind them is the last
 abbrev pub judged_lines : List ℕ → List (List ℕ)
@@ -268,9 +301,9 @@ pub data IsFaulty (bytes : List ℕ) (front : List (List ℕ)) (s : SoFar) (code
       → IsFaulty bytes front s code
 
 -- the first fault of the bytes is on this line, and has this code, the lowest there
-pub record FirstFault (bytes : List ℕ) (line code : ℕ) : Type 0 where
+pub record FirstFault (customs : ℕ) (bytes : List ℕ) (line code : ℕ) : Type 0 where
   pub front : List (List ℕ)
   pub forms : List Form
-  pub faultless : AreFaultless [] front forms
-  pub faulty : IsFaulty bytes front (so_far forms) code
+  pub faultless : AreFaultless customs [] front forms
+  pub faulty : IsFaulty bytes front (so_far customs forms) code
   pub numbered : line ≡ length front + 1

@@ -1,15 +1,18 @@
 -- What each script is, whatever its bytes are: its machine, its names, and its plans as they begin.
-use Rattle.std.specs.Prelude.{◌≡◌, ◌≢◌, ℕ, ◌*◌, ◌<◌, ◌≤◌, false, IsTrue, List, length, map, Some, None, All, AllPairs}
-use Rattle.std.specs.Prelude.{⊤}
-use Rattle.std.specs.List.{last_or}
+use Rattle.std.specs.Prelude.{◌≡◌, ◌≢◌, ℕ, ◌*◌, ◌<◌, ◌≤◌, false, IsTrue, List, [], length, ◌^◌, map, Some, None, All}
+use Rattle.std.specs.Prelude.{AllPairs, ⊤}
+use Rattle.std.specs.List.{last_or, filter_map}
+use Rattle.std.specs.Option.{is_some}
 use Rattle.handoff_data.specs.Line.{IsLine}
 use Rattle.handoff_data.specs.Shape.{IsShape}
 use Rattle.handoff_data.specs.declared.shape.Shape.{Shape}
 use Rattle.task_script.specs.declared.plan.Plan.{Plan}
 use Rattle.task_script.specs.declared.plan.Plan.TheVariants.{Lines, Count, Upper, Number, Keep, Drop, Tally, Cat, Weave}
-use Rattle.task_script.specs.declared.plan.Plan.TheVariants.{Pin}
+use Rattle.task_script.specs.declared.plan.Plan.TheVariants.{Pin, Table}
 use Rattle.task_script.specs.declared.script.TaskDef.{TaskDef}
 use Rattle.task_script.specs.Forms.{is_name}
+use Rattle.task_script.specs.Maps.{identity_map}
+use Rattle.task_script.specs.Plan.{is_table}
 
 -- ---- the machine
 
@@ -58,6 +61,21 @@ Begins (Tally n) = n ≡ 0
 Begins (Cat side) = side ≡ 0
 Begins (Weave side ended) = (side ≡ 0) × (ended ≡ false)
 Begins (Pin left on) = (1 ≤ left) × (left ≤ 1000000) × (on ≡ false)
+Begins (Table map last) = (map ≡ identity_map) × (last ≡ [])
 
 abbrev pub AllBegin : List TaskDef → Type 0
 AllBegin tasks = All (λ (d : TaskDef). Begins d.plan) tasks
+
+-- ---- works that a caller brings
+
+-- the numbers of the works that tasks have
+abbrev pub works_of : List TaskDef → List ℕ
+works_of tasks = filter_map (λ (d : TaskDef). d.custom) tasks
+
+-- each number is below the number of works and has at most ten digits, none stands twice, and the tasks that have one
+-- are those of a map
+pub record AreCustoms (customs : ℕ) (tasks : List TaskDef) : Type 0 where
+  pub below : All (λ number. number < customs) (works_of tasks)
+  pub short : All (λ number. number < 10 ^ 10) (works_of tasks)
+  pub once : AllPairs (λ number other. number ≢ other) (works_of tasks)
+  pub plans : All (λ (d : TaskDef). is_some d.custom ≡ is_table d.plan) tasks

@@ -25,6 +25,7 @@ pub enum Kind<'a> {
     Drop(&'a [u8], &'a [u8]),
     Tally(&'a [u8]),
     Pin(&'a [u8], &'a [u8]),
+    Custom(&'a [u8], &'a [u8]),
     Cat(&'a [u8], &'a [u8]),
     Weave(&'a [u8], &'a [u8]),
 }
@@ -60,7 +61,8 @@ pub fn sources_of<'a>(kind: Kind<'a>) -> Inputs<'a>
         | Kind::Keep(_, source)
         | Kind::Drop(_, source)
         | Kind::Tally(source)
-        | Kind::Pin(_, source) => Inputs::One(source),
+        | Kind::Pin(_, source)
+        | Kind::Custom(_, source) => Inputs::One(source),
         Kind::Cat(first, second) | Kind::Weave(first, second) => Inputs::Two(first, second),
     }
 }
@@ -277,6 +279,11 @@ fn choosing_form<'a>(
         Some(Form::Task {
             name,
             kind: Kind::Pin(word, source),
+        })
+    } else if kind == b"custom".as_slice() {
+        Some(Form::Task {
+            name,
+            kind: Kind::Custom(word, source),
         })
     } else {
         None

@@ -1,12 +1,14 @@
 //! Scripts of text tasks: what a script is, and which bytes are one.
 //!
-//! `plan.rt`, `script.rt`, `lists.rt` are the types; `pieces.rt` has lines and words, `form.rt` the form of a line,
-//! `names.rt` names in an ordered map, `reader.rt` the reader, of which one line is one step; `equal.rt`, `law.rt`.
+//! `plan.rt`, `byte_map.rt`, `script.rt`, `lists.rt` are the types; `pieces.rt` has lines and words, `form.rt` the form
+//! of a line, `names.rt` names in an ordered map, `reader.rt` the reader, of which one line is one step; `equal.rt`,
+//! `law.rt`.
 //!
 //! `specs/Lines`, `Forms` and `Script` are the definition of a script, `Valid` says what each script is; `Reading` is
 //! the reader's own, and no crate above cites it.
 #![tactic(auto)]
 
+mod byte_map;
 mod equal;
 mod form;
 mod law;
@@ -17,6 +19,7 @@ mod plan;
 mod reader;
 mod script;
 
+pub use byte_map::ByteMap;
 pub use law::law_script;
 pub use lists::{Sources, Tasks};
 pub use plan::Plan;

@@ -1,3 +1,4 @@
+use crate::byte_map::ByteMap;
 use crate::equal::same_lines;
 use handoff_data::{Line, Lines};
 
@@ -27,6 +28,8 @@ pub enum Plan {
     /// Each line. Its task is to be migration-disabled while `on`, which is from its first line on, for as many lines
     /// as `left` says at the beginning or until the input ends; `left` of them are still to come.
     Pin { left: u64, on: bool },
+    /// Each line with each byte as `map` has it, and at the end the lines `last`.
+    Table { map: ByteMap, last: Lines },
 }
 
 impl Plan {
@@ -77,6 +80,13 @@ impl Plan {
                     on: other_on,
                 },
             ) => *left == *other_left && *on == *other_on,
+            (
+                Plan::Table { map, last },
+                Plan::Table {
+                    map: other_map,
+                    last: other_last,
+                },
+            ) => map.equals(other_map) && same_lines(last, other_last),
             _ => false,
         }
     }

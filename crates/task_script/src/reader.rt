@@ -1,19 +1,23 @@
 ghost use Rattle.std.specs.Prelude.{◌≡◌, ◌≤◌, ◌<◌, ◌^◌, ℕ, [], ◌++◌, IsTrue, Some, length, take, None, ◌∷◌, Err, IfOk};
 ghost use Rattle.std.specs.Prelude.{OnOk, vec_len};
 ghost use Rattle.std.specs.List.{list_any, filter_map};
+ghost use Rattle.std.specs.Option.{option_to_list};
 ghost use Rattle.std.specs.Str.{bytes_eq};
+ghost use Rattle.std.specs.Prelude.{◌==◌};
 ghost use Rattle.handoff_data.specs.Line.{IsLine};
 ghost use Rattle.task_script.specs.Lines.{input_lines};
 ghost use Rattle.task_script.specs.Forms.{value_of, is_name, reads, kind_of, task_line, text_line, form_seen};
 ghost use Rattle.task_script.specs.Forms.{HasLinePrefix, HasLineSources, HasLineText};
-ghost use Rattle.task_script.specs.Script.{SoFar, number_of, plan_of, lacks_task, reads_again, is_bad_group};
+ghost use Rattle.task_script.specs.Script.{SoFar, number_of, plan_of, custom_in, lacks_task, reads_again, is_bad_group};
+ghost use Rattle.task_script.specs.Script.{is_no_work};
 ghost use Rattle.task_script.specs.Script.{has_bad_count, faults, lowest, form_code, IsScript, NotScript, FirstFault};
 ghost use Rattle.task_script.specs.declared.script.Script.{Script};
 ghost use Rattle.task_script.specs.declared.script.ScriptFault.{ScriptFault};
 ghost use Rattle.task_script.specs.Forest.{IsForest};
 ghost use Rattle.task_script.specs.Reading.{Gives, IsScriptOf, state_of, start, held, all_tasks, closed, opened, added};
-ghost use Rattle.task_script.specs.Reading.{settled, next, CanSettle, step, run, verdict};
+ghost use Rattle.task_script.specs.Reading.{settled, next, IsBelow, CanSettle, step, run, verdict};
 
+use crate::byte_map::ByteMap;
 use crate::form::{Form, Inputs, Kind, form_of, is_name, is_within, number_in, sources_of};
 use crate::lists::{Sources, Tasks};
 use crate::names::Names;
@@ -58,6 +62,9 @@ struct Reader<'a> {
     // The names of the tasks, and those that stand after a `from`.
     names: Names<'a>,
     sources: Names<'a>,
+    // How many works the caller brings, and the numbers of those that tasks have.
+    customs: u32,
+    works: Vec<u64>,
     ended: bool,
     // The tasks, apart from a source whose texts may still come.
     tasks: Vec<TaskDef>,
@@ -71,6 +78,7 @@ fn has_bad_count(kind: Kind) -> bool
     match kind {
         Kind::Count(number) => !is_within(0, COUNT_LIMIT, number),
         Kind::Pin(number, _) => !is_within(1, COUNT_LIMIT, number),
+        Kind::Custom(number, _) => number_in(number).is_none(),
         _ => false,
     }
 }
@@ -82,12 +90,29 @@ fn value_of(word: &[u8]) -> u64
     number_in(word).unwrap_or(0)
 }
 
+// Whether a number is among these.
+fn is_among(number: u64, numbers: &[u64]) -> bool
+    ensures { result ≡ list_any (λ other. other == number) numbers.now }
+{
+    numbers.iter().any(|other| *other == number)
+}
+
 // A copy of these bytes as a line.
 fn line_of(alloc: Global, bytes: &[u8]) -> Result<Line, NoMemory>
     requires { IsLine bytes.now }
     ensures { IfOk result (λ line. line ≡ bytes.now) }
 {
     Ok(Line::new(Vec::from_slice(alloc, bytes)?))
+}
+
+// The number of the work that a task of this kind has, if it has one.
+fn custom_in(kind: Kind) -> Option<u64>
+    ensures { result ≡ custom_in (kind_of kind.entry) }
+{
+    match kind {
+        Kind::Custom(number, _) => Some(value_of(number)),
+        _ => None,
+    }
 }
 
 // The plan of this kind as it begins, where it isn't a source of lines.
@@ -116,6 +141,10 @@ fn plan_of(alloc: Global, kind: Kind) -> Result<Plan, NoMemory>
             left: value_of(number),
             on: false,
         },
+        Kind::Custom(_, _) => Plan::Table {
+            map: ByteMap::identity(alloc)?,
+            last: Lines::new(alloc),
+        },
         Kind::Cat(_, _) => Plan::Cat { side: 0 },
         Kind::Weave(_, _) => Plan::Weave {
             side: 0,
@@ -125,8 +154,8 @@ fn plan_of(alloc: Global, kind: Kind) -> Result<Plan, NoMemory>
 }
 
 impl<'a> Reader<'a> {
-    fn new(alloc: Global) -> Reader<'a>
-        ensures { state_of result ≡ start }
+    fn new(alloc: Global, customs: u32) -> Reader<'a>
+        ensures { state_of result ≡ start customs }
     {
         Reader {
             cpus: None,
@@ -134,6 +163,8 @@ impl<'a> Reader<'a> {
             room: None,
             names: Names::new(alloc),
             sources: Names::new(alloc),
+            customs,
+            works: Vec::new(alloc),
             ended: false,
             tasks: Vec::new(alloc),
             source: None,
@@ -190,6 +221,16 @@ impl<'a> Reader<'a> {
         }
     }
 
+    // Whether a task of this kind has a number that is no work's, or that an earlier task has.
+    fn is_no_work(&self, kind: Kind) -> bool
+        ensures { result ≡ is_no_work (held (state_of self.now)) (custom_in (kind_of kind.entry)) }
+    {
+        match custom_in(kind) {
+            Some(number) => u64::from(self.customs) <= number || is_among(number, &self.works),
+            None => false,
+        }
+    }
+
     // The lowest code of a task line.
     fn task_code(&self, name: &[u8], kind: Kind) -> Option<u32>
         ensures { result ≡ lowest (faults (held (state_of self.now)) (task_line name.now (kind_of kind.entry))) }
@@ -214,6 +255,9 @@ impl<'a> Reader<'a> {
         }
         if self.cpus.is_none() {
             return Some(10);
+        }
+        if self.is_no_work(kind) {
+            return Some(13);
         }
         None
     }
@@ -279,6 +323,7 @@ impl<'a> Reader<'a> {
             self.tasks.push(TaskDef {
                 name,
                 plan: Plan::Lines { left: texts },
+                custom: None,
                 from: Sources::from_vec(Vec::new(alloc)),
             })?;
         }
@@ -344,18 +389,45 @@ impl<'a> Reader<'a> {
         Ok(())
     }
 
+    // Keeps the number of the work that a task of this kind has.
+    fn keep_work(&mut self, kind: Kind<'a>) -> Result<(), NoMemory>
+        ensures { OnOk result (state_of self.new ≡ record (state_of self.old) {
+          works = self.old.works.items
+              ++ option_to_list (custom_in (kind_of kind.entry));
+        }) }
+    {
+        if let Some(number) = custom_in(kind) {
+            self.works.push(number)?;
+        }
+        Ok(())
+    }
+
+    // The number of the work that a task of this kind has, which is below the number of works.
+    #[tactic(auto, using(crate::proofs::WorkLaws::below_of))]
+    fn work_of(&self, kind: Kind<'a>) -> Option<u32>
+        requires { IsBelow self.now.customs (custom_in (kind_of kind)) }
+        ensures { result ≡ custom_in (kind_of kind.entry) }
+    {
+        match custom_in(kind) {
+            Some(number) => Some(number.min(u64::from(self.customs)) as u32),
+            None => None,
+        }
+    }
+
     // The next task, where no source is open.
     fn add_task(&mut self, alloc: Global, name: &'a [u8], kind: Kind<'a>) -> Result<(), NoMemory>
         requires few { length self.old.names < 200 }
         requires named { IsLine name.now }
         requires prefix { HasLinePrefix (kind_of kind) }
         requires sources { HasLineSources (kind_of kind) }
+        requires work { IsBelow self.old.customs (custom_in (kind_of kind)) }
         requires none { self.old.source ≡ None }
         ensures { OnOk result
             (state_of self.new ≡ settled (state_of self.old) (task_line name.now (kind_of kind.entry))) }
     {
         let from = self.numbers_of(alloc, kind)?;
         self.keep_sources(kind)?;
+        self.keep_work(kind)?;
         self.names.push(name)?;
         let name = line_of(alloc, name)?;
         match kind {
@@ -365,7 +437,13 @@ impl<'a> Reader<'a> {
             }
             _ => {
                 let plan = plan_of(alloc, kind)?;
-                self.tasks.push(TaskDef { name, plan, from })?;
+                let custom = self.work_of(kind);
+                self.tasks.push(TaskDef {
+                    name,
+                    plan,
+                    custom,
+                    from,
+                })?;
             }
         }
         Ok(())
@@ -459,12 +537,16 @@ fn fault_at(line: u64, code: u32) -> ScriptError
 }
 
 // All lines, and how many there are.
-fn read_lines<'a>(alloc: Global, bytes: &'a [u8]) -> Result<(Reader<'a>, u64), ScriptError>
-    ensures gives { Gives (λ read. state_of read.0) result (run 1 start (input_lines bytes.now)) }
+fn read_lines<'a>(
+    alloc: Global,
+    bytes: &'a [u8],
+    customs: u32,
+) -> Result<(Reader<'a>, u64), ScriptError>
+    ensures gives { Gives (λ read. state_of read.0) result (run 1 (start customs) (input_lines bytes.now)) }
     ensures count { IfOk result (λ read. read.1 ≡ length (input_lines bytes.now)) }
     ensures few { IfOk result (λ read. read.1 ≤ length bytes.now) }
 {
-    let mut reader = Reader::new(alloc);
+    let mut reader = Reader::new(alloc, customs);
     let mut rest = bytes;
     let mut number = 0u64;
     while let Some((line, after)) = next_line(rest) {
@@ -489,10 +571,10 @@ fn judged_part(bytes: &[u8]) -> &[u8]
 
 // The whole input.
 #[tactic(auto, unfolding(crate::specs::Reading::verdict))]
-fn read_input<'a>(alloc: Global, bytes: &'a [u8]) -> Result<Reader<'a>, ScriptError>
-    ensures { Gives (λ reader. state_of reader) result (verdict bytes.now) }
+fn read_input<'a>(alloc: Global, bytes: &'a [u8], customs: u32) -> Result<Reader<'a>, ScriptError>
+    ensures { Gives (λ reader. state_of reader) result (verdict customs bytes.now) }
 {
-    let (reader, lines) = read_lines(alloc, judged_part(bytes))?;
+    let (reader, lines) = read_lines(alloc, judged_part(bytes), customs)?;
     if bytes.len() > SCRIPT_LIMIT {
         return Err(fault_at(lines, 16));
     }
@@ -502,20 +584,21 @@ fn read_input<'a>(alloc: Global, bytes: &'a [u8]) -> Result<Reader<'a>, ScriptEr
     Ok(reader)
 }
 
-/// Reads a script.
+/// Reads a script, whose caller brings so many works, `customs`, for its tasks of `custom`.
 ///
 /// A script is at most 16,777,216 bytes of lines: `cpus N`, then `caches G` and `room K` where they are wanted, then
 /// tasks with the text lines of each source, then `end`. Other bytes are refused with the number of their first faulty
 /// line and the lowest code there: 1 the line is too long, 2 it has no form, 3 a number, 4 a name, 5 a name that
 /// stands twice, 6 no such task, 7 a task that is read already, 8 too many tasks, 10 the order, 11 no `end`, 12 a line
-/// behind `end`, 14 a text without its task, 16 the input is too long.
-pub fn read_script(alloc: Global, bytes: &[u8]) -> Result<Script, ScriptError>
-    ensures found { IfOk result (λ s. IsScript bytes.now s) }
-    ensures only { IfOk result (λ s. (t : Script) → IsScript bytes.now t → t ≡ s) }
+/// behind `end`, 13 a number that isn't below the number of works or that an earlier task has, 14 a text without its
+/// task, 16 the input is too long.
+pub fn read_script(alloc: Global, bytes: &[u8], customs: u32) -> Result<Script, ScriptError>
+    ensures found { IfOk result (λ s. IsScript customs bytes.now s) }
+    ensures only { IfOk result (λ s. (t : Script) → IsScript customs bytes.now t → t ≡ s) }
     ensures forest { IfOk result (λ s. IsForest s.tasks) }
-    ensures bad { (f : ScriptFault) → result ≡ Err (ScriptError.Bad f) → FirstFault bytes.now f.line f.code
-        × NotScript bytes.now }
+    ensures bad { (f : ScriptFault) → result ≡ Err (ScriptError.Bad f)
+        → FirstFault customs bytes.now f.line f.code × NotScript customs bytes.now }
 {
-    let reader = read_input(alloc, bytes)?;
+    let reader = read_input(alloc, bytes, customs)?;
     Ok(reader.into_script())
 }

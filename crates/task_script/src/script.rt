@@ -10,6 +10,9 @@ pub struct TaskDef {
     pub name: Line,
     /// The task's plan as it begins.
     pub plan: Plan,
+    /// The number of the work that a caller brings for the task, if it is one of `custom`; its plan here passes each
+    /// line on, and the work stands in its place where the script is run.
+    pub custom: Option<u32>,
     /// The earlier tasks that it reads, by side.
     pub from: Sources,
 }
@@ -17,12 +20,13 @@ pub struct TaskDef {
 impl TaskDef {
     ghost use Rattle.std.specs.Prelude.{◌≡◌, ◌↔◌, IsTrue};
 
-    /// Whether both tasks have the same name and plan, and read the same tasks.
+    /// Whether both tasks have the same name, plan and number of a work, and read the same tasks.
     pub fn equals(&self, other: &TaskDef) -> bool
         ensures { IsTrue result ↔ (self.now ≡ other.now) }
     {
         self.name.equals(&other.name)
             && self.plan.equals(&other.plan)
+            && self.custom == other.custom
             && self.from.equals(&other.from)
     }
 }

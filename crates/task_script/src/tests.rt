@@ -5,7 +5,7 @@ use std::test::Fail;
 
 // Where the bytes are faulty, as (line, code), or (0, 0) where they are a script.
 fn fault<R: Abort + AllocGlobal>(rt: &R, bytes: &[u8]) -> (u64, u32) {
-    match read_script(rt.alloc(), bytes) {
+    match read_script(rt.alloc(), bytes, 2) {
         Ok(_) => (0, 0),
         Err(ScriptError::Bad(fault)) => (fault.line, fault.code),
         Err(ScriptError::NoMemory) => panic!(rt; "no memory"),
@@ -44,7 +44,25 @@ fn scripts_and_first_faults(rt: HostRuntime) {
         ("cpus\nend", (1, 2)),
         ("agent", (1, 2)),
         ("cpus 99 1\nend", (1, 2)),
-        ("cpus 1\ntask a custom 0 from b\nend", (2, 2)),
+        ("cpus 1\ntask a custom from b\nend", (2, 2)),
+        ("cpus 1\ntask a custom 0 of b\nend", (2, 2)),
+        // Numbers of works: the caller brings two.
+        (
+            "cpus 1\ntask a lines\ntask b custom 1 from a\ntask c custom 00 from b\nend",
+            (0, 0),
+        ),
+        ("cpus 1\ntask a lines\ntask b custom x from a\nend", (3, 3)),
+        ("cpus 1\ntask a lines\ntask b custom 2 from a\nend", (3, 13)),
+        (
+            "cpus 1\ntask a lines\ntask b custom 9999999999 from a\nend",
+            (3, 13),
+        ),
+        (
+            "cpus 1\ntask a lines\ntask b custom 1 from a\ntask c custom 01 from b\nend",
+            (4, 13),
+        ),
+        ("cpus 1\ntask a custom 2 from a\nend", (2, 6)),
+        ("task a lines\ntask b custom 2 from a\nend", (1, 10)),
         ("cpus 1\ntask a cat from b\nend", (2, 2)),
         ("cpus 1\ntask a upper of b\nend", (2, 2)),
         ("cpus 1\ntask a keep from b\nend", (2, 2)),
@@ -164,13 +182,13 @@ fn limit_of_the_input(rt: HostRuntime) -> Result<(), Fail> {
 #[test]
 fn a_script_has_its_tasks(rt: HostRuntime) -> Result<(), Fail> {
     let text =
-        "cpus 4\ncaches 2\ntask a lines\n|hi\n# no text\n \t| hi\n|  hi \r\r\n|\n| \ntask b count 7\ntask c weave from b a\ntask d pin 3 from c\nend";
-    let script = read_script(rt.alloc(), text.as_bytes())?;
+        "cpus 4\ncaches 2\ntask a lines\n|hi\n# no text\n \t| hi\n|  hi \r\r\n|\n| \ntask b count 7\ntask c weave from b a\ntask d pin 3 from c\ntask e custom 1 from d\nend";
+    let script = read_script(rt.alloc(), text.as_bytes(), 2)?;
     let shape = Shape {
         cpus: 4,
         caches: 2,
-        tasks: 4,
-        conds: 8,
+        tasks: 5,
+        conds: 10,
         agents: 0,
     };
     assert_eq!(rt; script.shape, shape);
@@ -182,6 +200,7 @@ fn a_script_has_its_tasks(rt: HostRuntime) -> Result<(), Fail> {
         ("b", none.as_slice()),
         ("c", [1, 0].as_slice()),
         ("d", [2].as_slice()),
+        ("e", [3].as_slice()),
     ]) {
         assert_eq!(rt; task.name.as_slice(), name.as_bytes());
         assert_eq!(rt; task.from.as_slice(), from);
@@ -200,6 +219,11 @@ fn a_script_has_its_tasks(rt: HostRuntime) -> Result<(), Fail> {
             }
             Plan::Weave { side, ended } => assert_eq!(rt; (*side, *ended), (0, false)),
             Plan::Pin { left, on } => assert_eq!(rt; (*left, *on), (3, false)),
+            Plan::Table { map, last } => {
+                assert_eq!(rt; task.custom, Some(1));
+                assert_eq!(rt; (map.get(0), map.get(10), map.get(255)), (0, 10, 255));
+                assert!(rt; last.is_empty());
+            }
             _ => panic!(rt; "another plan"),
         }
     }
@@ -211,7 +235,7 @@ fn a_script_has_its_tasks(rt: HostRuntime) -> Result<(), Fail> {
 fn spellings_of_a_script_are_one_script(rt: HostRuntime) -> Result<(), Fail> {
     let plain =
         "cpus 2\nroom 4\ntask a lines\n| x\n| y\ntask b pin 2 from a\ntask c keep x from b\nend\n";
-    let script = read_script(rt.alloc(), plain.as_bytes())?;
+    let script = read_script(rt.alloc(), plain.as_bytes(), 0)?;
     for (text, same) in [
         (
             " cpus 02\r\n# c\ntask\ta lines\n|x\n\n\t| y\r\ntask b pin 0002 from  a\ntask c keep x from b\nend",
@@ -247,7 +271,7 @@ fn spellings_of_a_script_are_one_script(rt: HostRuntime) -> Result<(), Fail> {
         ),
         ("cpus 2\nend\n", false),
     ] {
-        let other = read_script(rt.alloc(), text.as_bytes())?;
+        let other = read_script(rt.alloc(), text.as_bytes(), 0)?;
         assert_eq!(rt; script.equals(&other), same, "{text}");
         assert_eq!(rt; other.equals(&script), same, "{text}");
     }

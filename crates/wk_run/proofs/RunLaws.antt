@@ -21,10 +21,10 @@ read_all limit bytes read (Some rest) within input =
     whole ∙ ap (λ z. read ++ z) none ∙ append-nil read
 
 -- a source that tells a script isn't answered that it has none
-pub script-read : (bytes : List ℕ) (script : Script) (left : Option (List ℕ)) (line code : ℕ) → IsScript bytes script → ReadsFault (Some bytes) left line code → ⊥
-script-read bytes script left line code is refused =
+pub script-read : (customs : ℕ) (bytes : List ℕ) (script : Script) (left : Option (List ℕ)) (line code : ℕ) → IsScript customs bytes script → ReadsFault customs (Some bytes) left line code → ⊥
+script-read customs bytes script left line code is refused =
     let same : bytes ≡ refused.read = read_all _ bytes refused.read left is.within refused.input in
-    refused.no_script script (subst (λ (b : List ℕ). IsScript b script) same is)
+    refused.no_script script (subst (λ (b : List ℕ). IsScript customs b script) same is)
 
 -- the answers that are left where these can't be
 pub answers-left : (s : Status) → (s ≡ status.Usage → ⊥) → (s ≡ status.ReadFault → ⊥) → (s ≡ status.WriteFault → ⊥) → ((line code : ℕ) → s ≡ status.BadScript line code → ⊥)

@@ -1,9 +1,9 @@
 pub mod Ends
 pub mod Memory
 pub mod Input
-pub mod Words
 pub mod Status
 pub mod Named
 pub mod Run
+pub mod Plan
 pub mod Check
 pub mod ReadError

@@ -6,7 +6,10 @@ use std::sync::Wait;
 use std::thread::Threads;
 
 // The room of a sink that takes any output here.
-pub(crate) const ROOM: usize = 256;
+pub(crate) const ROOM: usize = 16_384;
+
+// How many works there are at most here.
+const WORKS: usize = 16;
 
 pub(crate) const HELLO: &str =
     "cpus 1\ntask a lines\n| hello\n| world\ntask b upper from a\ntask c number from b\nend\n";
@@ -38,8 +41,26 @@ pub(crate) fn call<S: Source, K: Sink, G: Gate + Send, R: AllocGlobal + Threads 
     out: &mut K,
     gates: &mut Vec<G>,
 ) -> Result<Status, NoMemory> {
-    let words = words(rt.alloc(), texts)?;
-    Ok(wakerun(rt, rt.alloc(), words.as_slice(), input, out, gates))
+    let customs = Vec::new(rt.alloc());
+    call_with(rt, texts, input, out, gates, customs)
+}
+
+// What these words answer between these ends, with few works.
+pub(crate) fn call_with<S: Source, K: Sink, G: Gate + Send, R: AllocGlobal + Threads + Wait + Sync>(
+    rt: &R,
+    texts: &[&str],
+    input: &mut S,
+    out: &mut K,
+    gates: &mut Vec<G>,
+    customs: Vec<Box<dyn Work + Send + Drop>>,
+) -> Result<Status, NoMemory> {
+    if customs.len() > WORKS {
+        return Err(NoMemory);
+    }
+    let alloc = rt.alloc();
+    let words = words(alloc, texts)?;
+    let words = words.as_slice();
+    Ok(wakerun(rt, alloc, words, input, out, gates, customs))
 }
 
 // What these words answer and write between ends in memory, where these calls of the source and of the sink fail.

@@ -24,7 +24,7 @@ fn told(gate: &ListGate) -> &[Entry] {
 
 // The verdict on what the gates of a script's seats were told; none where another gate was told something.
 fn verdict_on(alloc: Global, input: &str, gates: &[ListGate]) -> Result<Option<Verdict>, NoMemory> {
-    let Ok(script) = read_script(alloc, input.as_bytes()) else {
+    let Ok(script) = read_script(alloc, input.as_bytes(), 0) else {
         return Ok(None);
     };
     let mut seats = Vec::new(alloc);

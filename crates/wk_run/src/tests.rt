@@ -3,7 +3,7 @@ ghost use Rattle.std.specs.Io.KnownBytes.{Keeps, WriteAppends};
 ghost use Rattle.wk_run.specs.Ends.{HasCause};
 
 use super::*;
-use crate::calls::{HELLO, HELLO_REPORT, ROOM, call, call_on, lists, words};
+use crate::calls::{HELLO, HELLO_REPORT, ROOM, call, call_on, lists};
 use handoff_data::NoMemory;
 use std::process::Abort;
 use std::sync::Wait;
@@ -54,6 +54,14 @@ fn each_answer_has_its_cause(rt: HostRuntime) -> Result<(), Fail> {
         &["run", "--workers", "0"],
         &["run", "--workers", "17"],
         &["run", "--workers", "x"],
+        &["run", "--trace", "--trace"],
+        &["run", "--plain", "--plain"],
+        &["run", "--workers=2", "--workers", "2"],
+        &["run", "-x"],
+        &["run", "--"],
+        &["run", "plan"],
+        &["plan", "--trace"],
+        &["gen", "1000", "7"],
         &["check", "--workers", "4"],
     ];
     for texts in unread {
@@ -97,35 +105,6 @@ fn a_sink_takes_no_more_than_it_has_room_for(rt: HostRuntime) -> Result<(), Fail
     assert_eq!(rt; sink.write(b"c"), Ok(1));
     assert_eq!(rt; sink.write(b""), Ok(0));
     assert_eq!(rt; sink.as_slice(), b"abc".as_slice());
-    Ok(())
-}
-
-fn run_on(workers: u32) -> Option<Words> {
-    Some(Words::Run(RunOptions { workers }))
-}
-
-#[test]
-fn words_have_one_reading_at_most(rt: HostRuntime) -> Result<(), Fail> {
-    let cases: [(&[&str], Option<Words>); 14] = [
-        (&["run"], run_on(4)),
-        (&["run", "--workers", "1"], run_on(1)),
-        (&["run", "--workers", "16"], run_on(16)),
-        (&["run", "--workers", "0000000007"], run_on(7)),
-        (&["check"], Some(Words::Check)),
-        (&[], None),
-        (&["run", "check"], None),
-        (&["runs"], None),
-        (&[""], None),
-        (&["run", "--workers", ""], None),
-        (&["run", "--workers", "+4"], None),
-        (&["run", "--workers", "00000000004"], None),
-        (&["run", "--worker", "4"], None),
-        (&["run", "--workers", "4", "4"], None),
-    ];
-    for (texts, reading) in cases {
-        let words = words(rt.alloc(), texts)?;
-        assert_eq!(rt; read_words(words.as_slice()), reading);
-    }
     Ok(())
 }
 

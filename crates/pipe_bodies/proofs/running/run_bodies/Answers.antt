@@ -1,10 +1,10 @@
 use Rattle.std.proofs.Common.{◌∙◌, sym, subst, arith, All}
-use Rattle.pipe_bodies.specs.Nets.{IsNet, HasEnded}
+use Rattle.pipe_bodies.specs.Nets.{IsNet, HasEnded, begun_tasks}
 use Rattle.pipe_bodies.proofs.RunLaws.{not_all}
 use Rattle.pipe_bodies.proofs.running.run_bodies.Goals as goal
 
 pub settle-requires-clause-net : goal.settle-requires-clause-net
-settle-requires-clause-net g c = λ _ _. subst (λ z. IsNet c.args.tasks.now z) (sym (c.in_ok-round.ensures.lasting ∙ c.loop.invariant.lasting)) c.requires
+settle-requires-clause-net g c = λ _ _. subst (λ z. IsNet (begun_tasks c.args.tasks.now z) z) (sym (c.in_ok-round.ensures.lasting ∙ c.loop.invariant.lasting)) c.requires
 
 pub loop-preserved : goal.loop-preserved
 loop-preserved g c = record {

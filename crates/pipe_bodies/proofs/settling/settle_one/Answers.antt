@@ -1,4 +1,5 @@
 use Rattle.std.proofs.Common.{◌∙◌, ap, sym, subst}
+use Rattle.pipe_bodies.specs.Nets.{with_plan}
 use Rattle.pipe_bodies.specs.Parts.{Rings, KeepsNone}
 use Rattle.pipe_bodies.proofs.NetLaws.{settled}
 use Rattle.pipe_bodies.proofs.settling.settle_one.Goals as goal
@@ -6,7 +7,8 @@ use Rattle.pipe_bodies.proofs.settling.settle_one.Goals as goal
 pub returns-clause-lines : goal.returns-clause-lines
 returns-clause-lines g c = λ done all.
     rw (c.in_ok-push.ensures.items, c.in_ok-push-2.ensures.items)
-    (settled c.args.task.now c.args.body.lasting c.args.body.seen c.apart-parts.result c.look_at.new.input c.look_at-2.new.input c.args.outputs.now.items c.look_at.new.outputs.items
+    (settled (with_plan c.args.task.now c.args.body.lasting.begun) c.args.body.lasting c.args.body.seen c.apart-parts.result c.look_at.new.input c.look_at-2.new.input c.args.outputs.now.items
+    c.look_at.new.outputs.items
     c.look_at-2.new.outputs.items c.args.kept.now.items done
     (c.apart-parts.ensures.sound c.requires.ended) c.requires.ended
     (subst (λ z. KeepsNone z c.apart-parts.result.kept) (ap (λ (z : Rings). z.output) (sym c.apart-parts.ensures.rings))

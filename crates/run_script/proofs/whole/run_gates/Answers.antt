@@ -4,7 +4,7 @@ use Rattle.std.specs.Global.{Global}
 use Rattle.std.specs.Vec.{vec_len, vec_capacity}
 use Rattle.std.specs.Vec.Iter.{into_iter_items}
 use Rattle.run_script.proofs.Homes.{seats_count, firsts_ready}
-use Rattle.run_script.proofs.Runs.{many_seats, many_gates, has_run}
+use Rattle.run_script.proofs.Runs.{many_seats, many_gates, were_told, has_run}
 use Rattle.run_script.specs.Ran.{HasRun}
 use Rattle.run_script.specs.Seated.{gates_in, gates_left, AreSeated}
 use Rattle.task_words.specs.Views.{PassView}
@@ -124,3 +124,31 @@ returns-clause-ran g c =
     c.requires.agents c.in_ok-run.ensures.ready c.in_ok-run.ensures.over
     (subst (All (λ (p : PassView). journal p.seat p.trace ≡ p.told ++ p.turn.entries)) c.leave.ensures.passes c.leave.ensures.tied)
     c.put_rest.new.gates.items new)
+
+pub returns-in_err-run-clause-part : goal.returns-in_err-run-clause-part
+returns-in_err-run-clause-part g c =
+    let ps : List PassView = c.args.passes.items in
+    let gs : List g.row.G.Denot = c.args.gates.now.items in
+    let same : into_iter_items c.into_iter-given.result ≡ gs =
+    c.into_iter-given.ensures.rest ∙ ap (λ (v : Vec g.row.G.Denot Global). v.items) c.replace.ensures.value in
+    let are : AreSeated ps gs c.sit.new.seats.items =
+    subst (λ (hs : List g.row.G.Denot). AreSeated ps hs c.sit.new.seats.items) same c.sit.ensures.seats in
+    let left : into_iter_items c.sit.new.gates ≡ gates_left ps gs = c.sit.ensures.left ∙ ap (gates_left ps) same in
+    let new : c.put_rest.new.gates.items ≡ gates_in c.run_seats-run.new.seats.items ++ gates_left ps gs =
+    c.put_rest.ensures ∙ (λ j. c.leave.ensures.gates j ++ left j) in
+    were_told g.G.Gate.told c.args.wk.now ps gs c.sit.new.seats.items c.run_seats-run.new.seats.items c.requires.passes are c.run_seats-run.ensures.goes
+    c.put_rest.new.gates.items new
+
+pub returns-clause-part : goal.returns-clause-part
+returns-clause-part g c =
+    let ps : List PassView = c.args.passes.items in
+    let gs : List g.row.G.Denot = c.args.gates.now.items in
+    let same : into_iter_items c.into_iter-given.result ≡ gs =
+    c.into_iter-given.ensures.rest ∙ ap (λ (v : Vec g.row.G.Denot Global). v.items) c.replace.ensures.value in
+    let are : AreSeated ps gs c.sit.new.seats.items =
+    subst (λ (hs : List g.row.G.Denot). AreSeated ps hs c.sit.new.seats.items) same c.sit.ensures.seats in
+    let left : into_iter_items c.sit.new.gates ≡ gates_left ps gs = c.sit.ensures.left ∙ ap (gates_left ps) same in
+    let new : c.put_rest.new.gates.items ≡ gates_in c.run_seats-run.new.seats.items ++ gates_left ps gs =
+    c.put_rest.ensures ∙ (λ j. c.leave.ensures.gates j ++ left j) in
+    were_told g.G.Gate.told c.args.wk.now ps gs c.sit.new.seats.items c.run_seats-run.new.seats.items c.requires.passes are c.run_seats-run.ensures.goes
+    c.put_rest.new.gates.items new

@@ -1,6 +1,6 @@
 use Rattle.task_script.proofs.ScriptLaws.{script_or_fault, not_both, one_script, one_fault}
 use Rattle.task_script.proofs.ForestLaws.{script-forest}
-use Rattle.task_script.proofs.ValidLaws.{script_machine, script_room, script_names, script_plans}
+use Rattle.task_script.proofs.ValidLaws.{script_machine, script_room, script_names, script_plans, script_customs}
 use Rattle.task_script.proofs.law.law_script.Goals as goal
 
 pub returns-clause-some : goal.returns-clause-some
@@ -29,3 +29,6 @@ returns-clause-names c = script_names
 
 pub returns-clause-plans : goal.returns-clause-plans
 returns-clause-plans c = script_plans
+
+pub returns-clause-customs : goal.returns-clause-customs
+returns-clause-customs c = script_customs

@@ -7,5 +7,5 @@ use Rattle.run_cells.specs.declared.net_map.Inputs.{Inputs}
 pub returns-clause-map : goal.returns-clause-map
 returns-clause-map c =
     subst (λ (z : List Inputs). IsNetMap z c.args.script.now.shape) (sym (c.in_ok-inputs.ensures.inputs ∙ ap (map inputs_of) c.as_slice-tasks.ensures))
-    (net_map_of c.args.script.now (c.law_script.ensures.forest c.requires.script.0 c.args.script.now c.requires.script.1)
-    (c.law_script.ensures.machine c.requires.script.0 c.args.script.now c.requires.script.1))
+    (net_map_of c.args.script.now (c.law_script.ensures.forest c.requires.script.0 c.requires.script.1 c.args.script.now c.requires.script.2)
+    (c.law_script.ensures.machine c.requires.script.0 c.requires.script.1 c.args.script.now c.requires.script.2))
